@@ -1,0 +1,87 @@
+//! The traits of the outside: a source of bytes, a sink of bytes, and a store of named files.
+
+ghost use Rattle.std.specs.Prelude.{◌≡◌, ℕ, ◌≤◌, ◌↔◌, List, drop, length, IfOk, IfSome, OnErr, IsTrue, IsErrOf, Option, option_map, slice_get};
+ghost use Rattle.bk_io.specs.Outside.{count_end, next_count, Rose, left_after, taken_after};
+ghost use Rattle.bk_io.specs.Shelf.{Shelf, is_due, file_of, after_call, Appends, AppendsFile};
+
+use thiserror::Error;
+
+/// A byte could not be read or written.
+#[derive(Clone, Copy, Debug, PartialEq, Eq, Error)]
+#[error("a byte could not be read or written")]
+pub struct Failed;
+
+/// Why a file was not read.
+#[derive(Clone, Copy, Debug, PartialEq, Eq, Error)]
+pub enum FileFault {
+    #[error("the file could not be read")]
+    Failed,
+    #[error("there was no memory for the file")]
+    NoMemory,
+}
+
+/// How much of a file was read.
+#[derive(Clone, Copy, Debug, PartialEq, Eq)]
+pub enum Got {
+    /// All of it: it has fewer bytes than the limit.
+    Whole,
+    /// As many bytes as the limit: it has at least so many.
+    Cut,
+}
+
+/// A source of bytes.
+pub trait Source {
+    /// How many faults there were so far, at most 2^64 - 1.
+    ghost faults: { Self → ℕ };
+
+    /// The bytes that are left, where the source tells them.
+    ghost left: { Self → Option (List ℕ) };
+
+    /// The number of calls so far, at most 2^64 - 1, where the source tells it.
+    ghost made: { Self → Option ℕ };
+
+    /// The next byte, or `None` at the end. A failed call takes no byte.
+    fn next(&mut self) -> Result<Option<u8>, Failed>
+        ensures byte { IfOk result (λ byte. IfSome (left self.old) (λ bytes. byte ≡ slice_get bytes 0)) }
+        ensures left { left self.new ≡ left_after result (left self.old) }
+        ensures made { made self.new ≡ option_map next_count (made self.old) }
+        ensures kept { faults self.old ≤ faults self.new }
+        ensures bounded { faults self.new ≤ count_end }
+        ensures failed { OnErr result (Rose (faults self.old) (faults self.new)) };
+}
+
+/// A sink of bytes.
+pub trait Sink {
+    /// How many faults there were so far, at most 2^64 - 1.
+    ghost faults: { Self → ℕ };
+
+    /// The bytes that were taken, where the sink tells them.
+    ghost taken: { Self → Option (List ℕ) };
+
+    /// Takes a byte at the end. A failed call takes none.
+    fn put(&mut self, byte: u8) -> Result<(), Failed>
+        ensures taken { taken self.new ≡ taken_after result byte (taken self.old) }
+        ensures kept { faults self.old ≤ faults self.new }
+        ensures bounded { faults self.new ≤ count_end }
+        ensures failed { OnErr result (Rose (faults self.old) (faults self.new)) };
+}
+
+/// A store of named files.
+pub trait Files {
+    /// How many faults there were so far, at most 2^64 - 1.
+    ghost faults: { Self → ℕ };
+
+    /// The bytes of each name, the calls so far and those that fail, where the store tells them.
+    ghost told: { Self → Option Shelf };
+
+    /// Appends the bytes of a file, at most `limit` of them. After a refusal `into` holds its old bytes
+    /// and a front of the file. `NoMemory` comes where `into` could not grow.
+    fn read(&mut self, name: &str, into: &mut Vec<u8>, limit: u64) -> Result<Got, FileFault>
+        ensures appends { Appends result limit into.old.items into.new.items }
+        ensures file { IfSome (told self.old) (λ shelf. AppendsFile result limit (file_of shelf name.now) into.old.items into.new.items) }
+        ensures due { IfSome (told self.old) (λ shelf. IsErrOf result FileFault.Failed ↔ IsTrue (is_due shelf name.now)) }
+        ensures told { told self.new ≡ option_map after_call (told self.old) }
+        ensures kept { faults self.old ≤ faults self.new }
+        ensures bounded { faults self.new ≤ count_end }
+        ensures failed { IsErrOf result FileFault.Failed → Rose (faults self.old) (faults self.new) };
+}

@@ -1,0 +1,92 @@
+//! What no clause can say: what the system gives and takes, and that calls succeed where memory is left.
+
+use crate::host::{HostFiles, HostSink, HostSource};
+use crate::memory::{MemFiles, MemSink, MemSource};
+use crate::outside::{Failed, FileFault, Files, Got, Sink, Source};
+use std::fs;
+use std::fs::File;
+use std::test::Fail;
+
+#[test]
+fn host_source_gives_the_bytes_of_a_reader(rt: HostRuntime) -> Result<(), Fail> {
+    fs::write(&rt, "source.bytes", b"\x00\xff")?;
+    let mut source = HostSource::new(rt.alloc(), File::open(&rt, "source.bytes")?)?;
+    for want in [Some(0), Some(255), None, None] {
+        assert_eq!(rt; source.next(), Ok(want));
+    }
+    fs::remove_file(&rt, "source.bytes")?;
+    Ok(())
+}
+
+#[test]
+fn host_sink_writes_each_byte_through(rt: HostRuntime) -> Result<(), Fail> {
+    let mut sink = HostSink::new(rt.alloc(), File::create(&rt, "sink.bytes")?)?;
+    for byte in [0, 10, 255] {
+        assert_eq!(rt; sink.put(byte), Ok(()));
+    }
+    let written = fs::read(&rt, "sink.bytes")?;
+    assert_eq!(rt; written.as_slice(), [0, 10, 255].as_slice());
+    fs::remove_file(&rt, "sink.bytes")?;
+
+    let mut closed = HostSink::new(rt.alloc(), File::open(&rt, "/dev/null")?)?;
+    assert_eq!(rt; closed.put(1), Err(Failed), "opened for reading alone");
+    Ok(())
+}
+
+#[test]
+fn host_files_reads_up_to_the_limit(rt: HostRuntime) -> Result<(), Fail> {
+    fs::write(&rt, "five.bytes", b"abcde")?;
+    let mut files = HostFiles::new(rt.alloc(), rt.clone()?)?;
+    let cases = [
+        ("five.bytes", 6, Ok(Got::Whole), 5),
+        ("five.bytes", 5, Ok(Got::Cut), 5),
+        ("five.bytes", 2, Ok(Got::Cut), 2),
+        ("missing.bytes", 6, Err(FileFault::Failed), 0),
+    ];
+    for (name, limit, want, count) in cases {
+        let mut into = Vec::new(rt.alloc());
+        assert_eq!(rt;
+            files.read(name, &mut into, limit),
+            want,
+            "{name} up to {limit}"
+        );
+        assert_eq!(rt; into.len(), count, "{name} up to {limit}");
+        assert!(rt;
+            b"abcde".starts_with(into.as_slice()),
+            "{name} up to {limit}"
+        );
+    }
+    fs::remove_file(&rt, "five.bytes")?;
+    Ok(())
+}
+
+#[test]
+fn forms_in_memory_fail_at_the_listed_calls(rt: HostRuntime) -> Result<(), Fail> {
+    let alloc = rt.alloc();
+    let mut source = MemSource::new([7, 8].to_vec(alloc)?, [1].to_vec(alloc)?);
+    for want in [Ok(Some(7)), Err(Failed), Ok(Some(8)), Ok(None)] {
+        assert_eq!(rt; source.next(), want);
+    }
+
+    let mut sink = MemSink::new(alloc, 2, [0].to_vec(alloc)?)?;
+    for want in [Err(Failed), Ok(()), Ok(()), Err(Failed)] {
+        assert_eq!(rt; sink.put(5), want);
+    }
+    assert_eq!(rt; sink.taken(), [5, 5].as_slice());
+
+    let mut named = Vec::new(alloc);
+    named.push(("a.c".to_string(alloc)?, b"int".to_vec(alloc)?))?;
+    let mut files = MemFiles::new(named, [1].to_vec(alloc)?);
+    let mut into = Vec::new(alloc);
+    let cases = [
+        ("a.c", Ok(Got::Whole)),
+        ("a.c", Err(FileFault::Failed)),
+        ("b.c", Err(FileFault::Failed)),
+        ("a.c", Ok(Got::Whole)),
+    ];
+    for (name, want) in cases {
+        assert_eq!(rt; files.read(name, &mut into, 4), want, "{name}");
+    }
+    assert_eq!(rt; into.as_slice(), b"intint".as_slice());
+    Ok(())
+}
