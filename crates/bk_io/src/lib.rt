@@ -5,6 +5,7 @@
 //! reach the system and tell nothing of its bytes.
 #![tactic(auto)]
 
+pub mod empty;
 pub mod host;
 pub mod memory;
 pub mod outside;

@@ -1,0 +1,51 @@
+-- The behaviour of an image: what it writes and how it ends, within a number of steps.
+use Rattle.std.specs.Prelude.{ℕ, ◌+◌, ◌%◌, ◌≡◌, ◌≤◌, List, [], replicate, slice_set}
+use Rattle.alpha_isa.specs.Program.{Program, word_address, stack_start}
+use Rattle.alpha_isa.specs.State.{State}
+use Rattle.alpha_isa.specs.Step.{Halt, Next, exec}
+use Rattle.alpha_isa.specs.Step as step
+
+-- a stack that a run may be given, in bytes
+pub record IsStack (size : ℕ) : Type 0 where
+  pub least : 4096 ≤ size
+  pub most : size ≤ 268435456
+  pub whole : size % 16 ≡ 0
+
+-- where a run begins: register 30 stands at the end of the stack, all else is zero
+abbrev pub start : Program → ℕ → List ℕ → State
+start p stack input = record {
+  pc = word_address p.entry;
+  registers = slice_set (replicate 32 0) 30 (stack_start p + stack);
+  data_bytes = p.bytes;
+  stack_bytes = replicate stack 0;
+  input = input;
+  output = [];
+}
+
+-- a run that ended with a status, that trapped with a code, that can do nothing more at a place, or
+-- that goes on, each with what was written so far
+pub data Behaviour : Type 0 where
+  Done : (output : List ℕ) (status : ℕ) → Behaviour
+  Trap : (output : List ℕ) (code : ℕ) → Behaviour
+  Stuck : (output : List ℕ) (pc : ℕ) → Behaviour
+  More : (output : List ℕ) → Behaviour
+
+abbrev pub halted : Halt → List ℕ → Behaviour
+halted (step.Done status) output = Done output status
+halted (step.Trap code) output = Trap output code
+halted (step.Stuck pc) output = Stuck output pc
+
+abbrev pub behaviour : Next → Behaviour
+behaviour (step.Goes s) = More s.output
+behaviour (step.Over h s) = halted h s.output
+
+-- the run of an image on a stack of this size and this input, in at most m steps
+abbrev pub behave_a : Program → ℕ → List ℕ → ℕ → Behaviour
+behave_a p stack input m = behaviour (exec p m (start p stack input))
+
+-- what was written
+abbrev pub output_of : Behaviour → List ℕ
+output_of (Done output status) = output
+output_of (Trap output code) = output
+output_of (Stuck output pc) = output
+output_of (More output) = output

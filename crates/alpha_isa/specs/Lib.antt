@@ -1,0 +1,9 @@
+pub mod Lawful
+pub mod Codes
+pub mod Words
+pub mod Arithmetic
+pub mod Program
+pub mod State
+pub mod Step
+pub mod Behave
+pub mod ImageFormat

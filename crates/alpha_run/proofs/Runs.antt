@@ -1,0 +1,262 @@
+-- Runs of the definition, one after the other.
+use Rattle.std.proofs.Common.{◌≡◌, ℕ, zero, suc, ◌+◌, ◌-◌, ◌≤◌, List, [], ◌++◌, length, Bool, true, false, cond, Option, Some, None, option_map, refl, sym, ap, ◌∙◌, subst, arith, append_assoc, append-nil, length-append}
+use Rattle.alpha_isa.specs.Program.{Program}
+use Rattle.alpha_isa.specs.State.{State}
+use Rattle.alpha_isa.specs.Step.{Halt, Next, Goes, Over, step, go_on, exec}
+use Rattle.alpha_isa.specs.Step as step
+use Rattle.alpha_isa.specs.Behave.{start, behaviour}
+use Rattle.alpha_isa.specs.Behave as behave
+use Rattle.bk_io.specs.Outside.{next_count}
+use Rattle.alpha_run.specs.declared.ending.Ending.{Ending}
+use Rattle.alpha_run.specs.declared.ending.Ending.TheVariants.{Done, Trap, Stuck, Budget, InputFault, WriteFault}
+use Rattle.alpha_run.specs.Snapshot.{Snapshot, standing, loaded, Runs}
+use Rattle.alpha_run.specs.Turns.{asks}
+use Rattle.alpha_run.specs.Run.{counted, last_step, steps_then, steps_in, takes_then, takes_in, asked, StopsAt, stops_early, moved, Told, Ran, Gives, Behaves}
+
+-- ---- one step
+
+pub exec_one : (p : Program) (s : State) (n : Next) → step p s ≡ n → exec p 1 s ≡ n
+unfolding exec
+exec_one p s (Goes t) e = ap (λ n. go_on n (exec p zero)) e
+exec_one p s (Over h t) e = ap (λ n. go_on n (exec p zero)) e
+
+pub steps_one-goes : (p : Program) (s t : State) → step p s ≡ Goes t → steps_in p 1 s ≡ 1
+unfolding steps_in
+steps_one-goes p s t e = ap (λ n. steps_then n (steps_in p zero)) e
+
+pub steps_one-over : (p : Program) (s t : State) (h : Halt) → step p s ≡ Over h t → steps_in p 1 s ≡ last_step h
+unfolding steps_in
+steps_one-over p s t h e = ap (λ n. steps_then n (steps_in p zero)) e
+
+takes_one : (p : Program) (s : State) (b : Bool) (n : Next) → asks p 3 s ≡ b → step p s ≡ n → takes_in p 1 s ≡ cond b 1 0 + takes_then n (takes_in p zero)
+unfolding takes_in
+takes_one p s b n a e = ap (λ k. cond k 1 0 + takes_then (step p s) (takes_in p zero)) a ∙ ap (λ k. cond b 1 0 + takes_then k (takes_in p zero)) e
+
+pub takes_one-no : (p : Program) (s : State) (n : Next) → asks p 3 s ≡ false → step p s ≡ n → takes_in p 1 s ≡ 0
+unfolding takes_in
+takes_one-no p s (Goes t) a e = takes_one p s false (Goes t) a e
+takes_one-no p s (Over h t) a e = takes_one p s false (Over h t) a e
+
+pub takes_one-yes : (p : Program) (s t : State) → asks p 3 s ≡ true → step p s ≡ Goes t → takes_in p 1 s ≡ 1
+unfolding takes_in
+takes_one-yes p s t a e = takes_one p s true (Goes t) a e
+
+pub exec_none : (p : Program) (s : State) → exec p 0 s ≡ Goes s
+unfolding exec
+exec_none p s = refl
+
+pub steps_none : (p : Program) (s : State) → steps_in p 0 s ≡ 0
+unfolding steps_in
+steps_none p s = refl
+
+pub takes_none : (p : Program) (s : State) → takes_in p 0 s ≡ 0
+unfolding takes_in
+takes_none p s = refl
+
+-- a record of a run by the numbers of its steps
+pub ran_from : (p : Program) (n : ℕ) (e : Ending) (s t : State) (old new : Snapshot) (told after : Told) (k steps takes : ℕ) (put : List ℕ) → StopsAt p n s e k t → steps_in p k s ≡ steps → takes_in p k s ≡ takes → t.output ≡ s.output ++ put → new ≡ moved old t steps (length put) e → after.left ≡ Some t.input → after.made ≡ option_map (counted (asked e takes)) told.made → after.taken ≡ option_map (λ bytes. bytes ++ put) told.taken → Ran p n e s old new told after
+ran_from p n e s t old new told after k steps takes put stops i a puts machine left made taken = record {
+  tried = k;
+  place = t;
+  put = put;
+  stops = stops;
+  puts = puts;
+  machine = machine ∙ ap (λ j. moved old t j (length put) e) (sym i);
+  left = left;
+  made = made ∙ ap (λ j. option_map (counted (asked e j)) told.made) (sym a);
+  taken = taken;
+}
+
+-- ---- one run after another
+
+exec_on_from : (p : Program) (k n : ℕ) (t : State) → ((u : State) → exec p k u ≡ Goes t → exec p (k + n) u ≡ exec p n t) → (r : Next) → go_on r (exec p k) ≡ Goes t → go_on r (exec p (k + n)) ≡ exec p n t
+exec_on_from p k n t ih (Goes u) e = ih u e
+exec_on_from p k n t ih (Over h u) e = cc
+
+pub exec_on : (p : Program) (k n : ℕ) (s t : State) → exec p k s ≡ Goes t → exec p (k + n) s ≡ exec p n t
+unfolding exec
+exec_on p zero n s t e =
+    let same : s ≡ t = cc in
+    let none : 0 + n ≡ n = omega arith in
+    ap (λ j. exec p j s) none ∙ ap (exec p n) same
+exec_on p (suc k) n s t e =
+    let more : suc k + n ≡ suc (k + n) = omega arith in
+    ap (λ j. exec p j s) more ∙ exec_on_from p k n t (λ u f. exec_on p k n u t f) (step p s) e
+
+steps_on_from : (p : Program) (k n : ℕ) (t : State) → ((u : State) → exec p k u ≡ Goes t → steps_in p (k + n) u ≡ steps_in p k u + steps_in p n t) → (r : Next) → go_on r (exec p k) ≡ Goes t → steps_then r (steps_in p (k + n)) ≡ steps_then r (steps_in p k) + steps_in p n t
+steps_on_from p k n t ih (Goes u) e = omega (arith, ih u e)
+steps_on_from p k n t ih (Over h u) e = cc
+
+pub steps_on : (p : Program) (k n : ℕ) (s t : State) → exec p k s ≡ Goes t → steps_in p (k + n) s ≡ steps_in p k s + steps_in p n t
+unfolding exec steps_in
+steps_on p zero n s t e =
+    let same : s ≡ t = cc in
+    let none : 0 + n ≡ n = omega arith in
+    ap (λ j. steps_in p j s) none ∙ ap (steps_in p n) same ∙ omega arith
+steps_on p (suc k) n s t e =
+    let more : suc k + n ≡ suc (k + n) = omega arith in
+    ap (λ j. steps_in p j s) more ∙ steps_on_from p k n t (λ u f. steps_on p k n u t f) (step p s) e
+
+takes_on_from : (p : Program) (k n : ℕ) (t : State) → ((u : State) → exec p k u ≡ Goes t → takes_in p (k + n) u ≡ takes_in p k u + takes_in p n t) → (r : Next) → go_on r (exec p k) ≡ Goes t → takes_then r (takes_in p (k + n)) ≡ takes_then r (takes_in p k) + takes_in p n t
+takes_on_from p k n t ih (Goes u) e = ih u e
+takes_on_from p k n t ih (Over h u) e = cc
+
+pub takes_on : (p : Program) (k n : ℕ) (s t : State) → exec p k s ≡ Goes t → takes_in p (k + n) s ≡ takes_in p k s + takes_in p n t
+unfolding exec takes_in
+takes_on p zero n s t e =
+    let same : s ≡ t = cc in
+    let none : 0 + n ≡ n = omega arith in
+    ap (λ j. takes_in p j s) none ∙ ap (takes_in p n) same ∙ omega arith
+takes_on p (suc k) n s t e =
+    let more : suc k + n ≡ suc (k + n) = omega arith in
+    let rest : takes_then (step p s) (takes_in p (k + n)) ≡ takes_then (step p s) (takes_in p k) + takes_in p n t = takes_on_from p k n t (λ u f. takes_on p k n u t f) (step p s) e in
+    ap (λ j. takes_in p j s) more ∙ omega (arith, rest)
+
+-- a run that is over does no more
+over_on_from : (p : Program) (k n : ℕ) (h : Halt) (t : State) → ((u : State) → exec p k u ≡ Over h t → (exec p (k + n) u ≡ Over h t) × (steps_in p (k + n) u ≡ steps_in p k u) × (takes_in p (k + n) u ≡ takes_in p k u)) → (r : Next) → go_on r (exec p k) ≡ Over h t → (go_on r (exec p (k + n)) ≡ Over h t) × (steps_then r (steps_in p (k + n)) ≡ steps_then r (steps_in p k)) × (takes_then r (takes_in p (k + n)) ≡ takes_then r (takes_in p k))
+over_on_from p k n h t ih (Goes u) e = let i = ih u e in (i.0, ap suc i.1, i.2)
+over_on_from p k n h t ih (Over g u) e = (e, refl, refl)
+
+pub over_on : (p : Program) (k n : ℕ) (s : State) (h : Halt) (t : State) → exec p k s ≡ Over h t → (exec p (k + n) s ≡ Over h t) × (steps_in p (k + n) s ≡ steps_in p k s) × (takes_in p (k + n) s ≡ takes_in p k s)
+unfolding exec steps_in takes_in
+over_on p zero n s h t e = cc
+over_on p (suc k) n s h t e =
+    let more : suc k + n ≡ suc (k + n) = omega arith in
+    let i = over_on_from p k n h t (λ u f. over_on p k n u h t f) (step p s) e in (
+      ap (λ j. exec p j s) more ∙ i.0,
+      ap (λ j. steps_in p j s) more ∙ i.1,
+      ap (λ j. takes_in p j s) more ∙ ap (λ j. cond (asks p 3 s) 1 0 + j) i.2,
+    )
+
+-- ---- counts
+
+pub counted_on : (n m c : ℕ) → counted n (counted m c) ≡ counted (m + n) c
+counted_on zero m c = let none : m + 0 ≡ m = omega arith in ap (λ j. counted j c) (sym none)
+counted_on (suc n) m c =
+    let more : m + suc n ≡ suc (m + n) = omega arith in
+    ap next_count (counted_on n m c) ∙ ap (λ j. counted j c) (sym more)
+
+counted_made : (n m : ℕ) (made : Option ℕ) → option_map (counted n) (option_map (counted m) made) ≡ option_map (counted (m + n)) made
+counted_made n m None = refl
+counted_made n m (Some c) = ap (λ j. Some j) (counted_on n m c)
+
+pub counted_none : (made : Option ℕ) → made ≡ option_map (counted 0) made
+counted_none None = refl
+counted_none (Some c) = refl
+
+taken_on : (a b : List ℕ) (taken : Option (List ℕ)) → option_map (λ bytes. bytes ++ b) (option_map (λ bytes. bytes ++ a) taken) ≡ option_map (λ bytes. bytes ++ (a ++ b)) taken
+taken_on a b None = refl
+taken_on a b (Some bytes) = ap (λ l. Some l) (append_assoc bytes a b)
+
+pub taken_none : (taken : Option (List ℕ)) → taken ≡ option_map (λ bytes. bytes ++ []) taken
+taken_none None = refl
+taken_none (Some bytes) = simp append-nil refl
+
+asked_on : (e : Ending) (a b : ℕ) → asked e (a + b) ≡ a + asked e b
+asked_on InputFault a b = omega arith
+asked_on _ a b = refl
+
+-- ---- records of runs
+
+stops_on : (p : Program) (k : ℕ) (s t u : State) (e : Ending) (j : ℕ) → exec p k s ≡ Goes t → StopsAt p 1 t e j u → StopsAt p (k + 1) s e (k + j) u
+stops_on p k s t u (Done status) j x h = (ap (λ i. k + i) h.0, exec_on p k 1 s t x ∙ h.1)
+stops_on p k s t u (Trap code) j x h = (ap (λ i. k + i) h.0, exec_on p k 1 s t x ∙ h.1)
+stops_on p k s t u (Stuck pc) j x h = (ap (λ i. k + i) h.0, exec_on p k 1 s t x ∙ h.1)
+stops_on p k s t u Budget j x h = (ap (λ i. k + i) h.0, exec_on p k 1 s t x ∙ h.1)
+stops_on p k s t u InputFault j x h = (omega (arith, h.0), exec_on p k j s t x ∙ h.1, h.2)
+stops_on p k s t u WriteFault j x h = (omega (arith, h.0), exec_on p k j s t x ∙ h.1, h.2)
+
+moved_on : (old : Snapshot) (t u : State) (a b i j : ℕ) (e : Ending) → moved (moved old t a i Budget) u b j e ≡ moved old u (a + b) (i + j) e
+moved_on old t u a b i j e = rw (counted_on b a old.steps, counted_on j i old.written) refl
+
+-- a run of k steps and one more step
+pub ran_on : (p : Program) (k : ℕ) (e : Ending) (s : State) (old mid new : Snapshot) (told between after : Told) → (r : Ran p k Budget s old mid told between) → Ran p 1 e r.place mid new between after → Ran p (k + 1) e s old new told after
+ran_on p k e s old mid new told between after r l =
+    let t = r.place in
+    let x : exec p r.tried s ≡ Goes t = ap (λ j. exec p j s) r.stops.0 ∙ r.stops.1 in
+    let i : steps_in p (k + l.tried) s ≡ steps_in p r.tried s + steps_in p l.tried t = ap (λ j. steps_in p (j + l.tried) s) (sym r.stops.0) ∙ steps_on p r.tried l.tried s t x in
+    let a : takes_in p (k + l.tried) s ≡ takes_in p r.tried s + takes_in p l.tried t = ap (λ j. takes_in p (j + l.tried) s) (sym r.stops.0) ∙ takes_on p r.tried l.tried s t x in
+    ran_from p (k + 1) e s l.place old new told after (k + l.tried) (steps_in p r.tried s + steps_in p l.tried t) (takes_in p r.tried s + takes_in p l.tried t) (r.put ++ l.put)
+    (stops_on p k s t l.place e l.tried r.stops.1 l.stops)
+    i
+    a
+    (l.puts ∙ ap (λ o. o ++ l.put) r.puts ∙ append_assoc s.output r.put l.put)
+    (l.machine ∙ ap (λ m. moved m l.place (steps_in p l.tried t) (length l.put) e) r.machine ∙ moved_on old t l.place (steps_in p r.tried s) (steps_in p l.tried t) (length r.put) (length l.put) e ∙ ap (λ j. moved old l.place (steps_in p r.tried s + steps_in p l.tried t) j e) (sym (length-append r.put l.put)))
+    l.left
+    (l.made ∙ ap (λ o. option_map (counted (asked e (takes_in p l.tried t))) o) r.made ∙ counted_made (asked e (takes_in p l.tried t)) (takes_in p r.tried s) told.made ∙ ap (λ j. option_map (counted j) told.made) (sym (asked_on e (takes_in p r.tried s) (takes_in p l.tried t))))
+    (l.taken ∙ ap (λ o. option_map (λ bytes. bytes ++ l.put) o) r.taken ∙ taken_on r.put l.put told.taken)
+
+-- a run that stopped before its steps were done stops there with more steps to do
+over_longer : (p : Program) (k n : ℕ) (s : State) (e : Ending) (h : Halt) (old new : Snapshot) (told after : Told) (r : Ran p k e s old new told after) → k ≤ n → r.tried ≡ k → exec p k s ≡ Over h r.place → ((j : ℕ) → j ≡ n → exec p n s ≡ Over h r.place → StopsAt p n s e j r.place) → Ran p n e s old new told after
+over_longer p k n s e h old new told after r le same x stops =
+    let whole : k + (n - k) ≡ n = omega arith in
+    let o = over_on p k (n - k) s h r.place x in
+    ran_from p n e s r.place old new told after n (steps_in p r.tried s) (takes_in p r.tried s) r.put
+    (stops n refl (ap (λ j. exec p j s) (sym whole) ∙ o.0))
+    (ap (λ j. steps_in p j s) (sym whole) ∙ o.1 ∙ ap (λ j. steps_in p j s) (sym same))
+    (ap (λ j. takes_in p j s) (sym whole) ∙ o.2 ∙ ap (λ j. takes_in p j s) (sym same))
+    r.puts r.machine r.left r.made r.taken
+
+pub ran_longer : (p : Program) (k n : ℕ) (s : State) (e : Ending) (old new : Snapshot) (told after : Told) → k ≤ n → stops_early e ≡ true → Ran p k e s old new told after → Ran p n e s old new told after
+ran_longer p k n s (Done status) old new told after le early r = over_longer p k n s (Done status) (step.Done status) old new told after r le r.stops.0 r.stops.1 (λ j same x. (same, x))
+ran_longer p k n s (Trap code) old new told after le early r = over_longer p k n s (Trap code) (step.Trap code) old new told after r le r.stops.0 r.stops.1 (λ j same x. (same, x))
+ran_longer p k n s (Stuck pc) old new told after le early r = over_longer p k n s (Stuck pc) (step.Stuck pc) old new told after r le r.stops.0 r.stops.1 (λ j same x. (same, x))
+ran_longer p k n s Budget old new told after le early r = cc
+ran_longer p k n s InputFault old new told after le early r = record {
+  tried = r.tried;
+  place = r.place;
+  put = r.put;
+  stops = (omega (arith, r.stops.0), r.stops.1, r.stops.2);
+  puts = r.puts;
+  machine = r.machine;
+  left = r.left;
+  made = r.made;
+  taken = r.taken;
+}
+ran_longer p k n s WriteFault old new told after le early r = record {
+  tried = r.tried;
+  place = r.place;
+  put = r.put;
+  stops = (omega (arith, r.stops.0), r.stops.1, r.stops.2);
+  puts = r.puts;
+  machine = r.machine;
+  left = r.left;
+  made = r.made;
+  taken = r.taken;
+}
+
+-- a run of no steps
+pub ran_none : (p : Program) (bytes : List ℕ) (v : Snapshot) (told : Told) → v.halt ≡ None → told.left ≡ Some bytes → Ran p 0 Budget (standing v bytes []) v v told told
+ran_none p bytes v told none left =
+    let s : State = standing v bytes [] in
+    ran_from p 0 Budget s s v v told told 0 0 0 [] (refl, exec_none p s) (steps_none p s) (takes_none p s) refl (ap (λ h. record v { halt = h }) none) left (counted_none told.made) (taken_none told.taken)
+
+-- a run of all its steps
+pub ran_whole : (p : Program) (k n : ℕ) (s : State) (old new : Snapshot) (told after : Told) → k ≡ n → Ran p k Budget s old new told after → Ran p n Budget s old new told after
+ran_whole p k n s old new told after same r = subst (λ j. Ran p j Budget s old new told after) same r
+
+-- one more turn
+pub ran_turn : (p : Program) (k : ℕ) (e : Ending) (s : State) (old mid new : Snapshot) (told between after : Told) → Ran p k Budget s old mid told between → ((x y : List ℕ) → Runs p mid → mid.halt ≡ None → between.left ≡ Some x → Ran p 1 e (standing mid x y) mid new between after) → Runs p mid → Ran p (k + 1) e s old new told after
+ran_turn p k e s old mid new told between after r turn runs =
+    let t : State = r.place in
+    let here : standing mid t.input t.output ≡ t = ap (λ m. standing m t.input t.output) r.machine in
+    let none : mid.halt ≡ None = ap (λ m. m.halt) r.machine in
+    ran_on p k e s old mid new told between after r (subst (λ u. Ran p 1 e u mid new between after) here (turn t.input t.output runs none r.left))
+
+-- a run from the start is the behaviour of the image
+pub ran_gives : (p : Program) (stack : ℕ) (input : List ℕ) (n : ℕ) (e : Ending) (old new : Snapshot) (told after : Told) → (r : Ran p n e (start p stack input) old new told after) → Gives p stack input n e r.put
+ran_gives p stack input n (Done status) old new told after r = ap behaviour r.stops.1 ∙ ap (λ o. behave.Done o status) r.puts
+ran_gives p stack input n (Trap code) old new told after r = ap behaviour r.stops.1 ∙ ap (λ o. behave.Trap o code) r.puts
+ran_gives p stack input n (Stuck pc) old new told after r = ap behaviour r.stops.1 ∙ ap (λ o. behave.Stuck o pc) r.puts
+ran_gives p stack input n Budget old new told after r = ap behaviour r.stops.1 ∙ ap (λ o. behave.More o) r.puts
+ran_gives p stack input n InputFault old new told after r = (r.tried, r.stops.0, ap behaviour r.stops.1 ∙ ap (λ o. behave.More o) r.puts)
+ran_gives p stack input n WriteFault old new told after r = (r.tried, r.stops.0, ap behaviour r.stops.1 ∙ ap (λ o. behave.More o) r.puts)
+
+-- a machine that was just loaded runs its image, and has not come to an end
+pub loaded_runs : (p : Program) (stack : ℕ) (v : Snapshot) → v ≡ loaded p stack → Runs p v × (v.halt ≡ None)
+loaded_runs p stack v e = (record { text = ap (λ u. u.text) e; size = ap (λ u. length u.data_bytes) e }, ap (λ u. u.halt) e)
+
+pub ran_behaves : (p : Program) (stack : ℕ) (input : List ℕ) (n : ℕ) (e : Ending) (old new : Snapshot) (told after : Told) → old ≡ loaded p stack → Ran p n e (standing old input []) old new told after → Behaves p stack input n e told.taken after.taken
+ran_behaves p stack input n e old new told after same r =
+    let s : Ran p n e (start p stack input) old new told after = subst (λ u. Ran p n e (standing u input []) old new told after) same r in
+    record { put = s.put; gives = ran_gives p stack input n e old new told after s; taken = s.taken }

@@ -1,0 +1,9 @@
+pub mod Outcome
+pub mod Machine
+pub mod Standing
+pub mod Ending
+pub mod Turns
+pub mod Snapshot
+pub mod Inside
+pub mod Run
+pub mod Taken

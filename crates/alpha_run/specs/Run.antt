@@ -1,0 +1,118 @@
+-- What a run of a machine does, by the steps of the definition.
+use Rattle.std.specs.Prelude.{◌≡◌, ℕ, zero, suc, ◌+◌, ◌<◌, List, ◌++◌, length, Bool, true, false, Option, Some, None, option_map, IsTrue, if◌then◌else◌}
+use Rattle.alpha_isa.specs.Program.{Program}
+use Rattle.alpha_isa.specs.State.{State}
+use Rattle.alpha_isa.specs.Step.{Halt, Next, Goes, Over, step, exec}
+use Rattle.alpha_isa.specs.Step as step
+use Rattle.alpha_isa.specs.Behave.{behave_a}
+use Rattle.alpha_isa.specs.Behave as behave
+use Rattle.bk_io.specs.Outside.{next_count}
+use Rattle.alpha_run.specs.declared.ending.Ending.{Ending}
+use Rattle.alpha_run.specs.declared.ending.Ending.TheVariants.{Done, Trap, Stuck, Budget, InputFault, WriteFault}
+use Rattle.alpha_run.specs.Snapshot.{Snapshot}
+use Rattle.alpha_run.specs.Turns.{asks}
+
+-- ---- counts
+
+-- n more on a count, which stays at its end
+abbrev pub counted : ℕ → ℕ → ℕ
+counted zero count = count
+counted (suc n) count = next_count (counted n count)
+
+-- how many of the first n steps are done: all that were begun but one that is stuck
+abbrev pub last_step : Halt → ℕ
+last_step (step.Stuck pc) = 0
+last_step _ = 1
+
+abbrev pub steps_then : Next → (State → ℕ) → ℕ
+steps_then (Goes t) rest = suc (rest t)
+steps_then (Over h t) rest = last_step h
+
+unfoldable pub steps_in : Program → ℕ → State → ℕ
+steps_in p zero s = 0
+steps_in p (suc n) s = steps_then (step p s) (steps_in p n)
+
+-- how many of the first n steps take a byte of the input
+abbrev pub takes_then : Next → (State → ℕ) → ℕ
+takes_then (Goes t) rest = rest t
+takes_then (Over h t) rest = 0
+
+unfoldable pub takes_in : Program → ℕ → State → ℕ
+takes_in p zero s = 0
+takes_in p (suc n) s = (if asks p 3 s then 1 else 0) + takes_then (step p s) (takes_in p n)
+
+-- how often the input was asked: once for each byte taken, and once where it failed
+abbrev pub asked : Ending → ℕ → ℕ
+asked InputFault taken = suc taken
+asked _ taken = taken
+
+-- ---- runs
+
+-- the end of a program that an ending tells
+abbrev pub halt_of : Ending → Option Halt
+halt_of (Done status) = Some (step.Done status)
+halt_of (Trap code) = Some (step.Trap code)
+halt_of (Stuck pc) = Some (step.Stuck pc)
+halt_of _ = None
+
+-- how a run of n steps from s stops, in the state t after k steps: after all of them, or before one that
+-- the outside failed at
+abbrev pub StopsAt : Program → ℕ → State → Ending → ℕ → State → Type 0
+StopsAt p n s (Done status) k t = (k ≡ n) × (exec p n s ≡ Over (step.Done status) t)
+StopsAt p n s (Trap code) k t = (k ≡ n) × (exec p n s ≡ Over (step.Trap code) t)
+StopsAt p n s (Stuck pc) k t = (k ≡ n) × (exec p n s ≡ Over (step.Stuck pc) t)
+StopsAt p n s Budget k t = (k ≡ n) × (exec p n s ≡ Goes t)
+StopsAt p n s InputFault k t = (k < n) × (exec p k s ≡ Goes t) × IsTrue (asks p 3 t)
+StopsAt p n s WriteFault k t = (k < n) × (exec p k s ≡ Goes t) × IsTrue (asks p 2 t)
+
+-- a run that does not stop because its steps are done
+abbrev pub stops_early : Ending → Bool
+stops_early Budget = false
+stops_early _ = true
+
+-- the machine after so many more steps and bytes, in the state t
+abbrev pub moved : Snapshot → State → ℕ → ℕ → Ending → Snapshot
+moved m t steps written e = record m {
+  pc = t.pc;
+  registers = t.registers;
+  data_bytes = t.data_bytes;
+  stack_bytes = t.stack_bytes;
+  steps = counted steps m.steps;
+  written = counted written m.written;
+  halt = halt_of e;
+}
+
+-- what the input and the output tell before and after a run
+pub record Told : Type 0 where
+  pub left : Option (List ℕ)
+  pub made : Option ℕ
+  pub taken : Option (List ℕ)
+
+-- a run of n steps from the state s: where it stopped, and what it did to the machine, the input and the output
+pub record Ran (p : Program) (n : ℕ) (e : Ending) (s : State) (old new : Snapshot) (told after : Told) : Type 0 where
+  pub tried : ℕ
+  pub place : State
+  pub put : List ℕ
+  pub stops : StopsAt p n s e tried place
+  pub puts : place.output ≡ s.output ++ put
+  pub machine : new ≡ moved old place (steps_in p tried s) (length put) e
+  pub left : after.left ≡ Some place.input
+  pub made : after.made ≡ option_map (counted (asked e (takes_in p tried s))) told.made
+  pub taken : after.taken ≡ option_map (λ bytes. bytes ++ put) told.taken
+
+-- ---- a run from the start
+
+-- what an image does in n steps, by the ending of a run and the bytes that it put: where the outside failed,
+-- it goes on after fewer steps
+abbrev pub Gives : Program → ℕ → List ℕ → ℕ → Ending → List ℕ → Type 0
+Gives p stack input n (Done status) put = behave_a p stack input n ≡ behave.Done put status
+Gives p stack input n (Trap code) put = behave_a p stack input n ≡ behave.Trap put code
+Gives p stack input n (Stuck pc) put = behave_a p stack input n ≡ behave.Stuck put pc
+Gives p stack input n Budget put = behave_a p stack input n ≡ behave.More put
+Gives p stack input n _ put = (k : ℕ) × (k < n) × (behave_a p stack input k ≡ behave.More put)
+
+-- a run of n steps of a machine that was just loaded
+pub record Behaves (p : Program) (stack : ℕ) (input : List ℕ) (n : ℕ) (e : Ending) (old new : Option (List ℕ)) : Type 0 where
+  pub put : List ℕ
+  pub gives : Gives p stack input n e put
+  pub taken : new ≡ option_map (λ bytes. bytes ++ put) old

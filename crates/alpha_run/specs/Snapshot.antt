@@ -1,0 +1,48 @@
+-- What a contract sees of a machine.
+use Rattle.std.specs.Prelude.{◌≡◌, ℕ, ◌+◌, List, length, map, replicate, slice_set, Option, None}
+use Rattle.alpha_isa.specs.declared.insn.Fields.{Fields}
+use Rattle.alpha_isa.specs.Words.{decoded}
+use Rattle.alpha_isa.specs.Program.{Program, word_address, stack_start}
+use Rattle.alpha_isa.specs.State.{State}
+use Rattle.alpha_isa.specs.Step.{Halt}
+
+-- the text as its instructions, the state of a step without the input and the output, how many steps were
+-- done and bytes put, and how the program came to its end
+pub record Snapshot : Type 0 where
+  pub text : List (Option Fields)
+  pub pc : ℕ
+  pub registers : List ℕ
+  pub data_bytes : List ℕ
+  pub stack_bytes : List ℕ
+  pub steps : ℕ
+  pub written : ℕ
+  pub halt : Option Halt
+
+-- a machine stands as the definition's, with the input that is left and the output so far
+abbrev pub standing : Snapshot → List ℕ → List ℕ → State
+standing m input output = record {
+  pc = m.pc;
+  registers = m.registers;
+  data_bytes = m.data_bytes;
+  stack_bytes = m.stack_bytes;
+  input = input;
+  output = output;
+}
+
+-- where a machine stands that was just loaded: as the definition's start
+abbrev pub loaded : Program → ℕ → Snapshot
+loaded p stack = record {
+  text = map decoded p.words;
+  pc = word_address p.entry;
+  registers = slice_set (replicate 32 0) 30 (stack_start p + stack);
+  data_bytes = p.bytes;
+  stack_bytes = replicate stack 0;
+  steps = 0;
+  written = 0;
+  halt = None;
+}
+
+-- the program that a machine runs: its text, and as many bytes of data
+pub record Runs (p : Program) (m : Snapshot) : Type 0 where
+  pub text : m.text ≡ map decoded p.words
+  pub size : length m.data_bytes ≡ length p.bytes

@@ -1,0 +1,54 @@
+-- Where a processor stands, as the state of a step, and the program that it runs.
+use Rattle.std.specs.Prelude.{◌≡◌, ℕ, ◌≤◌, List, length, map, Bool, true, false, Option, Some, None}
+use Rattle.alpha_isa.specs.Words.{decoded}
+use Rattle.alpha_isa.specs.Program.{Program, most_words, data_start, stack_start}
+use Rattle.alpha_isa.specs.State.{State, with_register}
+use Rattle.alpha_isa.specs.Step.{Next, Goes, Over, Trap, stuck, advanced}
+use Rattle.alpha_run.specs.Machine.{IsLaidAs}
+use Rattle.alpha_run.specs.declared.processor.Processor.{Processor}
+
+-- with the input that is left and the output so far
+abbrev pub standing : Processor → List ℕ → List ℕ → State
+standing m input output = record {
+  pc = m.pc;
+  registers = m.registers.words;
+  data_bytes = m.memory.data.items;
+  stack_bytes = m.memory.stack.items;
+  input = input;
+  output = output;
+}
+
+-- the text is that of a program, and the memory lies where the program's does
+pub record Runs (p : Program) (m : Processor) : Type 0 where
+  pub text : m.text.items ≡ map decoded p.words
+  pub data_start : m.memory.data_start ≡ data_start p
+  pub stack_start : m.memory.stack_start ≡ stack_start p
+
+-- the text keeps the limit of a program
+abbrev pub IsShort : Processor → Type 0
+IsShort m = length m.text.items ≤ most_words
+
+-- the text stays, and the memory lies where it did
+pub record KeepsText (old new : Processor) : Type 0 where
+  pub text : new.text.items ≡ old.text.items
+  pub laid : IsLaidAs old.memory new.memory
+
+-- a step that went on, or could not be done
+abbrev pub worked : Bool → State → Next
+worked true s = Goes s
+worked false s = stuck s
+
+-- an operation that went on, or whose result does not fit, which has the code 3
+abbrev pub fitted : Bool → State → Next
+fitted true s = Goes s
+fitted false s = Over (Trap 3) s
+
+-- a register gets a word that was loaded, if it was
+abbrev pub given : ℕ → Option ℕ → State → Next
+given ra (Some word) s = advanced (with_register ra word s)
+given ra None s = stuck s
+
+-- the machine goes on after a store that was done
+abbrev pub advanced_if : Bool → State → Next
+advanced_if true s = advanced s
+advanced_if false s = stuck s

@@ -1,0 +1,192 @@
+//! The machine: an image is loaded into it, and it runs.
+
+ghost use Rattle.std.specs.Prelude.{◌≡◌, ℕ, ◌+◌, ◌*◌, ◌/◌, ◌<◌, ◌≤◌, ◌^◌, List, map, length, replicate, [], IfOk, IfSome, IsTrue, Option, Some, None, unwrap_or};
+ghost use Rattle.bk_io.specs.Outside.{Rose};
+ghost use Rattle.alpha_isa.specs.Words.{decoded};
+ghost use Rattle.alpha_isa.specs.Program.{Program, next_part};
+ghost use Rattle.alpha_isa.specs.Behave.{IsStack, start};
+
+use crate::ending::{Ending, Halt};
+use crate::memory::Memory;
+use crate::processor::{Processor, TEXT_START, Turn};
+use crate::registers::Registers;
+use alpha_isa::decode::decode;
+use alpha_isa::image::Image;
+use alpha_isa::insn::Insn32;
+use bk_io::outside::{Sink, Source};
+use std::alloc::{AllocError, Global};
+use std::marker::Model;
+
+/// The register that holds the end of the stack when a run begins.
+const STACK_POINTER: u8 = 30;
+
+/// A machine with a program in it. Contracts see it as the state of a step, with the text that was
+/// decoded, the counts of its steps and bytes, and how it ended, if it did.
+#[derive(Debug, Drop)]
+pub struct Machine {
+    processor: Processor,
+    steps: u64,
+    written: u64,
+    halt: Option<Halt>,
+}
+
+impl Model for Machine {
+    ghost use Rattle.alpha_run.specs.Snapshot.{Snapshot};
+
+    ghost Value = { Snapshot };
+
+    ghost use Rattle.alpha_run.specs.Inside.{snapshot_of, IsSound};
+
+    ghost view = { snapshot_of };
+
+    ghost invariant = { IsSound };
+}
+
+/// The first multiple of 65,536 that is not below an address.
+fn part_from(address: u64) -> u64
+    requires { address < 2 ^ 32 }
+    ensures { result ≡ next_part address }
+{
+    (address + 65_535) / 65_536 * 65_536
+}
+
+/// The instructions of the words, none where a word stands for none.
+fn decode_all(alloc: Global, words: &[u32]) -> Result<Vec<Option<Insn32>>, AllocError>
+    ensures { IfOk result (λ text. text.items ≡ map decoded words.now) }
+{
+    words.iter().map(|word| decode(*word)).collect(alloc)
+}
+
+impl Machine {
+    ghost use Rattle.alpha_run.specs.Snapshot.{loaded, standing, Runs};
+    ghost use Rattle.alpha_run.specs.Ending.{ended};
+    ghost use Rattle.alpha_run.specs.Run.{Ran, Told, Behaves, halt_of, stops_early};
+
+    /// A machine with an image in it, and a stack of so many bytes, from 4,096 to 268,435,456 of them
+    /// and a multiple of 16. It takes all the memory that its runs need.
+    pub fn load(alloc: Global, image: &Image, stack: u64) -> Result<Machine, AllocError>
+        requires { IsStack stack }
+        ensures loaded { IfOk result (λ m. m ≡ loaded image.now stack) }
+        ensures starts { IfOk result (λ m. (bytes : List ℕ) → standing m bytes [] ≡ start image.now stack bytes) }
+        ensures runs { IfOk result (λ m. Runs image.now m) }
+    {
+        let text = decode_all(alloc, image.words.as_slice())?;
+        let data = Vec::from_slice(alloc, image.bytes.as_slice())?;
+        let data_start = part_from(TEXT_START + 4 * text.len() as u64);
+        let stack_start = part_from(data_start + data.len() as u64);
+        let mut registers = Registers::new();
+        registers.set(STACK_POINTER, stack_start + stack);
+        Ok(Machine {
+            processor: Processor {
+                text,
+                pc: TEXT_START + 4 * u64::from(image.entry),
+                registers,
+                memory: Memory {
+                    data_start,
+                    data,
+                    stack_start,
+                    stack: vec![in alloc; 0; stack as usize]?,
+                },
+            },
+            steps: 0,
+            written: 0,
+            halt: None,
+        })
+    }
+
+    /// Runs at most `budget` steps. A machine whose program came to its end answers that end again.
+    ///
+    /// `Budget` comes exactly where the machine still runs after so many steps. The input is asked once for
+    /// each byte that a step takes, the one that failed included, and at no other time.
+    pub fn run<I: Source, O: Sink>(&mut self, budget: u64, input: &mut I, out: &mut O) -> Ending
+        ensures run { (p : Program) (bytes : List ℕ) →
+            Runs p self.old → self.old.halt ≡ None → I.left input.old ≡ Some bytes →
+            Ran p budget result (standing self.old bytes []) self.old self.new
+            (record { left = I.left input.old; made = I.made input.old; taken = O.taken out.old })
+            (record { left = I.left input.new; made = I.made input.new; taken = O.taken out.new }) }
+        // a run of a machine that was just loaded is the behaviour of its image
+        ensures behaves { (p : Program) (stack : ℕ) (bytes : List ℕ) →
+            self.old ≡ loaded p stack → I.left input.old ≡ Some bytes →
+            Behaves p stack bytes budget result (O.taken out.old) (O.taken out.new) }
+        ensures again { IfSome self.old.halt (λ h. (result ≡ ended h) × (self.new ≡ self.old) ×
+            (input.new ≡ input.old) × (out.new ≡ out.old)) }
+        ensures halt { self.new.halt ≡ halt_of result }
+        ensures program { (p : Program) → Runs p self.old → Runs p self.new }
+        ensures input_kept { I.faults input.old ≤ I.faults input.new }
+        ensures input_rose { result ≡ Ending.InputFault → Rose (I.faults input.old) (I.faults input.new) }
+        ensures output_kept { O.faults out.old ≤ O.faults out.new }
+        ensures output_rose { result ≡ Ending.WriteFault → Rose (O.faults out.old) (O.faults out.new) }
+    {
+        if let Some(halt) = self.halt {
+            return halt.ending();
+        }
+        for _done in 0..budget {
+            if let Some(ending) = self.turn(input, out) {
+                return ending;
+            }
+        }
+        Ending::Budget
+    }
+
+    /// One step. It answers why the machine stops, where it does.
+    fn turn<I: Source, O: Sink>(&mut self, input: &mut I, out: &mut O) -> Option<Ending>
+        ensures run { (p : Program) (x y : List ℕ) →
+            Runs p self.old → self.old.halt ≡ None → I.left input.old ≡ Some x →
+            Ran p 1 (unwrap_or result Ending.Budget) (standing self.old x y) self.old self.new
+            (record { left = I.left input.old; made = I.made input.old; taken = O.taken out.old })
+            (record { left = I.left input.new; made = I.made input.new; taken = O.taken out.new }) }
+        ensures halt { self.old.halt ≡ None → self.new.halt ≡ halt_of (unwrap_or result Ending.Budget) }
+        ensures early { IfSome result (λ e. IsTrue (stops_early e)) }
+        ensures program { (p : Program) → Runs p self.old → Runs p self.new }
+        ensures input_kept { I.faults input.old ≤ I.faults input.new }
+        ensures input_rose { result ≡ Some Ending.InputFault → Rose (I.faults input.old) (I.faults input.new) }
+        ensures output_kept { O.faults out.old ≤ O.faults out.new }
+        ensures output_rose { result ≡ Some Ending.WriteFault → Rose (O.faults out.old) (O.faults out.new) }
+    {
+        match self.processor.step() {
+            Turn::Goes => {
+                self.steps = self.steps.saturating_add(1);
+                None
+            }
+            Turn::Over(halt) => {
+                self.steps = self.steps.saturating_add(halt.steps());
+                self.halt = Some(halt);
+                Some(halt.ending())
+            }
+            Turn::Puts(byte) => {
+                if out.put(byte).is_err() {
+                    return Some(Ending::WriteFault);
+                }
+                self.processor.advance();
+                self.steps = self.steps.saturating_add(1);
+                self.written = self.written.saturating_add(1);
+                None
+            }
+            Turn::Takes => {
+                let Ok(byte) = input.next() else {
+                    return Some(Ending::InputFault);
+                };
+                self.processor.took(byte);
+                self.steps = self.steps.saturating_add(1);
+                None
+            }
+        }
+    }
+
+    /// The steps that were done since the machine was loaded. The count stays at 2^64 - 1.
+    pub fn steps(&self) -> u64
+        ensures { result ≡ self.now.steps }
+    {
+        self.steps
+    }
+
+    /// The bytes that were put since the machine was loaded. The count stays at 2^64 - 1.
+    pub fn written(&self) -> u64
+        ensures { result ≡ self.now.written }
+    {
+        self.written
+    }
+}
+
+#[cfg(test)]
+mod tests;

@@ -1,0 +1,15 @@
+pub mod Options
+pub mod Close
+pub mod Closing
+pub mod Values
+pub mod Runs
+pub mod Items
+pub mod Names
+pub mod Rest
+pub mod Ends
+pub mod Fronts
+pub mod Found
+pub mod Once
+pub mod Walk
+pub mod Whole
+pub mod Exists

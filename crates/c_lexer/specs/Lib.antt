@@ -1,0 +1,10 @@
+pub mod Bytes
+pub mod Marks
+pub mod Words
+pub mod Numbers
+pub mod Quotes
+pub mod Literals
+pub mod Blanks
+pub mod Pieces
+pub mod Front
+pub mod Steps

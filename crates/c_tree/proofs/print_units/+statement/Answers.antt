@@ -1,0 +1,42 @@
+-- What each form puts, from what its calls put.
+use Rattle.std.proofs.Common.{sym, ap, ◌∙◌, refl}
+use Rattle.c_tree.specs.Nodes.{both, more, nodes_of, expr_node, stmt_node, section_node, children_of, part_of_for, first_nodes, joined, else_nodes}
+use Rattle.c_tree.specs.Open.{opens}
+use Rattle.c_tree.proofs.Rows.{stmt_row-hidden, section_row-hidden, if-children}
+use Rattle.c_tree.proofs.Lines.{one_more, renamed, first_and, two, four, two_lists}
+use Rattle.c_tree.proofs.print_units.+statement.Goals as goal
+
+pub put_parts-returns-in-Block : goal.put_parts-returns-in-Block
+unfolding opens
+put_parts-returns-in-Block t c =
+    renamed _ _ _ _ _ _ (ap (nodes_of stmt_node) c.as_slice.ensures ∙ sym (stmt_row-hidden _) ∙ sym (ap (λ e. children_of (stmt_node e)) c.in-Block.is)) c.put_stmts.ensures
+
+pub put_parts-returns-in_ok-put_stmt-in-If : goal.put_parts-returns-in_ok-put_stmt-in-If
+unfolding opens
+put_parts-returns-in_ok-put_stmt-in-If t c =
+    first_and _ _ _ _ _ (expr_node c.in-If.condition) (more (stmt_node c.deref.result.now) (else_nodes c.in-If.otherwise)) _ (ap (λ s. more (expr_node c.in-If.condition) (more (stmt_node s) (else_nodes c.in-If.otherwise))) c.deref.ensures ∙ sym (if-children c.in-If.condition c.in-If.then c.in-If.otherwise) ∙ sym (ap (λ e. children_of (stmt_node e)) c.in-If.is)) c.in_ok-put_expr-in-If.ensures (first_and _ _ _ _ _ _ _ _ refl c.in_ok-put_stmt-in-If.ensures c.put_otherwise.ensures)
+
+pub put_parts-returns-in_ok-put_expr-in-While : goal.put_parts-returns-in_ok-put_expr-in-While
+unfolding opens
+put_parts-returns-in_ok-put_expr-in-While t c =
+    two _ _ _ _ _ _ _ _ (ap (λ s. both (expr_node c.in-While.condition) (stmt_node s)) c.deref-in-While.ensures ∙ sym (ap (λ e. children_of (stmt_node e)) c.in-While.is)) c.in_ok-put_expr-in-While.ensures c.put_stmt-in-While.ensures
+
+pub put_parts-returns-in_ok-put_expr-in-Switch : goal.put_parts-returns-in_ok-put_expr-in-Switch
+unfolding opens
+put_parts-returns-in_ok-put_expr-in-Switch t c =
+    first_and _ _ _ _ _ _ _ _ (ap (more (expr_node c.in-Switch.operand)) (ap (nodes_of section_node) c.as_slice-in-Switch.ensures ∙ sym (section_row-hidden _)) ∙ sym (ap (λ e. children_of (stmt_node e)) c.in-Switch.is)) c.in_ok-put_expr-in-Switch.ensures c.put_sections.ensures
+
+pub put_parts-returns-in_ok-put_part_of_for-in-For-2 : goal.put_parts-returns-in_ok-put_part_of_for-in-For-2
+unfolding opens
+put_parts-returns-in_ok-put_part_of_for-in-For-2 t c =
+    four _ _ _ _ _ _ _ (first_nodes c.in-For.first) (part_of_for c.in-For.condition) (part_of_for c.in-For.step) _ _ (ap (λ s. joined (first_nodes c.in-For.first) (more (part_of_for c.in-For.condition) (both (part_of_for c.in-For.step) (stmt_node s)))) c.deref-in-For.ensures ∙ sym (ap (λ e. children_of (stmt_node e)) c.in-For.is)) c.in_ok-put_first-in-For.ensures c.in_ok-put_part_of_for-in-For.ensures c.in_ok-put_part_of_for-in-For-2.ensures c.put_stmt-in-For.ensures
+
+pub put_stmts-loop-stmt-preserved : goal.put_stmts-loop-stmt-preserved
+unfolding opens
+put_stmts-loop-stmt-preserved t c =
+    one_more _ _ _ _ stmt_node _ _ _ c.loop-stmt-test.true c.stmt-item.is c.loop-stmt.invariant c.in_ok-put_stmt.ensures
+
+pub put_sections-loop-section-preserved : goal.put_sections-loop-section-preserved
+unfolding opens
+put_sections-loop-section-preserved t c =
+    (c.loop-section.invariant.0, one_more _ _ _ _ section_node _ _ _ c.loop-section-test.true c.section-item.is c.loop-section.invariant.1 (two_lists _ _ _ _ _ _ _ _ _ _ c.in_ok-put_label.ensures c.in_ok-put_stmts.ensures (c.deref.ensures.value ∙ c.loop-section.invariant.0) (c.deref-in-loop-section.ensures.value ∙ c.loop-section.invariant.0) (ap (nodes_of stmt_node) c.as_slice.ensures)))

@@ -1,0 +1,28 @@
+//! The syntax trees of C units, and their text.
+//!
+//! The containers `Box`, `Seq` and `Name` are seen by contracts as the value, the list and the bytes
+//! that they hold. So two trees are equal where they hold the same, whatever room their lists have.
+#![tactic(auto)]
+
+mod boxed;
+pub mod declarations;
+pub mod expressions;
+mod name;
+mod print;
+mod print_units;
+mod seq;
+pub mod statements;
+pub mod types;
+mod words;
+
+pub use boxed::Box;
+pub use declarations::{External, FunctionEnd, Init, Storage, Unit};
+pub use expressions::{AssignOp, BinaryOp, Expr, StepOp, UnaryOp};
+pub use name::Name;
+pub use print_units::tree_text;
+pub use seq::Seq;
+pub use statements::{ForFirst, Label, Local, Section, Stmt};
+pub use types::{BasicType, Constant, Declaration, Parameter, TypeName, TypeNode};
+
+#[cfg(test)]
+mod tests;

@@ -1,0 +1,77 @@
+//! Statements (C99 6.8).
+
+use crate::{Box, Declaration, Expr, Seq};
+
+/// A statement, or a declaration in a block. `at` is the offset of the statement's word.
+#[cycle(statement)]
+#[derive(Drop)]
+pub enum Stmt {
+    Block(Seq<Stmt>),
+    If {
+        condition: Expr,
+        then: Box<Stmt>,
+        otherwise: Option<Box<Stmt>>,
+    },
+    While {
+        condition: Expr,
+        body: Box<Stmt>,
+    },
+    Do {
+        body: Box<Stmt>,
+        condition: Expr,
+    },
+    For {
+        first: ForFirst,
+        condition: Option<Expr>,
+        step: Option<Expr>,
+        body: Box<Stmt>,
+    },
+    Switch {
+        operand: Expr,
+        sections: Seq<Section>,
+    },
+    Break {
+        at: u32,
+    },
+    Continue {
+        at: u32,
+    },
+    Return {
+        at: u32,
+        value: Option<Expr>,
+    },
+    Expression(Expr),
+    Empty,
+    Local(Local),
+}
+
+/// A label of a `switch` with the statements up to the next label. None stand under a label that
+/// another one follows at once.
+#[cycle(statement)]
+#[derive(Drop)]
+pub struct Section {
+    pub label: Label,
+    pub statements: Seq<Stmt>,
+}
+
+/// A label of a `switch`, at its word (C99 6.8.1).
+#[derive(Drop)]
+pub enum Label {
+    Case { at: u32, value: Expr },
+    Default { at: u32 },
+}
+
+/// A declarator in a block, with its initialiser. A declaration with several gives one for each.
+#[derive(Drop)]
+pub struct Local {
+    pub declaration: Declaration,
+    pub init: Option<Expr>,
+}
+
+/// The first part of a `for` (C99 6.8.5.3).
+#[derive(Drop)]
+pub enum ForFirst {
+    Nothing,
+    Value(Expr),
+    Locals(Seq<Local>),
+}

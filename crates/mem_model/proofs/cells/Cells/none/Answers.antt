@@ -1,0 +1,5 @@
+use Rattle.mem_model.proofs.Table.{cells_kept-none}
+use Rattle.mem_model.proofs.cells.Cells.none.Goals as goal
+
+pub returns : goal.returns
+returns c = cells_kept-none _ _ c.new.ensures.items

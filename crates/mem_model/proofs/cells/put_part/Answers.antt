@@ -1,0 +1,16 @@
+use Rattle.std.proofs.Common.{refl, arith, rules}
+use Rattle.mem_model.proofs.Table.{cells_kept-set, cell_of-home, cell_of-stray, same_part}
+use Rattle.mem_model.proofs.cells.put_part.Goals as goal
+
+pub returns-then-eq-clause-cells : goal.returns-then-eq-clause-cells
+returns-then-eq-clause-cells c = cells_kept-set _ _ _ _ _ _ c.requires.within (same_part _ _ _ _ (search rules) (omega arith)) (λ k h ne. refl)
+
+pub returns-then-is_home_free-clause-cells : goal.returns-then-is_home_free-clause-cells
+returns-then-is_home_free-clause-cells c =
+    cells_kept-set _ _ _ _ _ _ c.requires.within (same_part _ _ _ _ c.put_pointer.ensures.there (omega arith))
+    (λ k h ne. cell_of-home _ _ _ c.args.at k _ (omega arith) c.put_pointer.ensures.others (λ e. c.if-is_home_free.ensures refl k h e ne))
+
+pub returns-else-own-2-clause-cells : goal.returns-else-own-2-clause-cells
+returns-else-own-2-clause-cells c =
+    cells_kept-set _ _ _ _ _ _ c.requires.within (same_part _ _ _ _ c.put_pointer-else-own-2.ensures.there refl)
+    (λ k h ne. cell_of-stray _ _ _ c.args.at k _ (omega arith) ne c.put_pointer-else-own-2.ensures.others)

@@ -1,0 +1,5 @@
+use Rattle.mem_model.proofs.Lasting.{copy_changes}
+use Rattle.mem_model.proofs.laws.copies_change_one.Goals as goal
+
+pub returns : goal.returns
+returns c = copy_changes

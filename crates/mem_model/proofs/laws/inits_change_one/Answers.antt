@@ -1,0 +1,5 @@
+use Rattle.mem_model.proofs.Lasting.{init_changes}
+use Rattle.mem_model.proofs.laws.inits_change_one.Goals as goal
+
+pub returns : goal.returns
+returns c = init_changes

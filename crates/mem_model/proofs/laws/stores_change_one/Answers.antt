@@ -1,0 +1,5 @@
+use Rattle.mem_model.proofs.Lasting.{store_changes}
+use Rattle.mem_model.proofs.laws.stores_change_one.Goals as goal
+
+pub returns : goal.returns
+returns c = store_changes

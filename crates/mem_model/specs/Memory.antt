@@ -1,0 +1,133 @@
+-- The memory of objects: what each access answers, and the memory that it leaves.
+-- A pointer is an object and an offset (C99 6.5.6), and an object lives until it ends (C99 6.2.4). Each access
+-- has a list of faults in their order, and the first that holds is its answer.
+use Rattle.std.specs.Prelude.{◌≡◌, ℕ, ◌+◌, ◌%◌, ◌<◌, ◌==◌, nat_lt, not, ◌&&◌, ◌||◌, ℤ, pos, negsuc, unsigned_abs, ◌⊎◌, Bool, true, false, List, [], ◌∷◌, map, length, take, drop, replicate, slice_index_or, slice_set, Option, Some, None, Result, Ok, Err, if◌then◌else◌}
+use Rattle.mem_model.specs.declared.value.Ptr.{Ptr}
+use Rattle.mem_model.specs.declared.value.Value.{Value}
+use Rattle.mem_model.specs.declared.value.Value.TheVariants.{Word, Address, Unset}
+use Rattle.mem_model.specs.declared.value.Cell.{Cell}
+use Rattle.mem_model.specs.declared.value.Cell.TheVariants.{Empty, Byte}
+use Rattle.mem_model.specs.declared.value.MemFault.{MemFault}
+use Rattle.mem_model.specs.declared.value.MemFault.TheVariants.{NoObject, Outside, Misaligned, ReadOnly}
+use Rattle.mem_model.specs.declared.memory.Object.{Object}
+use Rattle.mem_model.specs.Cells.{read_of, cells_of, written}
+
+-- all objects ever made, by their numbers. An object is whether it lives, whether it may be written, and its
+-- cells, whose count is its size
+abbrev pub Memory : Type 0
+Memory = List Object
+
+-- what stands for an object that was never made
+abbrev pub no_object : Object
+no_object = record { live = false; writable = false; cells = [] }
+
+-- the object with a number (C99 6.2.4)
+abbrev pub object_at : Memory → ℕ → Object
+object_at m id = slice_index_or m id no_object
+
+-- an object at its making
+abbrev pub fresh : (size : ℕ) → (writable : Bool) → Object
+fresh size writable = record { live = true; writable = writable; cells = replicate size Empty }
+
+-- an object that has ended: what it held is gone
+abbrev pub ended : Object → Object
+ended x = record { live = false; writable = x.writable; cells = [] }
+
+-- the place that an offset names, where it is not below 0
+abbrev pub place_of : ℤ → ℕ
+place_of offset = unsigned_abs offset
+
+-- so many bytes from an offset on lie within a length (C99 6.5.6)
+abbrev pub is_within : ℤ → (size length : ℕ) → Bool
+is_within (pos at) size length = not (nat_lt length (at + size))
+is_within (negsuc n) size length = false
+
+-- the tests of the faults. The object was never made or has ended (C99 6.2.4)
+abbrev pub is_gone : Memory → Ptr → Bool
+is_gone m p = not (object_at m p.object).live
+
+-- One of so many bytes lies outside the object (C99 6.5.6)
+abbrev pub is_outside : Memory → Ptr → (size : ℕ) → Bool
+is_outside m p size = nat_lt 0 size && not (is_within p.offset size (length (object_at m p.object).cells))
+
+-- The offset is no multiple of an alignment (C99 6.3.2.3)
+abbrev pub is_misaligned : Ptr → (align : ℕ) → Bool
+is_misaligned p align = not (place_of p.offset % align == 0)
+
+-- The object may not be written (C99 6.4.5)
+abbrev pub is_read_only : Memory → Ptr → Bool
+is_read_only m p = not (object_at m p.object).writable
+
+-- Two ranges of so many bytes share a byte, and are not the same (C99 6.5.16.1)
+abbrev pub overlaps : Ptr → Ptr → (size : ℕ) → Bool
+overlaps p q size =
+    p.object == q.object && not (place_of p.offset == place_of q.offset)
+    && nat_lt (place_of p.offset) (place_of q.offset + size) && nat_lt (place_of q.offset) (place_of p.offset + size)
+
+-- the first fault of a list whose test holds
+abbrev pub first_fault : List (Bool × MemFault) → Option MemFault
+first_fault [] = None
+first_fault (x ∷ xs) = if x.0 then Some x.1 else first_fault xs
+
+-- a fault, where there is one, and else what is answered
+abbrev pub unless : {A : Type 0} → Option MemFault → Result A MemFault → Result A MemFault
+unless None answer = answer
+unless (Some fault) answer = Err fault
+
+-- the cells of an object from a pointer on
+abbrev pub cells_at : Memory → Ptr → (size : ℕ) → List Cell
+cells_at m p size = take size (drop (place_of p.offset) (object_at m p.object).cells)
+
+-- the memory with a row of cells in an object from a pointer on
+abbrev pub with_cells : Memory → Ptr → List Cell → Memory
+with_cells m p row = slice_set m p.object (record (object_at m p.object) { cells = written (object_at m p.object).cells (place_of p.offset) row })
+
+-- a load of so many bytes, as a number or as a pointer
+unfoldable pub load_at : Memory → Ptr → (width : ℕ) → (pointer : Bool) → Result Value MemFault
+load_at m p width pointer =
+    unless (first_fault ((is_gone m p, NoObject) ∷ (is_outside m p width, Outside) ∷ (is_misaligned p width, Misaligned) ∷ []))
+    (read_of pointer (cells_at m p width))
+
+-- a store of a value
+unfoldable pub store_at : Memory → Ptr → (width : ℕ) → Value → Result Memory MemFault
+store_at m p width v =
+    unless (first_fault ((is_gone m p, NoObject) ∷ (is_outside m p width, Outside) ∷ (is_misaligned p width, Misaligned) ∷ (is_read_only m p, ReadOnly) ∷ []))
+    (Ok (with_cells m p (cells_of width v)))
+
+-- a copy of so many cells, as they are
+unfoldable pub copy_at : Memory → (to from : Ptr) → (size align : ℕ) → Result Memory MemFault
+copy_at m to from size align =
+    unless (first_fault (
+    (is_gone m to || is_gone m from, NoObject)
+    ∷ (is_outside m to size || is_outside m from size || overlaps to from size, Outside)
+    ∷ (is_misaligned to align || is_misaligned from align, Misaligned)
+    ∷ (is_read_only m to, ReadOnly)
+    ∷ []))
+    (Ok (with_cells m to (cells_at m from size)))
+
+-- the byte of a value that is one
+abbrev pub byte_of : Value → Cell
+byte_of (Word n) = Byte n
+byte_of _ = Empty
+
+-- the bytes of an object at its making
+unfoldable pub init_at : Memory → Ptr → List Value → Result Memory MemFault
+init_at m p values =
+    unless (first_fault ((is_gone m p, NoObject) ∷ (is_outside m p (length values), Outside) ∷ []))
+    (Ok (with_cells m p (map byte_of values)))
+
+-- the widths of an access
+abbrev pub IsWidth : ℕ → Type 0
+IsWidth width = (width ≡ 1) ⊎ (width ≡ 2) ⊎ (width ≡ 4) ⊎ (width ≡ 8)
+
+-- the values that a store takes: a number, or a pointer at the width 8
+abbrev pub IsStorable : (width : ℕ) → Value → Type 0
+IsStorable width (Word n) = Unit {0}
+IsStorable width (Address p) = width ≡ 8
+IsStorable width Unset = ⊥
+
+-- the values that are a byte
+abbrev pub IsByte : Value → Type 0
+IsByte (Word n) = n < 256
+IsByte (Address p) = ⊥
+IsByte Unset = ⊥

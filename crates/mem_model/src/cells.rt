@@ -1,0 +1,179 @@
+//! The cells of one object, kept in a few bytes each.
+//!
+//! A cell has a mark of two bytes. A pointer stands in a table: that of eight cells in a row, which hold
+//! its eight parts in order, in the slot of those cells, and any other part in a slot of its own. The
+//! table has room for every slot from the start, so no write takes memory, but it is only as long as the
+//! last slot that was used. So the room of an object of bytes is never touched.
+
+ghost use Rattle.std.specs.Prelude.{◌≡◌, ◌≢◌, ℕ, ◌+◌, ◌/◌, ◌<◌, ◌≤◌, [], length, vec_len, vec_capacity, slice_index_or, IfOk, IsTrue, slice_get, slice_set, replicate};
+ghost use Rattle.mem_model.specs.Kept.{pointer_at, homes_of, cells_kept};
+ghost use Rattle.mem_model.specs.declared.value.Cell.TheVariants.{Empty, Part};
+ghost use Rattle.mem_model.specs.declared.cells.Mark.TheVariants.{Unwritten, Home};
+
+use crate::value::{Cell, Ptr};
+use std::alloc::{AllocError, Global};
+use std::marker::Model;
+
+/// How many parts a pointer has, and how many cells share a home.
+const PARTS: usize = 8;
+
+/// What a slot of the table holds before a pointer is put there.
+const NO_POINTER: Ptr = Ptr {
+    object: 0,
+    offset: 0,
+};
+
+/// What a cell holds, but for the pointer of a part.
+#[derive(Clone, Copy, Debug, PartialEq, Eq)]
+enum Mark {
+    /// Nothing was written.
+    Unwritten,
+    /// This byte.
+    Number(u8),
+    /// A part of the pointer in the home of its eight cells: the one with its own number among them.
+    Home,
+    /// The part with this number of the pointer in the cell's own slot.
+    Stray(u8),
+}
+
+/// The cells of an object, which contracts see as their list.
+#[derive(Debug, Drop)]
+pub struct Cells {
+    marks: Vec<Mark>,
+    pointers: Vec<Ptr>,
+}
+
+impl Model for Cells {
+    ghost use Rattle.std.specs.Prelude.{◌≡◌, ◌≤◌, ◌+◌, ◌⊎◌, List, length, vec_capacity};
+    ghost use Rattle.mem_model.specs.declared.value.Cell.{Cell};
+
+    ghost Value = { List Cell };
+
+    ghost use Rattle.mem_model.specs.Kept.{cells_kept, homes_of};
+
+    ghost view = { λ c. cells_kept c.marks.items c.pointers.items };
+
+    ghost invariant = { λ c. (length c.marks.items ≡ 0) ⊎ (homes_of (length c.marks.items) + length c.marks.items ≤ vec_capacity c.pointers) };
+}
+
+/// The pointer in a slot, which holds none before one is put there.
+fn pointer_in(pointers: &[Ptr], slot: usize) -> Ptr
+    ensures { result ≡ pointer_at pointers.now slot }
+{
+    pointers.get(slot).copied().unwrap_or(NO_POINTER)
+}
+
+/// Puts a pointer into a slot.
+fn put_pointer(pointers: &mut Vec<Ptr>, slot: usize, pointer: Ptr)
+    requires { slot < vec_capacity pointers.old }
+    ensures there { pointer_at pointers.new.items slot ≡ pointer }
+    ensures others { (s : ℕ) → s ≢ slot → pointer_at pointers.new.items s ≡ pointer_at pointers.old.items s }
+    ensures capacity { vec_capacity pointers.new ≡ vec_capacity pointers.old }
+{
+    while pointers.len() <= slot {
+        pointers.push_reserved(NO_POINTER);
+    }
+    pointers[slot] = pointer;
+}
+
+/// Whether no other cell of the group of `at` holds a part at home.
+fn is_home_free(marks: &[Mark], at: usize) -> bool
+    requires { at < length marks.now }
+    ensures { IsTrue result → (k : ℕ) → k < length marks.now → k / 8 ≡ at / 8 → k ≢ at → slice_index_or marks.now k Unwritten ≢ Home }
+{
+    let first = at - at % PARTS;
+    let last = marks.len().min(first + PARTS);
+    for k in first..last {
+        if k != at && marks[k] == Mark::Home {
+            return false;
+        }
+    }
+    true
+}
+
+/// Puts a part of a pointer into a cell: at home where the home is that pointer's, or free, and else
+/// into the cell's own slot.
+fn put_part(marks: &mut [Mark], pointers: &mut Vec<Ptr>, at: usize, pointer: Ptr, part: u8)
+    requires within { at < length marks.old }
+    requires room { homes_of (length marks.old) + length marks.old ≤ vec_capacity pointers.old }
+    ensures cells { cells_kept marks.new pointers.new.items ≡ slice_set (cells_kept marks.old pointers.old.items) at (Part pointer part) }
+    ensures capacity { vec_capacity pointers.new ≡ vec_capacity pointers.old }
+{
+    let home = at / PARTS;
+    let own = usize::from(part) == at % PARTS;
+    if own && pointer_in(pointers, home) == pointer {
+        marks[at] = Mark::Home;
+    } else if own && is_home_free(marks, at) {
+        put_pointer(pointers, home, pointer);
+        marks[at] = Mark::Home;
+    } else {
+        let slot = marks.len() / PARTS + 1 + at;
+        put_pointer(pointers, slot, pointer);
+        marks[at] = Mark::Stray(part);
+    }
+}
+
+/// Puts a cell.
+fn put_cell(marks: &mut [Mark], pointers: &mut Vec<Ptr>, at: usize, cell: Cell)
+    requires within { at < length marks.old }
+    requires room { homes_of (length marks.old) + length marks.old ≤ vec_capacity pointers.old }
+    ensures cells { cells_kept marks.new pointers.new.items ≡ slice_set (cells_kept marks.old pointers.old.items) at cell }
+    ensures capacity { vec_capacity pointers.new ≡ vec_capacity pointers.old }
+{
+    match cell {
+        Cell::Empty => marks[at] = Mark::Unwritten,
+        Cell::Byte(byte) => marks[at] = Mark::Number(byte),
+        Cell::Part(pointer, part) => put_part(marks, pointers, at, pointer, part),
+    }
+}
+
+impl Cells {
+    /// So many cells that were never written.
+    pub(crate) fn new(alloc: Global, size: usize) -> Result<Cells, AllocError>
+        ensures { IfOk result (λ cells. cells ≡ replicate size Empty) }
+    {
+        let mut marks = Vec::new(alloc);
+        marks.resize(size, Mark::Unwritten)?;
+        let pointers = Vec::with_capacity(alloc, size / PARTS + 1 + size)?;
+        Ok(Cells { marks, pointers })
+    }
+
+    /// No cells. Takes no memory.
+    pub(crate) fn none(alloc: Global) -> Cells
+        ensures { result ≡ [] }
+    {
+        Cells {
+            marks: Vec::new(alloc),
+            pointers: Vec::new(alloc),
+        }
+    }
+
+    /// How many cells there are.
+    pub(crate) fn len(&self) -> usize
+        ensures { result ≡ length self.now }
+    {
+        self.marks.len()
+    }
+
+    /// What a cell holds.
+    pub(crate) fn get(&self, at: usize) -> Cell
+        requires { at < length self.now }
+        ensures { slice_get self.now at ≡ Some result }
+    {
+        let homes = self.marks.len() / PARTS + 1;
+        match self.marks[at] {
+            Mark::Unwritten => Cell::Empty,
+            Mark::Number(byte) => Cell::Byte(byte),
+            Mark::Home => Cell::Part(pointer_in(&self.pointers, at / PARTS), (at % PARTS) as u8),
+            Mark::Stray(part) => Cell::Part(pointer_in(&self.pointers, homes + at), part),
+        }
+    }
+
+    /// Writes a cell. Takes no memory.
+    pub(crate) fn set(&mut self, at: usize, cell: Cell)
+        requires { at < length self.old }
+        ensures { self.new ≡ slice_set self.old at cell }
+    {
+        put_cell(&mut self.marks, &mut self.pointers, at, cell);
+    }
+}

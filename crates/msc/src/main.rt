@@ -1,0 +1,37 @@
+//! The compiler as a program: adapters to the system round the top call.
+#![tactic(auto)]
+
+use bk_io::host::{HostFiles, HostSink, HostSource};
+use msc_cli::outcome::exit_code;
+use msc_cli::top::msc_main;
+use std::process::ExitCode;
+use std::{env, io};
+
+/// The status where there is no memory for the words or the adapters.
+const NO_MEMORY: u8 = 71;
+
+fn main(rt: HostRuntime) -> ExitCode {
+    match run(&rt) {
+        Ok(status) => ExitCode::from(status),
+        Err(_) => ExitCode::from(NO_MEMORY),
+    }
+}
+
+/// Makes the adapters, and hands the words to the top call.
+fn run(rt: &HostRuntime) -> io::Result<u8> {
+    let alloc = rt.alloc();
+    let words: Vec<String> = env::args(rt)?.collect(alloc)?;
+    let mut files = HostFiles::new(alloc, rt.clone()?)?;
+    let mut input = HostSource::new(alloc, rt.reader())?;
+    let mut out = HostSink::new(alloc, rt.stdout())?;
+    let mut err = HostSink::new(alloc, rt.stderr())?;
+    let outcome = msc_main(
+        alloc,
+        words.as_slice(),
+        &mut files,
+        &mut input,
+        &mut out,
+        &mut err,
+    );
+    Ok(exit_code(&outcome))
+}

@@ -1,0 +1,13 @@
+pub mod Compile
+pub mod Fronts
+pub mod ImageFaults
+pub mod ImageFronts
+pub mod ImageLaws
+pub mod Numbers
+pub mod RunImages
+pub mod SmallRun
+pub mod SmallSame
+pub mod SmallSteps
+pub mod Steps
+pub mod Units
+pub mod Whole

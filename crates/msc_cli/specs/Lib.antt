@@ -1,0 +1,11 @@
+pub mod Same
+pub mod SmallImage
+pub mod Output
+pub mod Outcome
+pub mod Request
+pub mod TopCall
+pub mod ImageFault
+pub mod ReadImage
+pub mod Answers
+pub mod RunImage
+pub mod Call

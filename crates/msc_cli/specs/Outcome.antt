@@ -1,0 +1,53 @@
+-- The line that is written for an outcome, and the status of the process.
+use Rattle.std.specs.Prelude.{ℕ, List, [], ◌∷◌, ◌++◌, Option, Some, None, codes, decimal}
+use Rattle.msc_cli.specs.declared.outcome.Outcome.{Outcome}
+use Rattle.msc_cli.specs.declared.outcome.Outcome.TheVariants.{Built, Ran, Trapped, Stuck, Budget, Usage, FileFault, InputFault, WriteFault, Refused, BadImage, NoMemory}
+use Rattle.msc_cli.specs.declared.outcome.SourceFault.TheVariants.{Form}
+
+-- the whole line with its line feed, none where nothing is to be said, or what stands before a number
+abbrev pub words_of : Outcome → List ℕ
+words_of Built = []
+words_of (Ran status) = []
+words_of Usage = codes "msc: usage\n"
+words_of (Refused Form) = codes "msc: form\n"
+words_of FileFault = codes "msc: file\n"
+words_of NoMemory = codes "msc: memory\n"
+words_of WriteFault = codes "msc: write\n"
+words_of InputFault = codes "msc: input\n"
+words_of (Budget steps) = codes "msc: budget "
+words_of (BadImage at) = codes "msc: image at "
+words_of (Trapped code) = codes "msc: trap "
+words_of (Stuck pc) = codes "msc: stuck at "
+
+-- the number at the end of the line
+abbrev pub number_of : Outcome → Option ℕ
+number_of (Budget steps) = Some steps
+number_of (BadImage at) = Some at
+number_of (Trapped code) = Some code
+number_of (Stuck pc) = Some pc
+number_of _ = None
+
+abbrev pub numbered : List ℕ → ℕ → List ℕ
+numbered words n = words ++ (decimal n ++ 10 ∷ [])
+
+abbrev pub with_number : List ℕ → Option ℕ → List ℕ
+with_number words None = words
+with_number words (Some n) = numbered words n
+
+-- the bytes of the line
+abbrev pub line_of : Outcome → List ℕ
+line_of outcome = with_number (words_of outcome) (number_of outcome)
+
+abbrev pub status_of : Outcome → ℕ
+status_of Built = 0
+status_of (Ran status) = status
+status_of Usage = 64
+status_of (Refused fault) = 65
+status_of FileFault = 66
+status_of NoMemory = 71
+status_of WriteFault = 73
+status_of InputFault = 74
+status_of (Budget steps) = 75
+status_of (BadImage at) = 76
+status_of (Trapped code) = 134
+status_of (Stuck pc) = 139

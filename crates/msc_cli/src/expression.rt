@@ -1,0 +1,57 @@
+//! Expressions over numbers: sums of terms, terms of factors, and `~` and brackets.
+//!
+//! Operators group to the left, so a chain of them is a loop. Only `(` and `~` recurse.
+
+ghost use Rattle.std.specs.Prelude.{◌≡◌};
+ghost use Rattle.c_mean.specs.SmallModel.{values};
+ghost use Rattle.c_mean.specs.SmallModel as model;
+ghost use Rattle.msc_cli.specs.Answers.{Answers};
+
+use crate::cursor::Cursor;
+
+/// Reads an expression in which `(` and `~` nest so deep at most (C99 6.5.6).
+#[cycle(expression)]
+pub fn expression(text: &mut Cursor<'_>, nesting: usize) -> Option<i32>
+    ensures { Answers (model.expression values (model.factor values nesting) text.old) result text.new }
+{
+    let mut sum = term(text, nesting)?;
+    loop {
+        if text.eat(b'+') {
+            sum = sum.wrapping_add(term(text, nesting)?);
+        } else if text.eat(b'-') {
+            sum = sum.wrapping_sub(term(text, nesting)?);
+        } else {
+            return Some(sum);
+        }
+    }
+}
+
+/// Reads factors with `*` between them (C99 6.5.5).
+#[cycle(expression)]
+fn term(text: &mut Cursor<'_>, nesting: usize) -> Option<i32>
+    ensures { Answers (model.term values (model.factor values nesting) text.old) result text.new }
+{
+    let mut product = factor(text, nesting)?;
+    while text.eat(b'*') {
+        product = product.wrapping_mul(factor(text, nesting)?);
+    }
+    Some(product)
+}
+
+/// Reads a number, brackets, or `~` and a factor (C99 6.5.1, 6.5.3.3).
+#[cycle(expression)]
+fn factor(text: &mut Cursor<'_>, nesting: usize) -> Option<i32>
+    ensures { Answers (model.factor values nesting text.old) result text.new }
+{
+    if nesting == 0 {
+        return text.number();
+    }
+    if text.eat(b'~') {
+        return Some(!factor(text, nesting - 1)?);
+    }
+    if text.eat(b'(') {
+        let inner = expression(text, nesting - 1)?;
+        return if text.eat(b')') { Some(inner) } else { None };
+    }
+    text.number()
+}

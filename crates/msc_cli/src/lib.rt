@@ -1,0 +1,18 @@
+//! The top call of the compiler: its words, its outcomes, and what each command writes.
+#![tactic(auto)]
+
+pub mod build;
+mod cursor;
+mod expression;
+pub mod image_format;
+pub mod laws;
+pub mod outcome;
+pub mod output;
+pub mod read_image;
+pub mod read_small;
+pub mod request;
+pub mod run;
+pub mod small_image;
+#[cfg(test)]
+mod tests;
+pub mod top;

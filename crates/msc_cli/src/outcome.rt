@@ -1,0 +1,123 @@
+//! How a call of the compiler ends: its outcome, the line that it writes, and the status of the process.
+
+ghost use Rattle.std.specs.Prelude.{◌≡◌, ◌≤◌, OnOk, OnErr};
+ghost use Rattle.bk_io.specs.Outside.{Rose};
+ghost use Rattle.msc_cli.specs.Outcome.{line_of, words_of, number_of, numbered, status_of};
+ghost use Rattle.msc_cli.specs.Output.{appended, TookFront, TookUnlessFault};
+
+use crate::output::{put_all, put_three};
+use bk_io::outside::{Failed, Sink};
+use itoa::Buffer;
+use thiserror::Error;
+
+/// Why a C text was refused.
+#[derive(Clone, Copy, Debug, PartialEq, Eq, Error)]
+pub enum SourceFault {
+    /// The text is not of the small form.
+    #[error("the text is not of the small form")]
+    Form,
+}
+
+/// How a call of the compiler ended.
+#[derive(Clone, Copy, Debug, PartialEq, Eq)]
+pub enum Outcome {
+    /// The image was written.
+    Built,
+    /// The program ended with a status.
+    Ran { status: u8 },
+    /// The program trapped with a code.
+    Trapped { code: u64 },
+    /// There is nothing that the machine can do at this address.
+    Stuck { pc: u64 },
+    /// The program is not at its end after so many steps.
+    Budget { steps: u64 },
+    /// The words are none that the compiler takes.
+    Usage,
+    /// The file could not be read.
+    FileFault,
+    /// The input could not be read.
+    InputFault,
+    /// The output could not be written.
+    WriteFault,
+    /// The text is no program.
+    Refused(SourceFault),
+    /// The bytes are no image. They stop being one at this place, in bytes.
+    BadImage { at: u64 },
+    /// There was no memory.
+    NoMemory,
+}
+
+/// The status of the process for an outcome.
+pub fn exit_code(outcome: &Outcome) -> u8
+    ensures { result ≡ status_of outcome.now }
+{
+    match outcome {
+        Outcome::Built => 0,
+        Outcome::Ran { status } => *status,
+        Outcome::Usage => 64,
+        Outcome::Refused(_) => 65,
+        Outcome::FileFault => 66,
+        Outcome::NoMemory => 71,
+        Outcome::WriteFault => 73,
+        Outcome::InputFault => 74,
+        Outcome::Budget { .. } => 75,
+        Outcome::BadImage { .. } => 76,
+        Outcome::Trapped { .. } => 134,
+        Outcome::Stuck { .. } => 139,
+    }
+}
+
+/// Puts the line of an outcome, which takes no memory. A failed put ends the line there.
+pub fn put_line<S: Sink>(sink: &mut S, outcome: &Outcome)
+    ensures line { TookUnlessFault (line_of outcome.now) (S.taken sink.old) (S.taken sink.new) (S.faults sink.old) (S.faults sink.new) }
+    ensures kept { S.faults sink.old ≤ S.faults sink.new }
+{
+    let said = said(outcome).as_bytes();
+    let _ended = match number(outcome) {
+        None => put_all(sink, said),
+        Some(n) => put_numbered(sink, said, n),
+    };
+}
+
+/// Puts words, a number and a line feed.
+fn put_numbered<S: Sink>(sink: &mut S, said: &[u8], n: u64) -> Result<(), Failed>
+    ensures ok { OnOk result (S.taken sink.new ≡ appended (numbered said.now n) (S.taken sink.old)) }
+    ensures err { OnErr result (TookFront (numbered said.now n) (S.taken sink.old) (S.taken sink.new)) }
+    ensures failed { OnErr result (Rose (S.faults sink.old) (S.faults sink.new)) }
+    ensures kept { S.faults sink.old ≤ S.faults sink.new }
+{
+    let mut buffer = Buffer::new();
+    put_three(sink, said, buffer.format(n).as_bytes(), b"\n")
+}
+
+/// What is said of an outcome: its whole line, or what stands before its number.
+fn said(outcome: &Outcome) -> &'static str
+    ensures { result.now ≡ words_of outcome.now }
+{
+    match outcome {
+        Outcome::Built | Outcome::Ran { .. } => "",
+        Outcome::Usage => "msc: usage\n",
+        Outcome::Refused(SourceFault::Form) => "msc: form\n",
+        Outcome::FileFault => "msc: file\n",
+        Outcome::NoMemory => "msc: memory\n",
+        Outcome::WriteFault => "msc: write\n",
+        Outcome::InputFault => "msc: input\n",
+        Outcome::Budget { .. } => "msc: budget ",
+        Outcome::BadImage { .. } => "msc: image at ",
+        Outcome::Trapped { .. } => "msc: trap ",
+        Outcome::Stuck { .. } => "msc: stuck at ",
+    }
+}
+
+/// The number at the end of an outcome's line.
+fn number(outcome: &Outcome) -> Option<u64>
+    ensures { result ≡ number_of outcome.now }
+{
+    match outcome {
+        Outcome::Trapped { code } => Some(*code),
+        Outcome::Stuck { pc } => Some(*pc),
+        Outcome::Budget { steps } => Some(*steps),
+        Outcome::BadImage { at } => Some(*at),
+        _ => None,
+    }
+}

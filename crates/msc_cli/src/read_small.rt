@@ -1,0 +1,102 @@
+//! Reads a text of the small form, and computes what its program does.
+
+ghost use Rattle.std.specs.Prelude.{◌≡◌, IfOk, IsErrOf, OnOk, OnErr, []};
+ghost use Rattle.c_mean.specs.Small.{SmallUnit, IsSmall, written_by, status_of};
+ghost use Rattle.c_mean.specs.SmallModel.{values};
+ghost use Rattle.c_mean.specs.SmallModel as model;
+
+use crate::cursor::Cursor;
+use crate::expression::expression;
+use std::alloc::Global;
+use thiserror::Error;
+
+/// How long a text may be, in bytes.
+const MOST_TEXT: usize = 4096;
+
+/// How deep `(` and `~` may nest in an expression.
+const MOST_NESTING: usize = 64;
+
+/// What a small program does: the bytes that it puts, in order, and its status.
+#[derive(Debug, Drop)]
+pub struct Small {
+    pub puts: Vec<u8>,
+    pub status: u8,
+}
+
+/// Why a text was not read.
+#[derive(Clone, Copy, Debug, PartialEq, Eq, Error)]
+pub enum ReadFault {
+    /// The text is not of the small form.
+    #[error("the text is not of the small form")]
+    Form,
+    /// There was no memory for the bytes that the program puts.
+    #[error("there was no memory")]
+    NoMemory,
+}
+
+/// Reads a text, and computes the values of its expressions.
+pub fn read_small(alloc: Global, text: &[u8]) -> Result<Small, ReadFault>
+    ensures found { IfOk result (λ small. (u : SmallUnit) × IsSmall text.now u × (small.puts.items ≡ written_by u) × (small.status ≡ status_of u)) }
+    ensures form { IsErrOf result ReadFault.Form → (u : SmallUnit) → IsSmall text.now u → ⊥ }
+{
+    if text.len() > MOST_TEXT {
+        return Err(ReadFault::Form);
+    }
+    read_unit(alloc, &mut Cursor::new(text))
+}
+
+/// Reads a text however long it is.
+#[tactic(auto, unfolding(c_mean::specs::SmallModel::body))]
+fn read_unit(alloc: Global, text: &mut Cursor<'_>) -> Result<Small, ReadFault>
+    ensures found { IfOk result (λ small. model.body values text.old ≡ Some ((small.puts.items, small.status), text.new)) }
+    ensures form { IsErrOf result ReadFault.Form → model.body values text.old ≡ None }
+{
+    expect(text, b"int main(void){")?;
+    let puts = read_puts(alloc, text)?;
+    expect(text, b"return ")?;
+    let status = low_byte(text)?;
+    expect(text, b";}")?;
+    if !text.is_at_end() {
+        return Err(ReadFault::Form);
+    }
+    Ok(Small { puts, status })
+}
+
+/// Reads calls of `putchar`, as many as there are, and gives the bytes that they put.
+fn read_puts(alloc: Global, text: &mut Cursor<'_>) -> Result<Vec<u8>, ReadFault>
+    ensures found { IfOk result (λ puts. model.puts values [] text.old ≡ Some (puts.items, text.new)) }
+    ensures form { IsErrOf result ReadFault.Form → model.puts values [] text.old ≡ None }
+{
+    let mut puts = Vec::new(alloc);
+    while text.skip(b"putchar(") {
+        let byte = low_byte(text)?;
+        expect(text, b");")?;
+        puts.push(byte).map_err(|_| ReadFault::NoMemory)?;
+    }
+    Ok(puts)
+}
+
+/// Reads an expression, and gives its value modulo 256.
+fn low_byte(text: &mut Cursor<'_>) -> Result<u8, ReadFault>
+    ensures found { IfOk result (λ byte. model.whole_expression values text.old ≡ Some (byte, text.new)) }
+    ensures form { OnErr result (model.whole_expression values text.old ≡ None) }
+{
+    let value = expression(text, MOST_NESTING).ok_or(ReadFault::Form)?;
+    Ok((value.cast_unsigned() % 256) as u8)
+}
+
+/// Reads the word.
+#[tactic(auto, unfolding(c_mean::specs::SmallModel::word))]
+fn expect(text: &mut Cursor<'_>, word: &[u8]) -> Result<(), ReadFault>
+    ensures found { OnOk result (model.word word.now text.old ≡ Some (tt, text.new)) }
+    ensures form { OnErr result (model.word word.now text.old ≡ None) }
+{
+    if text.skip(word) {
+        Ok(())
+    } else {
+        Err(ReadFault::Form)
+    }
+}
+
+#[cfg(test)]
+mod tests;

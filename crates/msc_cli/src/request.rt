@@ -1,0 +1,56 @@
+//! The words of a call.
+
+ghost use Rattle.std.specs.Prelude.{◌≡◌, List, None, Some, MatchOption, map, string_bytes};
+ghost use Rattle.msc_cli.specs.Request.{command_at, is_option, requested};
+
+/// What is asked for.
+#[derive(Clone, Copy, Debug, PartialEq, Eq)]
+pub enum Command {
+    /// To compile a C file, and write its image.
+    Build,
+    /// To compile a C file, and run its image.
+    Run,
+    /// To read an image, and run it.
+    Exec,
+}
+
+/// A command and the name of its file.
+#[derive(Clone, Copy, Debug, PartialEq, Eq)]
+pub struct Request<'a> {
+    pub command: Command,
+    pub file: &'a str,
+}
+
+/// The request of the words: the program's name, a command, and a file that does not begin with `-`.
+/// `None` comes exactly where the words are not so.
+pub fn read_words(words: &[String]) -> Option<Request<'_>>
+    ensures { MatchOption result (requested (map string_bytes words.now) ≡ None) (λ r. requested (map string_bytes words.now) ≡ Some (r.command, r.file.now)) }
+{
+    let [_program, command, file] = words else {
+        return None;
+    };
+    let command = command_of(command.as_str())?;
+    let file = file.as_str();
+    if begins_as_option(file) {
+        return None;
+    }
+    Some(Request { command, file })
+}
+
+fn command_of(word: &str) -> Option<Command>
+    ensures { result ≡ command_at word.now }
+{
+    match word {
+        "build" => Some(Command::Build),
+        "run" => Some(Command::Run),
+        "exec" => Some(Command::Exec),
+        _ => None,
+    }
+}
+
+/// Whether a word begins with `-`.
+fn begins_as_option(word: &str) -> bool
+    ensures { result ≡ is_option word.now }
+{
+    word.as_bytes().first() == Some(&b'-')
+}
