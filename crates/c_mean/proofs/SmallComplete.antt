@@ -75,7 +75,7 @@ module _ {V B : Type 0} (making : Making V B) where
   unfolding factor brackets
   brackets_rule d a x h r end =
       let e : expression making (factor making d) ((a ++ 41 ∷ []) ++ r) ≡ Some (made making x, 41 ∷ r) =
-          ap (expression making (factor making d)) (append_assoc a (41 ∷ []) r) ∙ h (41 ∷ r) refl refl ∙ sums_end making d (made making x) (41 ∷ r) refl refl in
+      ap (expression making (factor making d)) (append_assoc a (41 ∷ []) r) ∙ h (41 ∷ r) refl refl ∙ sums_end making d (made making x) (41 ∷ r) refl refl in
       rw e refl
 
   mutual

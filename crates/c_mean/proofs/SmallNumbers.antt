@@ -84,9 +84,9 @@ number_sound ts p q =
     let lead : get_or (first.0 ∷ g.0) 0 0 ≡ 48 → length (first.0 ∷ g.0) ≡ 1 = λ (e : first.0 ≡ 48). ap suc (alone g.0 p.1 g.2 (subst (λ r. is_some (digit r) ≡ false) g.1 (no_more s.0.0 (is_some (digit s.0.1)) (omega arith) fine))) in
     let printed : decimal (read_on 0 (first.0 ∷ g.0)) ≡ first.0 ∷ g.0 = decimal-digits_value own (first.0 ∷ g.0) all (omega arith) lead (omega arith) in
     (first.1 ∙ ap (λ r. first.0 ∷ r) g.1 ∙ ap (λ ds. ds ++ p.1) (sym printed ∙ ap decimal value), g.4))
-    where
-      no_more : (n : ℕ) (b : Bool) → n ≡ 0 → (eqb n 0 && b) ≡ false → b ≡ false
-      no_more n b e h = rw (eq-eqb n 0 e) at h
+  where
+    no_more : (n : ℕ) (b : Bool) → n ≡ 0 → (eqb n 0 && b) ≡ false → b ≡ false
+    no_more n b e h = rw (eq-eqb n 0 e) at h
 
 -- ---- what is printed is read
 

@@ -36,17 +36,26 @@ module _ {V B : Type 0} (making : Making V B) where
 
   more_product : (d : ℕ) (a : List ℕ) (x : V) (b : ℕ) (f : V → V → V) (c : List ℕ) (y : V) → MakesTerm d a x → product_by making b ≡ Some f → MakesFactor d c y → MakesTerm d (a ++ b ∷ c) (f x y)
   more_product d a x b f c y h is g = pick (eqb b 42) (Some (making.product)) None (Some f) is
-      (λ yes w. (Product h.0 g.0, subst (λ b. IsTerm d (a ++ b ∷ c) (Product h.0 g.0)) (sym (eqb-true b 42 yes)) (IsTerm.times a c h.0 g.0 h.1 g.1),
-      ap (λ v. making.product v (made g.0)) h.2 ∙ ap (making.product x) g.2 ∙ ap (λ k. k x y) (same_some w)))
+      (λ yes w. (
+        Product h.0 g.0,
+        subst (λ b. IsTerm d (a ++ b ∷ c) (Product h.0 g.0)) (sym (eqb-true b 42 yes)) (IsTerm.times a c h.0 g.0 h.1 g.1),
+        ap (λ v. making.product v (made g.0)) h.2 ∙ ap (making.product x) g.2 ∙ ap (λ k. k x y) (same_some w),
+      ))
       (λ no w. no_some w)
 
   more_sum : (d : ℕ) (a : List ℕ) (x : V) (b : ℕ) (f : V → V → V) (c : List ℕ) (y : V) → MakesExpression d a x → sum_by making b ≡ Some f → MakesTerm d c y → MakesExpression d (a ++ b ∷ c) (f x y)
   more_sum d a x b f c y h is g = pick (eqb b 43) (Some (making.sum)) (cond (eqb b 45) (Some (making.difference)) None) (Some f) is
-      (λ yes w. (Sum h.0 g.0, subst (λ b. IsExpression d (a ++ b ∷ c) (Sum h.0 g.0)) (sym (eqb-true b 43 yes)) (IsExpression.plus a c h.0 g.0 h.1 g.1),
-      ap (λ v. making.sum v (made g.0)) h.2 ∙ ap (making.sum x) g.2 ∙ ap (λ k. k x y) (same_some w)))
+      (λ yes w. (
+        Sum h.0 g.0,
+        subst (λ b. IsExpression d (a ++ b ∷ c) (Sum h.0 g.0)) (sym (eqb-true b 43 yes)) (IsExpression.plus a c h.0 g.0 h.1 g.1),
+        ap (λ v. making.sum v (made g.0)) h.2 ∙ ap (making.sum x) g.2 ∙ ap (λ k. k x y) (same_some w),
+      ))
       (λ no u. pick (eqb b 45) (Some (making.difference)) None (Some f) u
-      (λ yes w. (Difference h.0 g.0, subst (λ b. IsExpression d (a ++ b ∷ c) (Difference h.0 g.0)) (sym (eqb-true b 45 yes)) (IsExpression.minus a c h.0 g.0 h.1 g.1),
-      ap (λ v. making.difference v (made g.0)) h.2 ∙ ap (making.difference x) g.2 ∙ ap (λ k. k x y) (same_some w)))
+      (λ yes w. (
+        Difference h.0 g.0,
+        subst (λ b. IsExpression d (a ++ b ∷ c) (Difference h.0 g.0)) (sym (eqb-true b 45 yes)) (IsExpression.minus a c h.0 g.0 h.1 g.1),
+        ap (λ v. making.difference v (made g.0)) h.2 ∙ ap (making.difference x) g.2 ∙ ap (λ k. k x y) (same_some w),
+      ))
       (λ other w. no_some w))
 
   term_by_sound : (d : ℕ) (f : List ℕ → Outcome V) → Sound MakesFactor d f → Sound MakesTerm d (term making f)
@@ -77,9 +86,11 @@ module _ {V B : Type 0} (making : Making V B) where
       let s = bind_some (expression making f ts) (λ x r. cond (begins 41 r) (Some (x, behind r)) None) p q in
       let a = expression_by_sound d f sound ts s.0 s.1 in
       pick (begins 41 s.0.1) (Some (s.0.0, behind s.0.1)) None (Some p) s.2
-      (λ yes w. subst (λ (p : V × List ℕ). Takes (40 ∷ ts) p.1 (λ a. MakesFactor (suc d) a p.0)) (same_some w)
-      (40 ∷ (a.0 ++ 41 ∷ []), ap (λ r. 40 ∷ r) (a.1 ∙ ap (λ r. a.0 ++ r) (begins_is 41 s.0.1 yes) ∙ sym (append_assoc a.0 (41 ∷ []) (behind s.0.1))),
-      (a.2.0, IsFactor.brackets a.0 a.2.0 a.2.1, a.2.2)))
+      (λ yes w. subst (λ (p : V × List ℕ). Takes (40 ∷ ts) p.1 (λ a. MakesFactor (suc d) a p.0)) (same_some w) (
+        40 ∷ (a.0 ++ 41 ∷ []),
+        ap (λ r. 40 ∷ r) (a.1 ∙ ap (λ r. a.0 ++ r) (begins_is 41 s.0.1 yes) ∙ sym (append_assoc a.0 (41 ∷ []) (behind s.0.1))),
+        (a.2.0, IsFactor.brackets a.0 a.2.0 a.2.1, a.2.2),
+      ))
       (λ no w. no_some w)
 
   pub factor_sound : (d : ℕ) → Sound MakesFactor d (factor making d)

@@ -65,13 +65,17 @@ module _ {V B : Type 0} (making : Making V B) where
       let t = bind_some (word (codes ");") s.0.1) (λ _. puts_by making j (found ++ s.0.0 ∷ [])) p s.2 in
       let k = word_sound (codes ");") s.0.1 t.0 t.1 in
       let m = puts_by_sound j (found ++ s.0.0 ∷ []) t.0.1 p t.2 in
-      let made_so : p.0 ≡ found ++ (whole_of g.1 ∷ map whole_of m.1) = m.4 ∙ append_assoc found (s.0.0 ∷ []) (map whole_of m.1) ∙ ap (λ x. found ++ (x ∷ map whole_of m.1)) g.4 in
-      (codes "putchar(" ++ (g.0 ++ (codes ");" ++ m.0)), g.1 ∷ m.1,
-      joined ts g.0 s.0.1 t.0.1 m.0 p.1 (starts_sound ts (codes "putchar(") yes) g.2 k m.2, ArePuts.put g.0 m.0 g.1 m.1 g.3 m.3, made_so))
+      let made_so : p.0 ≡ found ++ (whole_of g.1 ∷ map whole_of m.1) = m.4 ∙ append_assoc found (s.0.0 ∷ []) (map whole_of m.1) ∙ ap (λ x. found ++ (x ∷ map whole_of m.1)) g.4 in (
+        codes "putchar(" ++ (g.0 ++ (codes ");" ++ m.0)),
+        g.1 ∷ m.1,
+        joined ts g.0 s.0.1 t.0.1 m.0 p.1 (starts_sound ts (codes "putchar(") yes) g.2 k m.2,
+        ArePuts.put g.0 m.0 g.1 m.1 g.3 m.3,
+        made_so,
+      ))
       (λ other w. no_puts found ts p w)
-      where
-        joined : (ts a r b c e : List ℕ) → ts ≡ codes "putchar(" ++ drop 8 ts → drop 8 ts ≡ a ++ r → r ≡ codes ");" ++ b → b ≡ c ++ e → ts ≡ (codes "putchar(" ++ (a ++ (codes ");" ++ c))) ++ e
-        joined ts a r b c e w x y z = w ∙ ap (λ u. codes "putchar(" ++ u) (x ∙ ap (λ u. a ++ u) (y ∙ ap (λ u. codes ");" ++ u) z) ∙ sym (append_assoc a (codes ");" ++ c) e))
+    where
+      joined : (ts a r b c e : List ℕ) → ts ≡ codes "putchar(" ++ drop 8 ts → drop 8 ts ≡ a ++ r → r ≡ codes ");" ++ b → b ≡ c ++ e → ts ≡ (codes "putchar(" ++ (a ++ (codes ");" ++ c))) ++ e
+      joined ts a r b c e w x y z = w ∙ ap (λ u. codes "putchar(" ++ u) (x ∙ ap (λ u. a ++ u) (y ∙ ap (λ u. codes ");" ++ u) z) ∙ sym (append_assoc a (codes ");" ++ c) e))
 
   -- the test is false where something else begins; the loop ends there
   puts_end : (j : ℕ) (found : List B) (r : List ℕ) → starts_with nat_eq r (codes "putchar(") ≡ false → puts_by making j found r ≡ Some (found, r)
@@ -154,11 +158,21 @@ module _ {V B : Type 0} (making : Making V B) where
   body_sound ts p within q =
       let h = bind_some (word (codes "int main(void){") ts) (λ _ a. and_then (puts making [] a) (λ xs b. and_then (word (codes "return ") b) (λ _ c. and_then (whole_expression making c) (close xs)))) p q in
       let a = word_sound (codes "int main(void){") ts h.0 h.1 in
-      let g = front_sound h.0.1 p h.2 in
-      (record { puts = g.1; status = g.5.tree },
-      record { puts = g.0; result = g.5.result; end = g.5.end; within = within; are_puts = g.4; is_result = g.5.is; ends = g.5.ends;
-        whole = a ∙ ap (λ r. codes "int main(void){" ++ r) (g.3 ∙ ap (λ r. g.0 ++ (codes "return " ++ r)) g.5.whole) },
-      ap (λ (p : (List B × B) × List ℕ). p.0.0) g.5.gives, ap (λ (p : (List B × B) × List ℕ). p.0.1) g.5.gives)
+      let g = front_sound h.0.1 p h.2 in (
+        record { puts = g.1; status = g.5.tree },
+        record {
+          puts = g.0;
+          result = g.5.result;
+          end = g.5.end;
+          within = within;
+          are_puts = g.4;
+          is_result = g.5.is;
+          ends = g.5.ends;
+          whole = a ∙ ap (λ r. codes "int main(void){" ++ r) (g.3 ∙ ap (λ r. g.0 ++ (codes "return " ++ r)) g.5.whole);
+        },
+        ap (λ (p : (List B × B) × List ℕ). p.0.0) g.5.gives,
+        ap (λ (p : (List B × B) × List ℕ). p.0.1) g.5.gives,
+      )
 
   pub body_complete : (ts : List ℕ) (u : SmallUnit) → IsSmall ts u → (e : List ℕ) × (body making ts ≡ Some ((map whole_of u.puts, whole_of u.status), e))
   unfolding body puts

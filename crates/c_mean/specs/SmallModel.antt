@@ -27,7 +27,7 @@ values = record {
   sum = λ x y. int_wrap w32 (x +ℤ y);
   difference = λ x y. int_wrap w32 (x -ℤ y);
   product = λ x y. int_wrap w32 (x *ℤ y);
-  whole = λ x. cast_unsigned w32 x % 256
+  whole = λ x. cast_unsigned w32 x % 256;
 }
 
 abbrev pub Outcome : Type 0 → Type 0
