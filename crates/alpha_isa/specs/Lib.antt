@@ -7,3 +7,4 @@ pub mod State
 pub mod Step
 pub mod Behave
 pub mod ImageFormat
+pub mod Laws

@@ -6,6 +6,7 @@ use Rattle.alpha_isa.specs.Step.{Halt, Next, Goes, Over, step, go_on, exec}
 use Rattle.alpha_isa.specs.Step as step
 use Rattle.alpha_isa.specs.Behave.{start, behaviour}
 use Rattle.alpha_isa.specs.Behave as behave
+use Rattle.alpha_isa.proofs.Runs.{exec_split}
 use Rattle.bk_io.specs.Outside.{next_count}
 use Rattle.alpha_run.specs.declared.ending.Ending.{Ending}
 use Rattle.alpha_run.specs.declared.ending.Ending.TheVariants.{Done, Trap, Stuck, Budget, InputFault, WriteFault}
@@ -69,19 +70,8 @@ ran_from p n e s t old new told after k steps takes put stops i a puts machine l
 
 -- ---- one run after another
 
-exec_on_from : (p : Program) (k n : ℕ) (t : State) → ((u : State) → exec p k u ≡ Goes t → exec p (k + n) u ≡ exec p n t) → (r : Next) → go_on r (exec p k) ≡ Goes t → go_on r (exec p (k + n)) ≡ exec p n t
-exec_on_from p k n t ih (Goes u) e = ih u e
-exec_on_from p k n t ih (Over h u) e = cc
-
 pub exec_on : (p : Program) (k n : ℕ) (s t : State) → exec p k s ≡ Goes t → exec p (k + n) s ≡ exec p n t
-unfolding exec
-exec_on p zero n s t e =
-    let same : s ≡ t = cc in
-    let none : 0 + n ≡ n = omega arith in
-    ap (λ j. exec p j s) none ∙ ap (exec p n) same
-exec_on p (suc k) n s t e =
-    let more : suc k + n ≡ suc (k + n) = omega arith in
-    ap (λ j. exec p j s) more ∙ exec_on_from p k n t (λ u f. exec_on p k n u t f) (step p s) e
+exec_on p k n s t e = exec_split p k n s ∙ ap (λ r. go_on r (exec p n)) e
 
 steps_on_from : (p : Program) (k n : ℕ) (t : State) → ((u : State) → exec p k u ≡ Goes t → steps_in p (k + n) u ≡ steps_in p k u + steps_in p n t) → (r : Next) → go_on r (exec p k) ≡ Goes t → steps_then r (steps_in p (k + n)) ≡ steps_then r (steps_in p k) + steps_in p n t
 steps_on_from p k n t ih (Goes u) e = omega (arith, ih u e)

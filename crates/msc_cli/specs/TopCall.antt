@@ -1,7 +1,8 @@
 -- What the top call answers, and what it writes.
 use Rattle.std.specs.Prelude.{◌≡◌, ℕ, ◌<◌, ◌≤◌, ◌⊎◌, List, length, take, Option, IfSome, option_map}
 use Rattle.bk_io.specs.Shelf.{Shelf, file_of}
-use Rattle.c_mean.specs.Small.{SmallUnit, IsSmall, meaning}
+use Rattle.c_mean.specs.Behaviour.{Done}
+use Rattle.c_mean.specs.Small.{SmallUnit, IsSmall, behave_c, meaning}
 use Rattle.alpha_isa.specs.Program.{Program, IsLawful}
 use Rattle.alpha_isa.specs.Behave.{IsStack}
 use Rattle.alpha_isa.specs.ImageFormat.{spelled}
@@ -19,6 +20,10 @@ pub record IsCompiled (text : List ℕ) (p : Program) : Type 0 where
   pub unit : SmallUnit
   pub reads : IsSmall text unit
   pub same : (stack : ℕ) → IsStack stack → Same (meaning unit) p stack
+
+-- the text is a program that ends with this output and status on the input
+abbrev pub DoesAlike : List ℕ → List ℕ → List ℕ → ℕ → Type 0
+DoesAlike text input output status = (u : SmallUnit) × (n : ℕ) × IsSmall text u × (behave_c u input n ≡ Done output status)
 
 -- the text is no program
 abbrev pub IsRefused : List ℕ → Type 0

@@ -1,10 +1,14 @@
-//! Laws of the image format.
+//! Laws of the image format, and of runs.
 
 ghost use Rattle.std.specs.Prelude.{◌≡◌, List, ℕ, None};
 ghost use Rattle.alpha_isa.specs.Program.{Program};
 ghost use Rattle.alpha_isa.specs.ImageFormat.{IsImage};
 ghost use Rattle.msc_cli.specs.ImageFault.{image_fault};
 ghost use Rattle.msc_cli.specs.ReadImage.{AreWords};
+ghost use Rattle.msc_cli.specs.RunImage.{IsRun};
+ghost use Rattle.msc_cli.specs.TopCall.{IsCompiled, DoesAlike};
+
+use crate::outcome::Outcome;
 
 /// The bytes of an image have no place at which they stop being one.
 pub fn images_have_no_fault()
@@ -14,4 +18,9 @@ pub fn images_have_no_fault()
 /// Bytes are those of at most one image.
 pub fn one_image()
     ensures { (bytes : List ℕ) (p q : Program) → AreWords p.words → AreWords q.words → IsImage bytes p → IsImage bytes q → p ≡ q }
+{}
+
+/// What a run of a compiled text put, and its status, are those of the program.
+pub fn a_run_is_the_program()
+    ensures { (text put input : List ℕ) (p : Program) (status : ℕ) → IsCompiled text p → IsRun p input (Outcome.Ran status) put → DoesAlike text input put status }
 {}

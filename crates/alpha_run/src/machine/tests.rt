@@ -141,7 +141,7 @@ fn stepped(alloc: Global, word: u32, data: [u64; 4]) -> Result<String, AllocErro
 }
 
 #[test]
-fn steps_are_those_of_the_handbook(rt: HostRuntime) -> Result<(), Fail> {
+fn steps_are_those_computed_by_others(rt: HostRuntime) -> Result<(), Fail> {
     for line in STEPS.lines() {
         let (given, left) = line.split_once(" = ").ok_or("a line of two parts")?;
         let mut words = given.split(' ');
