@@ -1,8 +1,8 @@
 -- The steps of the reader's loops, as the model takes them.
-use Rattle.std.proofs.Common.{◌≡◌, ℕ, suc, ltb, ◌+◌, ◌*◌, ◌-◌, ◌%◌, ◌^◌, ◌<◌, FitsSigned, to_z, of_z, true, false, ℤ, pos, negsuc, ◌+ℤ◌, ◌-ℤ◌, ◌*ℤ◌, List, [], ◌∷◌, length, Option, Some, None, refl, sym, ap, ◌∙◌, subst, arith}
+use Rattle.std.proofs.Common.{◌≡◌, ℕ, suc, ltb, ◌-◌, ◌<◌, FitsSigned, to_z, of_z, true, false, ℤ, pos, negsuc, ◌+ℤ◌, ◌-ℤ◌, ◌*ℤ◌, List, [], ◌∷◌, length, Option, Some, None, refl, sym, ap, ◌∙◌, subst, arith}
 use Rattle.std.specs.Int.{w32, int_wrap}
 use Rattle.std.proofs.lemmas.Bool.{le-ltb}
-use Rattle.std.proofs.lemmas.Int.{to_z_pos, wrapping_add_onto, wrapping_sub_onto, wrapping_mul_onto}
+use Rattle.std.proofs.lemmas.Int.{to_z_pos}
 use Rattle.c_mean.specs.Small.{complement}
 use Rattle.c_mean.specs.SmallModel.{Outcome, begins, behind, values, factor, term, expression, products, sums, brackets, number, make_number}
 use Rattle.msc_cli.specs.Answers.{Answers, AnswersNumber}
@@ -59,17 +59,7 @@ module _ (d : ℕ) where
   pub factor_shorter : (byte : ℕ) (ts us : List ℕ) (y : ℤ) (r : List ℕ) → true ≡ begins byte ts → us ≡ behind ts → factor values d us ≡ Some (y, r) → length r < length ts
   factor_shorter byte ts us y r e f g = omega (arith, shorter byte ts e, ap length f, factor_shrinks values d us (y, r) g)
 
--- ---- arithmetic on the code's `int`
-
-pub plus_is : (m : ℕ) (y : ℤ) → m < 2 ^ 32 → FitsSigned w32 y → to_z w32 ((m + of_z w32 y) % 4294967296) ≡ int_wrap w32 (to_z w32 m +ℤ y)
-plus_is m y p f = wrapping_add_onto w32 m y p f
-
-pub minus_is : (m : ℕ) (y : ℤ) → m < 2 ^ 32 → FitsSigned w32 y → to_z w32 ((m + (4294967296 - of_z w32 y)) % 4294967296) ≡ int_wrap w32 (to_z w32 m -ℤ y)
-minus_is m y p f = wrapping_sub_onto w32 m y p f
-
-pub times_is : (m : ℕ) (y : ℤ) → m < 2 ^ 32 → FitsSigned w32 y → to_z w32 ((m * of_z w32 y) % 4294967296) ≡ int_wrap w32 (to_z w32 m *ℤ y)
-times_is m y p f = wrapping_mul_onto w32 m y p f
-
+-- each bit turned, as the code's `!` does it
 pub turned_is : (x : ℤ) → FitsSigned w32 x → to_z w32 (4294967295 - of_z w32 x) ≡ complement x
 turned_is (pos n) f = let high : ltb (4294967295 - n) 2147483648 ≡ false = le-ltb (4294967295 - n) 2147483648 (omega arith) in rw high (ap negsuc (omega arith))
 turned_is (negsuc n) f = to_z_pos w32 (4294967295 - (4294967296 - suc n)) (omega arith) ∙ ap pos (omega arith)

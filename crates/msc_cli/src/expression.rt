@@ -17,9 +17,11 @@ pub fn expression(text: &mut Cursor<'_>, nesting: usize) -> Option<i32>
     let mut sum = term(text, nesting)?;
     loop {
         if text.eat(b'+') {
-            sum = sum.wrapping_add(term(text, nesting)?);
+            let addend = term(text, nesting)?;
+            sum = sum.wrapping_add(addend);
         } else if text.eat(b'-') {
-            sum = sum.wrapping_sub(term(text, nesting)?);
+            let subtrahend = term(text, nesting)?;
+            sum = sum.wrapping_sub(subtrahend);
         } else {
             return Some(sum);
         }
@@ -33,7 +35,8 @@ fn term(text: &mut Cursor<'_>, nesting: usize) -> Option<i32>
 {
     let mut product = factor(text, nesting)?;
     while text.eat(b'*') {
-        product = product.wrapping_mul(factor(text, nesting)?);
+        let multiplier = factor(text, nesting)?;
+        product = product.wrapping_mul(multiplier);
     }
     Some(product)
 }

@@ -1,9 +1,9 @@
 use Rattle.std.proofs.Common.{rules, arith, ◌≡◌, ◌∙◌, ap, sym, subst, Some, w32, FitsSigned, to_z}
 use Rattle.msc_cli.specs.Answers.{AnswersNumber}
-use Rattle.std.proofs.lemmas.Int.{to_z-of_z}
-use Rattle.c_mean.specs.SmallModel.{values, begins, behind, factor, sums, products, number}
+use Rattle.std.proofs.lemmas.Int.{to_z-of_z, wraps}
+use Rattle.c_mean.specs.SmallModel.{values, begins, behind, number}
 use Rattle.c_mean.proofs.SmallComplete.{sums_end, products_end}
-use Rattle.msc_cli.proofs.Steps.{first_term, no_term, first_factor, no_factor, plus_on, plus_refused, minus_on, minus_refused, times_on, times_refused, term_shorter, factor_shorter, plus_is, minus_is, times_is, turned_is, factor_bottom, turned_refused, turned_read, brackets_empty, brackets_read, brackets_open, number_read}
+use Rattle.msc_cli.proofs.Steps.{first_term, no_term, first_factor, no_factor, plus_on, plus_refused, minus_on, minus_refused, times_on, times_refused, term_shorter, factor_shorter, turned_is, factor_bottom, turned_refused, turned_read, brackets_empty, brackets_read, brackets_open, number_read}
 use Rattle.msc_cli.proofs.expression.+expression.Goals as goal
 
 pub expression-returns-in_err-sum : goal.expression-returns-in_err-sum
@@ -12,34 +12,30 @@ expression-returns-in_err-sum t c = search (rules, no_term)
 pub expression-loop-text-init : goal.expression-loop-text-init
 expression-loop-text-init t c = search (rules, first_term)
 
-pub expression-returns-in_err-sum-2 : goal.expression-returns-in_err-sum-2
-expression-returns-in_err-sum-2 t c = search (rules, plus_refused)
+pub expression-returns-in_err-addend : goal.expression-returns-in_err-addend
+expression-returns-in_err-addend t c = search (rules, plus_refused)
 
 pub expression-loop-text-smaller-then-eat : goal.expression-loop-text-smaller-then-eat
-expression-loop-text-smaller-then-eat t c = term_shorter c.args.nesting 43 c.loop-text.text c.eat.new.self c.in_ok-sum-2.field-0 c.term-then-eat.new.text c.if-eat.ensures.found c.if-eat.ensures.rest c.in_ok-sum-2.ensures
+expression-loop-text-smaller-then-eat t c = term_shorter c.args.nesting 43 c.loop-text.text c.eat.new.self c.in_ok-addend.addend c.term-then-eat.new.text c.if-eat.ensures.found c.if-eat.ensures.rest c.in_ok-addend.ensures
 
 pub expression-loop-text-preserved-then-eat : goal.expression-loop-text-preserved-then-eat
 expression-loop-text-preserved-then-eat t c =
-    let fits : FitsSigned w32 (c.in_ok-sum-2.field-0) = search rules in
-    let on = plus_on c.args.nesting (to_z w32 c.loop-text.sum-bits) c.loop-text.text c.eat.new.self c.in_ok-sum-2.field-0 c.term-then-eat.new.text c.if-eat.ensures.found c.if-eat.ensures.rest c.in_ok-sum-2.ensures in
-    let sum = plus_is c.loop-text.sum-bits c.in_ok-sum-2.field-0 (omega arith) fits in
-    c.loop-text.invariant ∙ on ∙ ap (λ z. sums values (factor values c.args.nesting) z c.term-then-eat.new.text) (sym sum)
+    let on = plus_on c.args.nesting c.loop-text.sum c.loop-text.text c.eat.new.self c.in_ok-addend.addend c.term-then-eat.new.text c.if-eat.ensures.found c.if-eat.ensures.rest c.in_ok-addend.ensures in
+    search (rules, on, wraps)
 
-pub expression-returns-in_err-sum-3 : goal.expression-returns-in_err-sum-3
-expression-returns-in_err-sum-3 t c = search (rules, minus_refused)
+pub expression-returns-in_err-subtrahend : goal.expression-returns-in_err-subtrahend
+expression-returns-in_err-subtrahend t c = search (rules, minus_refused)
 
 pub expression-loop-text-smaller : goal.expression-loop-text-smaller
 expression-loop-text-smaller t c =
     let rest : c.eat-else-eat.new.self ≡ behind c.loop-text.text = c.if-eat-2.ensures.rest ∙ ap behind c.if-eat.ensures.rest in
-    term_shorter c.args.nesting 45 c.loop-text.text c.eat-else-eat.new.self c.in_ok-sum-3.field-0 c.term-then-eat-2.new.text (c.if-eat-2.ensures.found ∙ ap (begins 45) c.if-eat.ensures.rest) rest c.in_ok-sum-3.ensures
+    term_shorter c.args.nesting 45 c.loop-text.text c.eat-else-eat.new.self c.in_ok-subtrahend.subtrahend c.term-then-eat-2.new.text (c.if-eat-2.ensures.found ∙ ap (begins 45) c.if-eat.ensures.rest) rest c.in_ok-subtrahend.ensures
 
 pub expression-loop-text-preserved : goal.expression-loop-text-preserved
 expression-loop-text-preserved t c =
-    let fits : FitsSigned w32 (c.in_ok-sum-3.field-0) = search rules in
     let rest : c.eat-else-eat.new.self ≡ behind c.loop-text.text = c.if-eat-2.ensures.rest ∙ ap behind c.if-eat.ensures.rest in
-    let on = minus_on c.args.nesting (to_z w32 c.loop-text.sum-bits) c.loop-text.text c.eat-else-eat.new.self c.in_ok-sum-3.field-0 c.term-then-eat-2.new.text c.if-eat.ensures.found (c.if-eat-2.ensures.found ∙ ap (begins 45) c.if-eat.ensures.rest) rest c.in_ok-sum-3.ensures in
-    let sum = minus_is c.loop-text.sum-bits c.in_ok-sum-3.field-0 (omega arith) fits in
-    c.loop-text.invariant ∙ on ∙ ap (λ z. sums values (factor values c.args.nesting) z c.term-then-eat-2.new.text) (sym sum)
+    let on = minus_on c.args.nesting c.loop-text.sum c.loop-text.text c.eat-else-eat.new.self c.in_ok-subtrahend.subtrahend c.term-then-eat-2.new.text c.if-eat.ensures.found (c.if-eat-2.ensures.found ∙ ap (begins 45) c.if-eat.ensures.rest) rest c.in_ok-subtrahend.ensures in
+    search (rules, on, wraps)
 
 pub expression-returns-else-eat-2 : goal.expression-returns-else-eat-2
 expression-returns-else-eat-2 t c =
@@ -87,18 +83,16 @@ term-returns-in_err-product t c = search (rules, no_factor)
 pub term-loop-text-init : goal.term-loop-text-init
 term-loop-text-init t c = search (rules, first_factor)
 
-pub term-returns-in_err-product-2 : goal.term-returns-in_err-product-2
-term-returns-in_err-product-2 t c = search (rules, times_refused)
+pub term-returns-in_err-multiplier : goal.term-returns-in_err-multiplier
+term-returns-in_err-multiplier t c = search (rules, times_refused)
 
 pub term-loop-text-smaller : goal.term-loop-text-smaller
-term-loop-text-smaller t c = factor_shorter c.args.nesting 42 c.loop-text.text c.eat.new.self c.in_ok-product-2.field-0 c.factor-in-loop-text.new.text c.loop-text-test.ensures.found c.loop-text-test.ensures.rest c.in_ok-product-2.ensures
+term-loop-text-smaller t c = factor_shorter c.args.nesting 42 c.loop-text.text c.eat.new.self c.in_ok-multiplier.multiplier c.factor-in-loop-text.new.text c.loop-text-test.ensures.found c.loop-text-test.ensures.rest c.in_ok-multiplier.ensures
 
 pub term-loop-text-preserved : goal.term-loop-text-preserved
 term-loop-text-preserved t c =
-    let fits : FitsSigned w32 (c.in_ok-product-2.field-0) = search rules in
-    let on = times_on c.args.nesting (to_z w32 c.loop-text.product-bits) c.loop-text.text c.eat.new.self c.in_ok-product-2.field-0 c.factor-in-loop-text.new.text c.loop-text-test.ensures.found c.loop-text-test.ensures.rest c.in_ok-product-2.ensures in
-    let product = times_is c.loop-text.product-bits c.in_ok-product-2.field-0 (omega arith) fits in
-    c.loop-text.invariant ∙ on ∙ ap (λ z. products values (factor values c.args.nesting) z c.factor-in-loop-text.new.text) (sym product)
+    let on = times_on c.args.nesting c.loop-text.product c.loop-text.text c.eat.new.self c.in_ok-multiplier.multiplier c.factor-in-loop-text.new.text c.loop-text-test.ensures.found c.loop-text-test.ensures.rest c.in_ok-multiplier.ensures in
+    search (rules, on, wraps)
 
 pub term-returns : goal.term-returns
 term-returns t c =
