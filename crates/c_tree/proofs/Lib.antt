@@ -1,2 +1,3 @@
 mod Lines
-mod Rows
+pub mod Rows
+pub mod Counts

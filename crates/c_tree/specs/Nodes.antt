@@ -1,5 +1,5 @@
 -- The nodes of a tree: what the line of each says, and what stands under it.
-use Rattle.std.specs.Prelude.{ℕ, List, [], ◌∷◌, ◌++◌, Option, Some, None, codes}
+use Rattle.std.specs.Prelude.{ℕ, suc, ◌+◌, List, [], ◌∷◌, ◌++◌, Option, Some, None, codes}
 use Rattle.c_tree.specs.Words.{unary_word, step_word, binary_word, assign_word, basic_words, storage_text, name_or_dash, spaced}
 use Rattle.c_tree.specs.declared.expressions.Expr as e
 use Rattle.c_tree.specs.declared.types.TypeNode as t
@@ -234,3 +234,15 @@ children_of (node line children) = children
 
 abbrev pub line_text : List ℕ → List ℕ → List ℕ
 line_text indent line = indent ++ line ++ 10 ∷ []
+
+-- how many nodes there are
+abbrev mutual
+  pub node_count : Node → ℕ
+  node_count (node line children) = suc (nodes_count children)
+
+  pub nodes_count : Nodes → ℕ
+  nodes_count none = 0
+  nodes_count (more n ns) = node_count n + nodes_count ns
+
+abbrev pub unit_nodes : CUnit → ℕ
+unit_nodes unit = nodes_count (nodes_of external_node unit.externals)

@@ -1,0 +1,199 @@
+-- A specifier that is read is in the grammar.
+use Rattle.std.proofs.Common.{◌≡◌, ℕ, zero, suc, Bool, true, false, cond, List, [], ◌∷◌, ◌++◌, length, Option, Some, None, Err, refl, sym, ap, ◌∙◌, subst}
+use Rattle.c_lexer.specs.declared.token.TokenKind.{TokenKind}
+use Rattle.c_lexer.specs.declared.token.TokenKind.TheVariants as k
+use Rattle.c_lexer.specs.declared.token.Keyword.TheVariants as w
+use Rattle.c_lexer.specs.declared.token.Token.{Token}
+use Rattle.c_tree.specs.declared.types.BasicType.{BasicType}
+use Rattle.c_tree.specs.declared.types.BasicType.TheVariants as bt
+use Rattle.c_tree.specs.declared.types.TypeNode.{TypeNode}
+use Rattle.c_tree.specs.declared.types.TypeNode as y
+use Rattle.c_grammar.specs.declared.classes.TypeWord.{TypeWord}
+use Rattle.c_grammar.specs.declared.classes.TypeWord.TheVariants as t
+use Rattle.c_grammar.specs.declared.classes.Specifier.{Specifier}
+use Rattle.c_grammar.specs.declared.classes.Specifier.TheVariants as c
+use Rattle.c_grammar.specs.declared.word_set.Base.{Base}
+use Rattle.c_grammar.specs.declared.word_set.Base.TheVariants as b
+use Rattle.c_grammar.specs.declared.word_set.Sign.{Sign}
+use Rattle.c_grammar.specs.declared.word_set.Sign.TheVariants as g
+use Rattle.c_grammar.specs.declared.word_set.WordSet.{WordSet}
+use Rattle.c_grammar.specs.Classes.{specifier_of}
+use Rattle.c_grammar.specs.WordSets.{no_words, with_word, basic_by, basic_of}
+use Rattle.c_grammar.specs.Tokens.{Scope, spelling, is_type, is_name, behind, place}
+use Rattle.c_grammar.specs.Grammar.{AreConsts, AreWords, IsPlain}
+use Rattle.c_grammar.specs.Parser.{Parser, consts}
+use Rattle.c_grammar.specs.ParseExpr.{settle, word_by, named_type, tagged, tag, specifier_by, specifier_from, plain}
+use Rattle.c_grammar.proofs.Outcomes.{no_true, name_is}
+use Rattle.c_grammar.proofs.Says.{Says, ok_says, err_says, bind_says, if_says, token_says, done_says, consts_says, weaker}
+
+-- ---- a class and its kinds
+
+is_const : Specifier → Bool
+is_const c.Const = true
+is_const _ = false
+
+is_struct : Specifier → Bool
+is_struct c.Struct = true
+is_struct _ = false
+
+is_enum : Specifier → Bool
+is_enum c.Enum = true
+is_enum _ = false
+
+is_named : Specifier → Bool
+is_named c.Name = true
+is_named _ = false
+
+const_is : (kind : TokenKind) → specifier_of kind ≡ c.Const → kind ≡ k.Word w.Const
+unfolding is_const
+const_is (k.Word w.Const) e = refl
+const_is (k.Word _) e = no_true (ap is_const e)
+const_is _ e = no_true (ap is_const e)
+
+pub struct_is : (kind : TokenKind) → specifier_of kind ≡ c.Struct → kind ≡ k.Word w.Struct
+unfolding is_struct
+struct_is (k.Word w.Struct) e = refl
+struct_is (k.Word _) e = no_true (ap is_struct e)
+struct_is _ e = no_true (ap is_struct e)
+
+pub enum_is : (kind : TokenKind) → specifier_of kind ≡ c.Enum → kind ≡ k.Word w.Enum
+unfolding is_enum
+enum_is (k.Word w.Enum) e = refl
+enum_is (k.Word _) e = no_true (ap is_enum e)
+enum_is _ e = no_true (ap is_enum e)
+
+named_is : (kind : TokenKind) → specifier_of kind ≡ c.Name → kind ≡ k.Name
+unfolding is_named
+named_is k.Name e = refl
+named_is (k.Word w.Const) e = no_true (ap is_named e)
+named_is (k.Word _) e = no_true (ap is_named e)
+named_is _ e = no_true (ap is_named e)
+
+-- ---- a set with a word spells a type
+
+no_some : {X Y : Type 0} {v : X} → ◌≡◌ {A = Option X} None (Some v) → Y
+no_some e = cc
+
+same_some : {X : Type 0} {u v : X} → ◌≡◌ {A = Option X} (Some u) (Some v) → u ≡ v
+same_some e = cc
+
+abbrev Spells : WordSet → Type 0
+Spells v = (y : BasicType) × (basic_of v ≡ Some y)
+
+base_spells : (base : Base) (sign : Option Sign) (int : Bool) → (y : BasicType) × (basic_by (Some base) sign int ≡ Some y)
+base_spells b.Void sign int = (bt.Void, refl)
+base_spells b.Char None int = (bt.Char, refl)
+base_spells b.Char (Some g.Signed) int = (bt.SignedChar, refl)
+base_spells b.Char (Some g.Unsigned) int = (bt.UnsignedChar, refl)
+base_spells b.Short None int = (bt.Short, refl)
+base_spells b.Short (Some g.Signed) int = (bt.Short, refl)
+base_spells b.Short (Some g.Unsigned) int = (bt.UnsignedShort, refl)
+base_spells b.Long None int = (bt.Long, refl)
+base_spells b.Long (Some g.Signed) int = (bt.Long, refl)
+base_spells b.Long (Some g.Unsigned) int = (bt.UnsignedLong, refl)
+
+sign_spells : (base : Option Base) (sign : Sign) (int : Bool) → (y : BasicType) × (basic_by base (Some sign) int ≡ Some y)
+sign_spells (Some base) sign int = base_spells base (Some sign) int
+sign_spells None g.Signed int = (bt.Signed, refl)
+sign_spells None g.Unsigned int = (bt.Unsigned, refl)
+
+int_spells : (base : Option Base) (sign : Option Sign) → (y : BasicType) × (basic_by base sign true ≡ Some y)
+int_spells (Some base) sign = base_spells base sign true
+int_spells None (Some sign) = sign_spells None sign true
+int_spells None None = (bt.Int, refl)
+
+where_fits : (fits : Bool) (u v : WordSet) → Spells u → cond fits (Some u) None ≡ Some v → Spells v
+where_fits true u v h e = subst Spells (same_some e) h
+where_fits false u v h e = no_some e
+
+word_spells : (x : WordSet) (word : TypeWord) (v : WordSet) → with_word x word ≡ Some v → Spells v
+word_spells x t.Void v e = where_fits _ (record x { base = Some b.Void }) v (base_spells b.Void x.sign x.int) e
+word_spells x t.Char v e = where_fits _ (record x { base = Some b.Char }) v (base_spells b.Char x.sign x.int) e
+word_spells x t.Short v e = where_fits _ (record x { base = Some b.Short }) v (base_spells b.Short x.sign x.int) e
+word_spells x t.Long v e = where_fits _ (record x { base = Some b.Long }) v (base_spells b.Long x.sign x.int) e
+word_spells x t.Int v e = where_fits _ (record x { int = true }) v (int_spells x.base x.sign) e
+word_spells x t.Signed v e = where_fits _ (record x { sign = Some g.Signed }) v (sign_spells x.base g.Signed x.int) e
+word_spells x t.Unsigned v e = where_fits _ (record x { sign = Some g.Unsigned }) v (sign_spells x.base g.Unsigned x.int) e
+
+-- ---- the loop
+
+-- What is read from a set on: more words, or with none yet what `U` says of the token in their place.
+pub data From (U : Token → List Token → TypeNode → Type 0) : WordSet → List Token → TypeNode → Type 0 where
+  words : {x : WordSet} (a : List Token) (z : WordSet) (y' : BasicType) → AreWords x a z → basic_of z ≡ Some y' → From U x a (y.Basic y')
+  tail : {x : WordSet} (a : List Token) (u : Token) (r : List Token) (ty : TypeNode) → basic_of x ≡ None → AreConsts a → U u r ty → From U x (a ++ u ∷ r) ty
+
+module _ (s : Scope) (on : Specifier → ℕ → Parser TypeNode) (U : Token → List Token → TypeNode → Type 0) where
+  past_const : {x : WordSet} {a : List Token} {ty : TypeNode} (u : Token) → u.kind ≡ k.Word w.Const → From U x a ty → From U x (u ∷ a) ty
+  past_const u e (From.words a z v h g) = From.words (u ∷ a) z v (AreWords.const u a z e h) g
+  past_const u e (From.tail a v r ty n c h) = From.tail (u ∷ a) v r ty n (AreConsts.more u a e c) h
+
+  past_word : {v : WordSet} {a : List Token} {ty : TypeNode} (x : WordSet) (u : Token) (word : TypeWord) → specifier_of u.kind ≡ c.Word word → with_word x word ≡ Some v → From U v a ty → From U x (u ∷ a) ty
+  past_word x u word e f (From.words {x = v} a z q h g) = From.words (u ∷ a) z q (AreWords.more u word a v z e f h) g
+  past_word x u word e f (From.tail {x = v} a q r ty n c h) = let o = word_spells x word v f in no_some (sym n ∙ o.1)
+
+  settle_says : (o : Option BasicType) (other : Parser TypeNode) (ts : List Token) (T : List Token → TypeNode → Type 0) → ((q : BasicType) → o ≡ Some q → T [] (y.Basic q)) → (o ≡ None → Says (other ts) ts T) → Says (settle o other ts) ts T
+  settle_says (Some q) other ts T f g = ok_says (y.Basic q) ts T (f q refl)
+  settle_says None other ts T f g = g refl
+
+  -- the words before this token are all
+  stop_says : (x : WordSet) (other : Parser TypeNode) (ts : List Token) → (basic_of x ≡ None → Says (other ts) ts (λ a ty. From U x a ty)) → Says (settle (basic_of x) other ts) ts (λ a ty. From U x a ty)
+  stop_says x other ts g = settle_says (basic_of x) other ts _ (λ q e. From.words [] x q AreWords.none e) g
+
+  word_says : (o : Option WordSet) (go : WordSet → Parser TypeNode) (x : WordSet) (u : Token) (r : List Token) (word : TypeWord) → specifier_of u.kind ≡ c.Word word → with_word x word ≡ o
+      → ((v : WordSet) → Says (go v r) r (λ a ty. From U v a ty)) → Says (word_by o go x (u ∷ r)) (u ∷ r) (λ a ty. From U x a ty)
+  word_says (Some v) go x u r word e f h = token_says (go v r) u r _ (weaker (go v r) r _ _ (λ a ty q. past_word x u word e f q) (h v))
+  word_says None go x u r word e f h = stop_says x (λ r. Err r) (u ∷ r) (λ n. err_says (u ∷ r) (u ∷ r) _)
+
+  module _ (struct_says : (u : Token) (r : List Token) → u.kind ≡ k.Word w.Struct → Says (on c.Struct u.at r) r (λ b ty. U u b ty))
+      (enum_says : (u : Token) (r : List Token) → u.kind ≡ k.Word w.Enum → Says (on c.Enum u.at r) r (λ b ty. U u b ty))
+      (named : (u : Token) (b : List Token) → u.kind ≡ k.Name → is_type s u ≡ true → AreConsts b → U u b (y.Named (spelling s u))) where
+    named_says : (x : WordSet) (u : Token) (r : List Token) → u.kind ≡ k.Name → basic_of x ≡ None → Says (named_type s (u ∷ r)) (u ∷ r) (λ a ty. From U x a ty)
+    unfolding named_type
+    named_says x u r e n = if_says (is_type s u) _ _ (u ∷ r) _
+        (λ yes. token_says _ u r _ (bind_says (consts (length r) r) _ r (λ a q. AreConsts a) _ (consts_says (length r) r) (λ a q v h. done_says (y.Named (spelling s u)) a v (λ a ty. From U x (u ∷ a) ty) (From.tail [] u a (y.Named (spelling s u)) n AreConsts.none (named u a e yes h)))))
+        (λ other. err_says (u ∷ r) (u ∷ r) _)
+
+    by_says : (go : WordSet → Parser TypeNode) (x : WordSet) (class : Specifier) (u : Token) (r : List Token) → specifier_of u.kind ≡ class → ((v : WordSet) → Says (go v r) r (λ a ty. From U v a ty))
+        → Says (specifier_by s on go x class (u ∷ r)) (u ∷ r) (λ a ty. From U x a ty)
+    by_says go x c.Const u r e h = token_says (go x r) u r _ (weaker (go x r) r _ _ (λ a ty q. past_const u (const_is u.kind e) q) (h x))
+    by_says go x (c.Word word) u r e h = word_says (with_word x word) go x u r word e refl h
+    by_says go x c.Struct u r e h = stop_says x (λ r. on c.Struct (place r) (behind r)) (u ∷ r) (λ n. token_says (on c.Struct u.at r) u r _ (weaker (on c.Struct u.at r) r _ _ (λ b ty q. From.tail [] u b ty n AreConsts.none q) (struct_says u r (struct_is u.kind e))))
+    by_says go x c.Enum u r e h = stop_says x (λ r. on c.Enum (place r) (behind r)) (u ∷ r) (λ n. token_says (on c.Enum u.at r) u r _ (weaker (on c.Enum u.at r) r _ _ (λ b ty q. From.tail [] u b ty n AreConsts.none q) (enum_says u r (enum_is u.kind e))))
+    by_says go x c.Name u r e h = stop_says x (named_type s) (u ∷ r) (λ n. named_says x u r (named_is u.kind e) n)
+    by_says go x c.Nothing u r e h = stop_says x (λ r. Err r) (u ∷ r) (λ n. err_says (u ∷ r) (u ∷ r) _)
+
+    pub specifier_says : (j : ℕ) (x : WordSet) (ts : List Token) → Says (specifier_from s on j x ts) ts (λ a ty. From U x a ty)
+    unfolding specifier_from
+    specifier_says zero x ts = stop_says x (λ r. Err r) ts (λ n. err_says ts ts _)
+    specifier_says (suc j) x [] = stop_says x (λ r. Err r) [] (λ n. err_says [] [] _)
+    specifier_says (suc j) x (u ∷ r) = by_says (specifier_from s on j) x (specifier_of u.kind) u r refl (λ v. specifier_says j v r)
+
+-- ---- without braces
+
+-- what stands in the place of words
+pub data IsTail (s : Scope) (u : Token) : List Token → TypeNode → Type 0 where
+  named : (a : List Token) → u.kind ≡ k.Name → is_type s u ≡ true → AreConsts a → IsTail s u a (y.Named (spelling s u))
+  struct : (v : Token) (a : List Token) → u.kind ≡ k.Word w.Struct → v.kind ≡ k.Name → AreConsts a → IsTail s u (v ∷ a) (y.Struct v.at (Some (spelling s v)) None)
+  enum : (v : Token) (a : List Token) → u.kind ≡ k.Word w.Enum → v.kind ≡ k.Name → AreConsts a → IsTail s u (v ∷ a) (y.Enum v.at (Some (spelling s v)) None)
+
+pub tag_says : (s : Scope) (class : Specifier) (ts : List Token) (T : List Token → TypeNode → Type 0) → ((v : Token) (a : List Token) → v.kind ≡ k.Name → AreConsts a → T (v ∷ a) (tagged class v.at (spelling s v))) → Says (tag s class ts) ts T
+unfolding tag
+tag_says s class [] T h = err_says [] [] T
+tag_says s class (v ∷ r) T h = if_says (is_name v.kind) _ _ (v ∷ r) T
+    (λ yes. token_says _ v r T (bind_says (consts (length r) r) _ r (λ a q. AreConsts a) _ (consts_says (length r) r) (λ a q z g. done_says (tagged class v.at (spelling s v)) a z (λ a ty. T (v ∷ a) ty) (h v a (name_is v.kind yes) g))))
+    (λ other. err_says (v ∷ r) (v ∷ r) T)
+
+is_plain : (s : Scope) {a : List Token} {ty : TypeNode} → From (IsTail s) no_words a ty → IsPlain s a ty
+is_plain s (From.words a z q h e) = IsPlain.words a z q h e
+is_plain s (From.tail a u r ty n c (IsTail.named b kind listed h)) = IsPlain.named a u b c kind listed h
+is_plain s (From.tail a u r ty n c (IsTail.struct v b kind vk h)) = IsPlain.struct a u v b c kind vk h
+is_plain s (From.tail a u r ty n c (IsTail.enum v b kind vk h)) = IsPlain.enum a u v b c kind vk h
+
+pub plain_says : (s : Scope) (ts : List Token) → Says (plain s ts) ts (λ a ty. IsPlain s a ty)
+unfolding plain
+plain_says s ts = weaker (specifier_from s (λ word at. tag s word) (length ts) no_words ts) ts _ _ (λ a ty h. is_plain s h)
+    (specifier_says s (λ word at. tag s word) (IsTail s)
+    (λ u r e. tag_says s c.Struct r (λ b ty. IsTail s u b ty) (λ v a vk h. IsTail.struct v a e vk h))
+    (λ u r e. tag_says s c.Enum r (λ b ty. IsTail s u b ty) (λ v a vk h. IsTail.enum v a e vk h))
+    (λ u b e listed h. IsTail.named b e listed h)
+    (length ts) no_words ts)

@@ -1,0 +1,13 @@
+pub mod Classes
+pub mod WordSets
+pub mod Tokens
+pub mod Types
+pub mod Grammar
+pub mod Parser
+pub mod ParseExpr
+pub mod Specifiers
+pub mod Statements
+pub mod Units
+pub mod ParseSpecifiers
+pub mod ParseStatements
+pub mod ParseUnits

@@ -1,0 +1,72 @@
+-- Tokens in their text, and the names of types so far.
+use Rattle.std.specs.Prelude.{ℕ, Bool, true, false, List, [], ◌∷◌, take, drop, bytes_eq}
+use Rattle.std.specs.List.{list_any}
+use denote.Enum.Bare.{sameb}
+use Rattle.c_lexer.specs.contracts.token.Keyword as keyword
+use Rattle.c_lexer.specs.contracts.token.Punct as punct
+use Rattle.c_lexer.specs.declared.token.TokenKind.{TokenKind}
+use Rattle.c_lexer.specs.declared.token.TokenKind.TheVariants as k
+use Rattle.c_lexer.specs.declared.token.Keyword.{Keyword}
+use Rattle.c_lexer.specs.declared.token.Punct.{Punct}
+use Rattle.c_lexer.specs.declared.token.Token.{Token}
+use Rattle.c_grammar.specs.Classes.{prefix_of, specifier_of, begins_by, begins_type_by}
+
+-- The text that the tokens are of, and the names that `typedef` has made so far.
+pub record Scope : Type 0 where
+  pub text : List ℕ
+  pub types : List (List ℕ)
+
+-- the bytes of a token
+unfoldable pub spelling : Scope → Token → List ℕ
+spelling s t = take t.len (drop t.at s.text)
+
+-- whether a name is that of a type
+unfoldable pub is_listed : Scope → List ℕ → Bool
+is_listed s name = list_any (λ x. bytes_eq x name) s.types
+
+abbrev pub is_type : Scope → Token → Bool
+is_type s t = is_listed s (spelling s t)
+
+-- where the first of the tokens stands
+abbrev pub place : List Token → ℕ
+place [] = 0
+place (t ∷ ts) = t.at
+
+abbrev pub is_mark : Punct → TokenKind → Bool
+is_mark p (k.Mark q) = sameb punct.the_type q p
+is_mark p _ = false
+
+abbrev pub is_word : Keyword → TokenKind → Bool
+is_word w (k.Word v) = sameb keyword.the_type v w
+is_word w _ = false
+
+abbrev pub is_name : TokenKind → Bool
+is_name k.Name = true
+is_name _ = false
+
+abbrev pub is_text : TokenKind → Bool
+is_text k.Text = true
+is_text _ = false
+
+-- the kind of the first token, or the end
+abbrev pub kind_at : List Token → TokenKind
+kind_at [] = k.End
+kind_at (t ∷ ts) = t.kind
+
+abbrev pub spelling_at : Scope → List Token → List ℕ
+spelling_at s [] = []
+spelling_at s (t ∷ ts) = spelling s t
+
+abbrev pub behind : List Token → List Token
+behind [] = []
+behind (t ∷ ts) = ts
+
+abbrev pub is_type_at : Scope → List Token → Bool
+is_type_at s ts = is_listed s (spelling_at s ts)
+
+-- whether an expression begins here, and whether a type does
+abbrev pub begins : Scope → List Token → Bool
+begins s ts = begins_by (prefix_of (kind_at ts)) (is_type_at s ts)
+
+abbrev pub begins_type : Scope → List Token → Bool
+begins_type s ts = begins_type_by (specifier_of (kind_at ts)) (is_type_at s ts)

@@ -1,0 +1,18 @@
+//! The grammar of C units: as a relation between token lists and trees, as a function that looks one
+//! token ahead, and the laws that hold the two together.
+#![tactic(auto)]
+
+mod classes;
+pub mod laws;
+mod shapes;
+mod word_set;
+
+pub use classes::{
+    Head, Infix, Opening, Prefix, Specifier, TypeWord, head_of, infix_of, opening_of, prefix_of,
+    specifier_of,
+};
+pub use shapes::{Declarator, Named, Naming, Shape};
+pub use word_set::{Base, Sign, WordSet};
+
+#[cfg(test)]
+mod tests;
