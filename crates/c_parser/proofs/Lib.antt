@@ -1,0 +1,4 @@
+pub mod Totals
+pub mod Segments
+pub mod Resume
+pub mod Reading

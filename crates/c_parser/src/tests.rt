@@ -1,0 +1,3 @@
+//! Texts with what they are answered, by hand.
+
+mod nesting;
