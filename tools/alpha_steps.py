@@ -11,9 +11,7 @@ Needs Debian's binutils-alpha-linux-gnu. Run at the top of the repository:
     python3 tools/alpha_steps.py
 """
 
-import os
-import subprocess
-import tempfile
+from alpha_assembler import assembled
 
 MASK = 2**64 - 1
 KEPT = 7777
@@ -154,22 +152,6 @@ def rows():
         for displacement in sorted({0, 8 - size, 5}):
             ending, memory = store(name, HELD, ONES, displacement)
             yield f"{name} $2, {displacement}($1)", (HELD, 0, ONES), (ending, KEPT, memory)
-
-
-def assembled(lines):
-    """The words of these lines, by GNU as."""
-    with tempfile.TemporaryDirectory() as folder:
-        source = os.path.join(folder, "steps.s")
-        made = os.path.join(folder, "steps.o")
-        text = os.path.join(folder, "steps.bin")
-        with open(source, "w") as file:
-            file.write(".set noat\n.set nomacro\n.text\n")
-            file.writelines(line + "\n" for line in lines)
-        subprocess.run(["alpha-linux-gnu-as", "-mev56", "-o", made, source], check=True)
-        subprocess.run(["alpha-linux-gnu-objcopy", "-O", "binary", "-j", ".text", made, text], check=True)
-        with open(text, "rb") as file:
-            data = file.read()
-    return [int.from_bytes(data[i : i + 4], "little") for i in range(0, 4 * len(lines), 4)]
 
 
 def main():

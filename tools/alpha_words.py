@@ -9,9 +9,7 @@ Needs Debian's binutils-alpha-linux-gnu. Run at the top of the repository:
     python3 tools/alpha_words.py
 """
 
-import os
-import subprocess
-import tempfile
+from alpha_assembler import assembled
 
 MEMORY = "lda ldah ldbu ldwu stw stb ldl ldq stl stq".split()
 BRANCH = "br bsr blbc beq blt ble blbs bne bge bgt".split()
@@ -78,22 +76,6 @@ def rows():
             )
     for function in (0x83, 0xAA):
         yield (f"call_pal {function:#x}", f"Pal {{ function: {function} }}")
-
-
-def assembled(lines):
-    """The words of these lines, by GNU as."""
-    with tempfile.TemporaryDirectory() as folder:
-        source = os.path.join(folder, "words.s")
-        made = os.path.join(folder, "words.o")
-        text = os.path.join(folder, "words.bin")
-        with open(source, "w") as file:
-            file.write(".set noat\n.set nomacro\n.text\n")
-            file.writelines(line + "\n" for line in lines)
-        subprocess.run(["alpha-linux-gnu-as", "-mev56", "-o", made, source], check=True)
-        subprocess.run(["alpha-linux-gnu-objcopy", "-O", "binary", "-j", ".text", made, text], check=True)
-        with open(text, "rb") as file:
-            data = file.read()
-    return [int.from_bytes(data[i : i + 4], "little") for i in range(0, 4 * len(lines), 4)]
 
 
 def main():
