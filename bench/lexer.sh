@@ -1,8 +1,7 @@
 #!/bin/sh
 # Measures how many megabytes of C the lexer reads in a second, beside `gcc -fsyntax-only` on the same text.
 #
-# The text is made here: 4 MiB of declarations and functions with names, numbers, literals, comments,
-# linemarkers and marks, always the same. The program that is measured is a small crate over c_lexer,
+# The text is the ordinary one of bench/made_text.py. The program that is measured is a small crate over c_lexer,
 # made in a folder of its own, so that the repository has no part that only serves the measure.
 #
 # usage: bench/lexer.sh [ROUNDS]      (rounds over the text, 50 where none are given)
@@ -12,32 +11,7 @@ top=$(cd "$(dirname "$0")/.." && pwd)
 work=$(mktemp -d /tmp/lex_speed.XXXXXX)
 trap 'rm -rf "$work"' EXIT
 
-python3 - "$work/text.c" <<'PY'
-import sys
-seed = 1
-def draw(n):
-    global seed
-    seed = (seed * 1103515245 + 12345) % 2**31
-    return (seed >> 8) % n
-parts, size, number = ['# 1 "made.c"\n'], 0, 0
-while size < 4 * 1024 * 1024 - 600:
-    names = ["v%d_%d" % (number, k) for k in range(4)]
-    lines = [
-        "/* function %d: %s */\n" % (number, "words of a comment " * draw(4)),
-        "static int f%d(int %s, int %s, unsigned long %s) {\n" % (number, names[0], names[1], names[2]),
-        "    int %s = %d; // a local\n" % (names[3], draw(100000)),
-    ]
-    for _ in range(3 + draw(5)):
-        a, b, c = (names[draw(4)] for _ in range(3))
-        lines.append("    %s = (%s + 0x%xu) %s (int)%s ^ %d;\n" % (a, b, draw(65536), ["*", "-", "&", "|", "<<"][draw(5)] if c != names[2] else "+", c, 1 + draw(7)))
-        lines.append("    if (%s >= %d && %s != '%s') { %s += %s; } else { %s--; }\n" % (b, draw(999), c, ["a", "\\n", "\\x41", "\\0"][draw(4)], a, b, a))
-    lines.append('    return sizeof "text %d\\n" > 3 ? %s : %s;\n}\n' % (number, names[0], names[3]))
-    part = "".join(lines)
-    parts.append(part)
-    size += len(part)
-    number += 1
-open(sys.argv[1], "w").write("".join(parts))
-PY
+python3 "$top/bench/made_text.py" ordinary "$work/text.c"
 bytes=$(wc -c < "$work/text.c")
 
 mkdir -p "$work/crates/lex_speed/src"

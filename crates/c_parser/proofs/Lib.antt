@@ -2,3 +2,8 @@ pub mod Totals
 pub mod Segments
 pub mod Resume
 pub mod Reading
+pub mod ObjectFacts
+pub mod Open
+pub mod Externals
+pub mod Whole
+pub mod OneAnswer

@@ -1,3 +1,4 @@
 //! Texts with what they are answered, by hand.
 
 mod nesting;
+mod parsing;

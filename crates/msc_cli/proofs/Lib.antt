@@ -5,6 +5,7 @@ pub mod ImageFronts
 pub mod ImageLaws
 pub mod Numbers
 pub mod RunImages
+pub mod PrintTrees
 pub mod SmallRun
 pub mod SmallSame
 pub mod SmallSteps

@@ -8,7 +8,7 @@ use Rattle.alpha_run.specs.declared.ending.Ending.TheVariants as ending
 use Rattle.alpha_run.specs.Run.{Behaves}
 use Rattle.msc_cli.specs.declared.run.TheConstants.{STACK, BUDGET}
 use Rattle.msc_cli.specs.declared.outcome.Outcome.{Outcome}
-use Rattle.msc_cli.specs.declared.outcome.Outcome.TheVariants.{Built, Ran, Trapped, Stuck, Budget, Usage, FileFault, InputFault, WriteFault, Refused, BadImage, NoMemory}
+use Rattle.msc_cli.specs.declared.outcome.Outcome.TheVariants.{Built, Printed, Ran, Trapped, Stuck, Budget, Usage, FileFault, InputFault, WriteFault, Refused, Limit, BadImage, NoMemory}
 use Rattle.msc_cli.specs.TopCall.{IsCompiled}
 use Rattle.msc_cli.specs.RunImage.{told_by, RunsImage, Runs, Executes}
 
@@ -46,6 +46,8 @@ is_write_fault ending.WriteFault h = refl
 -- an image that was compiled, and one that was read
 pub runs : (text : Option (List ℕ)) (p : Program) (input : Option (List ℕ)) (answer : Outcome) (old new : Option (List ℕ)) → IfSome text (λ t. IsCompiled t p) → RunsImage p input answer old new → Runs text input answer old new
 runs text p input Built old new is r = r
+runs text p input Printed old new is r = r
+runs text p input (Limit which counted) old new is r = r
 runs text p input (Ran status) old new is r = (p, is, r)
 runs text p input (Trapped code) old new is r = (p, is, r)
 runs text p input (Stuck pc) old new is r = (p, is, r)
@@ -60,6 +62,8 @@ runs text p input NoMemory old new is r = r
 
 pub executes : (bytes : Option (List ℕ)) (p : Program) (input : Option (List ℕ)) (answer : Outcome) (old new : Option (List ℕ)) → IfSome bytes (λ b. IsImage b p) → RunsImage p input answer old new → Executes bytes input answer old new
 executes bytes p input Built old new is r = r
+executes bytes p input Printed old new is r = r
+executes bytes p input (Limit which counted) old new is r = r
 executes bytes p input (Ran status) old new is r = (p, is, r)
 executes bytes p input (Trapped code) old new is r = (p, is, r)
 executes bytes p input (Stuck pc) old new is r = (p, is, r)

@@ -4,9 +4,10 @@ use Rattle.bk_io.specs.Shelf.{Shelf, is_due, after_call}
 use Rattle.msc_cli.specs.declared.outcome.Outcome.{Outcome}
 use Rattle.msc_cli.specs.declared.outcome.Outcome.TheVariants.{Usage, FileFault}
 use Rattle.msc_cli.specs.declared.request.Command.{Command}
-use Rattle.msc_cli.specs.declared.request.Command.TheVariants.{Build, Run, Exec}
+use Rattle.msc_cli.specs.declared.request.Command.TheVariants.{Build, Run, Exec, Print}
 use Rattle.msc_cli.specs.TopCall.{text_of, Builds}
 use Rattle.msc_cli.specs.RunImage.{Runs, Executes}
+use Rattle.msc_cli.specs.PrintTree.{Prints}
 
 -- what is asked for: a command and the name of its file
 abbrev pub Asked : Type 0
@@ -19,6 +20,7 @@ Answers None told input answer old new = (answer ≡ Usage) × (new ≡ old)
 Answers (Some (Build, file)) told input answer old new = Builds (text_of told file) answer old new
 Answers (Some (Run, file)) told input answer old new = Runs (text_of told file) input answer old new
 Answers (Some (Exec, file)) told input answer old new = Executes (text_of told file) input answer old new
+Answers (Some (Print, file)) told input answer old new = Prints (text_of told file) answer old new
 
 -- a fault of the file comes exactly where its read is due to fail
 abbrev pub FailsWhereDue : Asked → Option Shelf → Outcome → Type 0
@@ -36,3 +38,4 @@ IsUnread None left_old left_new made_old made_new = (left_new ≡ left_old) × (
 IsUnread (Some (Build, file)) left_old left_new made_old made_new = (left_new ≡ left_old) × (made_new ≡ made_old)
 IsUnread (Some (Run, file)) left_old left_new made_old made_new = Unit {0}
 IsUnread (Some (Exec, file)) left_old left_new made_old made_new = Unit {0}
+IsUnread (Some (Print, file)) left_old left_new made_old made_new = (left_new ≡ left_old) × (made_new ≡ made_old)

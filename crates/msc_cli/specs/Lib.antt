@@ -8,4 +8,5 @@ pub mod ImageFault
 pub mod ReadImage
 pub mod Answers
 pub mod RunImage
+pub mod PrintTree
 pub mod Call

@@ -1,16 +1,22 @@
 -- The line that is written for an outcome, and the status of the process.
 use Rattle.std.specs.Prelude.{ℕ, List, [], ◌∷◌, ◌++◌, Option, Some, None, codes, decimal}
 use Rattle.msc_cli.specs.declared.outcome.Outcome.{Outcome}
-use Rattle.msc_cli.specs.declared.outcome.Outcome.TheVariants.{Built, Ran, Trapped, Stuck, Budget, Usage, FileFault, InputFault, WriteFault, Refused, BadImage, NoMemory}
-use Rattle.msc_cli.specs.declared.outcome.SourceFault.TheVariants.{Form}
+use Rattle.msc_cli.specs.declared.outcome.Outcome.TheVariants.{Built, Printed, Ran, Trapped, Stuck, Budget, Usage, FileFault, InputFault, WriteFault, Refused, Limit, BadImage, NoMemory}
+use Rattle.msc_cli.specs.declared.outcome.SourceFault.TheVariants.{Form, Lex, Syntax}
+use Rattle.msc_cli.specs.declared.outcome.Which.TheVariants.{Text, Nesting}
 
 -- the whole line with its line feed, none where nothing is to be said, or what stands before a number
 abbrev pub words_of : Outcome → List ℕ
 words_of Built = []
+words_of Printed = []
 words_of (Ran status) = []
 words_of Usage = codes "msc: usage\n"
 words_of (Refused Form) = codes "msc: form\n"
+words_of (Refused (Lex at)) = codes "msc: lex at "
+words_of (Refused (Syntax at)) = codes "msc: syntax at "
 words_of FileFault = codes "msc: file\n"
+words_of (Limit Text counted) = codes "msc: limit text "
+words_of (Limit Nesting counted) = codes "msc: limit nesting "
 words_of NoMemory = codes "msc: memory\n"
 words_of WriteFault = codes "msc: write\n"
 words_of InputFault = codes "msc: input\n"
@@ -23,6 +29,9 @@ words_of (Stuck pc) = codes "msc: stuck at "
 abbrev pub number_of : Outcome → Option ℕ
 number_of (Budget steps) = Some steps
 number_of (BadImage at) = Some at
+number_of (Limit which counted) = Some counted
+number_of (Refused (Lex at)) = Some at
+number_of (Refused (Syntax at)) = Some at
 number_of (Trapped code) = Some code
 number_of (Stuck pc) = Some pc
 number_of _ = None
@@ -40,10 +49,12 @@ line_of outcome = with_number (words_of outcome) (number_of outcome)
 
 abbrev pub status_of : Outcome → ℕ
 status_of Built = 0
+status_of Printed = 0
 status_of (Ran status) = status
 status_of Usage = 64
 status_of (Refused fault) = 65
 status_of FileFault = 66
+status_of (Limit which counted) = 69
 status_of NoMemory = 71
 status_of WriteFault = 73
 status_of InputFault = 74

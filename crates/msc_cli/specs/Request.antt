@@ -1,7 +1,7 @@
 -- The words of a call: what they ask for.
-use Rattle.std.specs.Prelude.{ℕ, Bool, false, ◌==◌, List, [], ◌∷◌, Option, Some, None, if◌then◌else◌, option_map, codes, bytes_eq}
+use Rattle.std.specs.Prelude.{ℕ, Bool, false, ◌==◌, ◌&&◌, List, [], ◌∷◌, Option, Some, None, if◌then◌else◌, option_map, codes, bytes_eq}
 use Rattle.msc_cli.specs.declared.request.Command.{Command}
-use Rattle.msc_cli.specs.declared.request.Command.TheVariants.{Build, Run, Exec}
+use Rattle.msc_cli.specs.declared.request.Command.TheVariants.{Build, Run, Exec, Print}
 
 -- the command of a word
 abbrev pub command_at : List ℕ → Option Command
@@ -11,12 +11,21 @@ command_at word =
     else if bytes_eq word (codes "exec") then Some Exec
     else None
 
+-- the command of a word with an option and its value
+abbrev pub command_with : List ℕ → List ℕ → List ℕ → Option Command
+command_with word option pass = if bytes_eq word (codes "print") && (bytes_eq option (codes "--pass") && bytes_eq pass (codes "tree")) then Some Print else None
+
 -- the word begins with `-`
 abbrev pub is_option : List ℕ → Bool
 is_option [] = false
 is_option (byte ∷ bytes) = byte == 45
 
--- the command and its file: the words are the program's name, a command and a file that is no option
+abbrev pub with_file : List ℕ → Option Command → Option (Command × List ℕ)
+with_file file command = if is_option file then None else option_map (λ c. (c, file)) command
+
+-- The command and its file: the words are the program's name, a command and a file that is no option, and
+-- perhaps an option with its value.
 abbrev pub requested : List (List ℕ) → Option (Command × List ℕ)
-requested (program ∷ command ∷ file ∷ []) = if is_option file then None else option_map (λ c. (c, file)) (command_at command)
+requested (program ∷ command ∷ file ∷ []) = with_file file (command_at command)
+requested (program ∷ command ∷ file ∷ option ∷ pass ∷ []) = with_file file (command_with command option pass)
 requested words = None

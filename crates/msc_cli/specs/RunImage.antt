@@ -10,7 +10,8 @@ use Rattle.msc_cli.specs.declared.read_image.ImageFault.{ImageFault}
 use Rattle.msc_cli.specs.declared.read_image.ImageFault.TheVariants as fault
 use Rattle.msc_cli.specs.declared.run.TheConstants.{STACK, BUDGET}
 use Rattle.msc_cli.specs.declared.outcome.Outcome.{Outcome}
-use Rattle.msc_cli.specs.declared.outcome.Outcome.TheVariants.{Built, Ran, Trapped, Stuck, Budget, Usage, FileFault, InputFault, WriteFault, Refused, BadImage, NoMemory}
+use Rattle.msc_cli.specs.declared.outcome.Outcome.TheVariants.{Built, Printed, Ran, Trapped, Stuck, Budget, Usage, FileFault, InputFault, WriteFault, Refused, Limit, BadImage, NoMemory}
+use Rattle.msc_cli.specs.declared.outcome.SourceFault.TheVariants.{Form}
 use Rattle.msc_cli.specs.Output.{appended}
 use Rattle.msc_cli.specs.ImageFault.{image_fault}
 use Rattle.msc_cli.specs.TopCall.{IsCompiled, IsRefused}
@@ -49,19 +50,24 @@ IsRunOn p (Some input) outcome old new = (put : List ℕ) × IsRun p input outco
 abbrev pub RunsImage : Program → Option (List ℕ) → Outcome → Option (List ℕ) → Option (List ℕ) → Type 0
 RunsImage p input NoMemory old new = new ≡ old
 RunsImage p input Built old new = ⊥
+RunsImage p input Printed old new = ⊥
 RunsImage p input Usage old new = ⊥
 RunsImage p input FileFault old new = ⊥
 RunsImage p input (Refused fault) old new = ⊥
+RunsImage p input (Limit which counted) old new = ⊥
 RunsImage p input (BadImage at) old new = ⊥
 RunsImage p input outcome old new = IsRunOn p input outcome old new
 
 -- What `run` answers for a text, where it is told: it is compiled and its image runs, or it is no program.
 abbrev pub Runs : Option (List ℕ) → Option (List ℕ) → Outcome → Option (List ℕ) → Option (List ℕ) → Type 0
-Runs text input (Refused fault) old new = IfSome text IsRefused × (new ≡ old)
+Runs text input (Refused Form) old new = IfSome text IsRefused × (new ≡ old)
+Runs text input (Refused fault) old new = ⊥
 Runs text input FileFault old new = new ≡ old
 Runs text input NoMemory old new = new ≡ old
 Runs text input Built old new = ⊥
+Runs text input Printed old new = ⊥
 Runs text input Usage old new = ⊥
+Runs text input (Limit which counted) old new = ⊥
 Runs text input (BadImage at) old new = ⊥
 Runs text input outcome old new = (p : Program) × IfSome text (λ t. IsCompiled t p) × IsRunOn p input outcome old new
 
@@ -71,6 +77,8 @@ Executes bytes input (BadImage at) old new = IfSome bytes (λ b. image_fault b �
 Executes bytes input FileFault old new = new ≡ old
 Executes bytes input NoMemory old new = new ≡ old
 Executes bytes input Built old new = ⊥
+Executes bytes input Printed old new = ⊥
 Executes bytes input Usage old new = ⊥
 Executes bytes input (Refused fault) old new = ⊥
+Executes bytes input (Limit which counted) old new = ⊥
 Executes bytes input outcome old new = (p : Program) × IfSome bytes (λ b. IsImage b p) × IsRunOn p input outcome old new

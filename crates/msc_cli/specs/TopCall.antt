@@ -8,6 +8,7 @@ use Rattle.alpha_isa.specs.Behave.{IsStack}
 use Rattle.alpha_isa.specs.ImageFormat.{spelled}
 use Rattle.msc_cli.specs.declared.outcome.Outcome.{Outcome}
 use Rattle.msc_cli.specs.declared.outcome.Outcome.TheVariants.{Built, FileFault, WriteFault, Refused, NoMemory}
+use Rattle.msc_cli.specs.declared.outcome.SourceFault.TheVariants.{Form}
 use Rattle.msc_cli.specs.Output.{appended, TookFront}
 use Rattle.msc_cli.specs.Same.{Same}
 
@@ -46,7 +47,7 @@ Writes p _ old new = ⊥
 abbrev pub Builds : Option (List ℕ) → Outcome → Option (List ℕ) → Option (List ℕ) → Type 0
 Builds text Built old new = (p : Program) × IfSome text (λ t. IsCompiled t p) × Writes p Built old new
 Builds text WriteFault old new = (p : Program) × IfSome text (λ t. IsCompiled t p) × Writes p WriteFault old new
-Builds text (Refused fault) old new = IfSome text IsRefused × (new ≡ old)
+Builds text (Refused Form) old new = IfSome text IsRefused × (new ≡ old)
 Builds text FileFault old new = new ≡ old
 Builds text NoMemory old new = new ≡ old
 Builds text _ old new = ⊥

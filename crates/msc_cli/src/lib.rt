@@ -8,6 +8,7 @@ pub mod image_format;
 pub mod laws;
 pub mod outcome;
 pub mod output;
+pub mod print;
 pub mod read_image;
 pub mod read_small;
 pub mod request;

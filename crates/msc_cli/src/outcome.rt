@@ -16,6 +16,21 @@ pub enum SourceFault {
     /// The text is not of the small form.
     #[error("the text is not of the small form")]
     Form,
+    /// No token begins at this offset, in bytes (C99 6.4).
+    #[error("no token begins at offset {at}")]
+    Lex { at: u32 },
+    /// The token at this offset, in bytes, stands where the grammar has none such (C99 6.9).
+    #[error("no construct goes on at offset {at}")]
+    Syntax { at: u32 },
+}
+
+/// What of a C text is beyond its limit.
+#[derive(Clone, Copy, Debug, PartialEq, Eq)]
+pub enum Which {
+    /// Its bytes.
+    Text,
+    /// How deep its constructs nest.
+    Nesting,
 }
 
 /// How a call of the compiler ended.
@@ -23,6 +38,8 @@ pub enum SourceFault {
 pub enum Outcome {
     /// The image was written.
     Built,
+    /// The text of a pass was written.
+    Printed,
     /// The program ended with a status.
     Ran { status: u8 },
     /// The program trapped with a code.
@@ -41,6 +58,8 @@ pub enum Outcome {
     WriteFault,
     /// The text is no program.
     Refused(SourceFault),
+    /// Something of the text is beyond its limit. This much of it was counted.
+    Limit { which: Which, counted: u64 },
     /// The bytes are no image. They stop being one at this place, in bytes.
     BadImage { at: u64 },
     /// There was no memory.
@@ -52,11 +71,12 @@ pub fn exit_code(outcome: &Outcome) -> u8
     ensures { result ≡ status_of outcome.now }
 {
     match outcome {
-        Outcome::Built => 0,
+        Outcome::Built | Outcome::Printed => 0,
         Outcome::Ran { status } => *status,
         Outcome::Usage => 64,
         Outcome::Refused(_) => 65,
         Outcome::FileFault => 66,
+        Outcome::Limit { .. } => 69,
         Outcome::NoMemory => 71,
         Outcome::WriteFault => 73,
         Outcome::InputFault => 74,
@@ -95,10 +115,20 @@ fn said(outcome: &Outcome) -> &'static str
     ensures { result.now ≡ words_of outcome.now }
 {
     match outcome {
-        Outcome::Built | Outcome::Ran { .. } => "",
+        Outcome::Built | Outcome::Printed | Outcome::Ran { .. } => "",
         Outcome::Usage => "msc: usage\n",
         Outcome::Refused(SourceFault::Form) => "msc: form\n",
+        Outcome::Refused(SourceFault::Lex { .. }) => "msc: lex at ",
+        Outcome::Refused(SourceFault::Syntax { .. }) => "msc: syntax at ",
         Outcome::FileFault => "msc: file\n",
+        Outcome::Limit {
+            which: Which::Text,
+            ..
+        } => "msc: limit text ",
+        Outcome::Limit {
+            which: Which::Nesting,
+            ..
+        } => "msc: limit nesting ",
         Outcome::NoMemory => "msc: memory\n",
         Outcome::WriteFault => "msc: write\n",
         Outcome::InputFault => "msc: input\n",
@@ -118,6 +148,9 @@ fn number(outcome: &Outcome) -> Option<u64>
         Outcome::Stuck { pc } => Some(*pc),
         Outcome::Budget { steps } => Some(*steps),
         Outcome::BadImage { at } => Some(*at),
+        Outcome::Limit { counted, .. } => Some(*counted),
+        Outcome::Refused(SourceFault::Lex { at }) => Some(u64::from(*at)),
+        Outcome::Refused(SourceFault::Syntax { at }) => Some(u64::from(*at)),
         _ => None,
     }
 }

@@ -1,7 +1,7 @@
 //! The words of a call.
 
 ghost use Rattle.std.specs.Prelude.{◌≡◌, List, None, Some, MatchOption, map, string_bytes};
-ghost use Rattle.msc_cli.specs.Request.{command_at, is_option, requested};
+ghost use Rattle.msc_cli.specs.Request.{command_at, command_with, is_option, requested};
 
 /// What is asked for.
 #[derive(Clone, Copy, Debug, PartialEq, Eq)]
@@ -12,6 +12,8 @@ pub enum Command {
     Run,
     /// To read an image, and run it.
     Exec,
+    /// To read a C file, and write its syntax tree.
+    Print,
 }
 
 /// A command and the name of its file.
@@ -21,22 +23,26 @@ pub struct Request<'a> {
     pub file: &'a str,
 }
 
-/// The request of the words: the program's name, a command, and a file that does not begin with `-`.
-/// `None` comes exactly where the words are not so.
+/// The request of the words: the program's name, a command, and a file that does not begin with `-`; for
+/// `print` the words `--pass tree` stand behind the file. `None` comes exactly where the words are not so.
 pub fn read_words(words: &[String]) -> Option<Request<'_>>
     ensures { MatchOption result (requested (map string_bytes words.now) ≡ None) (λ r. requested (map string_bytes words.now) ≡ Some (r.command, r.file.now)) }
 {
-    let [_program, command, file] = words else {
-        return None;
+    let (command, file) = match words {
+        [_program, command, file] => (command_of(command.as_str())?, file.as_str()),
+        [_program, command, file, option, pass] => {
+            let command = command_with_pass(command.as_str(), option.as_str(), pass.as_str())?;
+            (command, file.as_str())
+        }
+        _ => return None,
     };
-    let command = command_of(command.as_str())?;
-    let file = file.as_str();
     if begins_as_option(file) {
         return None;
     }
     Some(Request { command, file })
 }
 
+/// The command of a word behind which the file alone stands.
 fn command_of(word: &str) -> Option<Command>
     ensures { result ≡ command_at word.now }
 {
@@ -45,6 +51,17 @@ fn command_of(word: &str) -> Option<Command>
         "run" => Some(Command::Run),
         "exec" => Some(Command::Exec),
         _ => None,
+    }
+}
+
+/// The command of a word that has an option with a value behind the file.
+fn command_with_pass(word: &str, option: &str, pass: &str) -> Option<Command>
+    ensures { result ≡ command_with word.now option.now pass.now }
+{
+    if word == "print" && option == "--pass" && pass == "tree" {
+        Some(Command::Print)
+    } else {
+        None
     }
 }
 

@@ -1,7 +1,11 @@
 //! The worked rows of the top call, each by its name.
 
-use crate::outcome::{Outcome, SourceFault, exit_code};
+use crate::outcome::{Outcome, SourceFault, Which, exit_code};
+use crate::read_image::read_image;
 use crate::top::msc_main;
+use alpha_run::ending::Ending;
+use alpha_run::machine::Machine;
+use bk_io::empty::EmptySource;
 use bk_io::memory::{MemFiles, MemSink, MemSource};
 use std::alloc::{AllocError, Global};
 use std::process::Abort;
@@ -83,12 +87,17 @@ fn failing_devices(rt: HostRuntime) -> Result<(), Fail> {
 
 #[test]
 fn usage(rt: HostRuntime) -> Result<(), Fail> {
-    let rows: [&[&str]; 5] = [
+    let rows: [&[&str]; 10] = [
         &["msc"],
         &["msc", "build"],
         &["msc", "build", "-a.c"],
         &["msc", "build", "a.c", "a.c"],
         &["msc", "compile", "a.c"],
+        &["msc", "print", "a.c"],
+        &["msc", "print", "a.c", "--pass"],
+        &["msc", "print", "a.c", "--pass", "trees"],
+        &["msc", "print", "--pass", "tree", "a.c"],
+        &["msc", "build", "a.c", "--pass", "tree"],
     ];
     for words in rows {
         let answer = call(rt.alloc(), words, HI, &[], &[])?;
@@ -134,6 +143,22 @@ fn exit_image(rt: HostRuntime) -> Result<(), Fail> {
         "msc: image at 0\n",
         76,
     );
+    Ok(())
+}
+
+#[test]
+fn exit_image_by_budget(rt: HostRuntime) -> Result<(), Fail> {
+    let alloc = rt.alloc();
+    let image = read_image(alloc, EXIT_IMAGE)?;
+    let mut machine = Machine::load(alloc, &image, 4096)?;
+    let mut out = MemSink::new(alloc, 2, Vec::new(alloc))?;
+    let ending = machine.run(5, &mut EmptySource, &mut out);
+    assert_eq!(rt; ending, Ending::Budget);
+    assert_eq!(rt; machine.steps(), 5);
+    assert_eq!(rt; out.taken(), b"A".as_slice());
+    let ending = machine.run(1, &mut EmptySource, &mut out);
+    assert_eq!(rt; ending, Ending::Done { status: 7 });
+    assert_eq!(rt; machine.steps(), 6);
     Ok(())
 }
 
@@ -187,8 +212,14 @@ fn exit_image_changed(rt: HostRuntime) -> Result<(), Fail> {
     }
     let later = exec_changed(rt.alloc(), 16, 3)?;
     assert_eq!(rt; later, Outcome::Ran { status: 7 });
-    // The first word is `lda`: with no opcode it stands for no instruction.
-    let stuck = exec_changed(rt.alloc(), 23, 0)?;
+    // A word of zeros stands for no instruction.
+    let mut bytes = EXIT_IMAGE.to_vec(rt.alloc())?;
+    for at in 20..24 {
+        if let Some(place) = bytes.get_mut(at) {
+            *place = 0;
+        }
+    }
+    let stuck = exec(rt.alloc(), bytes.as_slice())?;
     assert_eq!(rt; stuck, Outcome::Stuck { pc: 65536 });
     Ok(())
 }
@@ -206,5 +237,89 @@ fn exit_image_any_change(rt: HostRuntime) -> Result<(), Fail> {
             assert!(rt; named, "byte {at} as {byte} gives {outcome:?}");
         }
     }
+    Ok(())
+}
+
+/// What `print` answers for a text.
+fn print(alloc: Global, text: &[u8]) -> Result<Answer, AllocError> {
+    let words = ["msc", "print", "a.c", "--pass", "tree"];
+    call(alloc, &words, text, &[], &[])
+}
+
+const TREE: &[u8] = b"function main
+  takes
+    basic int
+  block
+    return
+      number 7
+";
+
+#[test]
+fn tree_lines(rt: HostRuntime) -> Result<(), Fail> {
+    let text = b"int main(void){return 7;}";
+    let answer = print(rt.alloc(), text)?;
+    expect(&rt, &answer, Outcome::Printed, TREE, "", 0);
+    let words = ["msc", "print", "a.c", "--pass", "tree"];
+    let answer = call(rt.alloc(), &words, text, &[0], &[])?;
+    expect(&rt, &answer, Outcome::FileFault, b"", "msc: file\n", 66);
+    let answer = call(rt.alloc(), &words, text, &[], &[8])?;
+    let line = "msc: write\n";
+    expect(&rt, &answer, Outcome::WriteFault, b"function", line, 73);
+    Ok(())
+}
+
+#[test]
+fn fault_places(rt: HostRuntime) -> Result<(), Fail> {
+    let rows: [(&[u8], SourceFault, &str); 3] = [
+        (
+            b"int main(void){return 1 2;}",
+            SourceFault::Syntax { at: 24 },
+            "msc: syntax at 24\n",
+        ),
+        (
+            b"int main(void){return 1;",
+            SourceFault::Syntax { at: 24 },
+            "msc: syntax at 24\n",
+        ),
+        (
+            b"int main(void){return 1 @",
+            SourceFault::Lex { at: 24 },
+            "msc: lex at 24\n",
+        ),
+    ];
+    for (text, fault, line) in rows {
+        let answer = print(rt.alloc(), text)?;
+        expect(&rt, &answer, Outcome::Refused(fault), b"", line, 65);
+    }
+    Ok(())
+}
+
+#[test]
+fn text_limit(rt: HostRuntime) -> Result<(), Fail> {
+    let mut blanks = Vec::new(rt.alloc());
+    blanks.resize(4_194_305, b' ')?;
+    let answer = print(rt.alloc(), blanks.as_slice())?;
+    let limit = Outcome::Limit {
+        which: Which::Text,
+        counted: 4_194_305,
+    };
+    expect(&rt, &answer, limit, b"", "msc: limit text 4194305\n", 69);
+    Ok(())
+}
+
+#[test]
+fn nesting_limit(rt: HostRuntime) -> Result<(), Fail> {
+    let alloc = rt.alloc();
+    let mut text = b"int main(void){return ".to_vec(alloc)?;
+    text.resize(22 + 255, b'(')?;
+    text.push(b'0')?;
+    text.resize(23 + 255 + 255, b')')?;
+    text.append(&mut b";}".to_vec(alloc)?)?;
+    let answer = print(alloc, text.as_slice())?;
+    let limit = Outcome::Limit {
+        which: Which::Nesting,
+        counted: 257,
+    };
+    expect(&rt, &answer, limit, b"", "msc: limit nesting 257\n", 69);
     Ok(())
 }

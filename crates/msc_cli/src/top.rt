@@ -9,14 +9,15 @@ ghost use Rattle.msc_cli.specs.Call.{Answers, FailsWhereDue, told_after, IsUnrea
 
 use crate::build::build;
 use crate::outcome::{Outcome, put_line};
+use crate::print::print;
 use crate::request::{Command, read_words};
 use crate::run::{exec, run};
 use bk_io::outside::{Files, Sink, Source};
 use std::alloc::Global;
 
-/// Does what the words ask for, `build FILE`, `run FILE` or `exec FILE`, and writes the outcome's line to
-/// `err`. `words[0]` is the program's name. The file that is named is read once, and no other. A failed
-/// write to `err` changes no outcome.
+/// Does what the words ask for, `build FILE`, `run FILE`, `exec FILE` or `print FILE --pass tree`, and
+/// writes the outcome's line to `err`. `words[0]` is the program's name. The file that is named is read
+/// once, and no other. A failed write to `err` changes no outcome.
 pub fn msc_main<F: Files, I: Source, O: Sink, E: Sink>(
     alloc: Global,
     words: &[String],
@@ -68,5 +69,6 @@ fn perform<F: Files, I: Source, O: Sink>(
         Command::Build => build(alloc, request.file, files, out),
         Command::Run => run(alloc, request.file, files, input, out),
         Command::Exec => exec(alloc, request.file, files, input, out),
+        Command::Print => print(alloc, request.file, files, out),
     }
 }

@@ -1,7 +1,10 @@
 //! Texts with their nesting, counted by hand.
 
+ghost use Rattle.std.specs.Prelude.{◌≤◌, length};
+
 use crate::fault::ParseFault;
 use crate::nesting::nest;
+use crate::parsing::parse;
 use std::alloc::{AllocError, Global};
 use std::test::Fail;
 
@@ -158,6 +161,18 @@ fn text_of(alloc: Global, parts: &[&str; 5], times: usize) -> Result<String, All
     Ok(text)
 }
 
+/// Whether `parse` takes the text by its nesting. The texts that begin with `int` are C.
+fn is_read_by_nesting(alloc: Global, text: &[u8], nesting: u32) -> bool
+    requires { length text.now ≤ 100000 }
+{
+    match parse(alloc, text) {
+        Ok(_) => nesting <= 256,
+        Err(ParseFault::Nesting { counted }) => nesting > 256 && counted == nesting,
+        Err(ParseFault::Syntax { .. }) => nesting <= 256 && !text.starts_with(b"int"),
+        Err(_) => false,
+    }
+}
+
 #[test]
 fn counts_what_stands_deep(rt: HostRuntime) -> Result<(), Fail> {
     for (parts, times, nesting) in &DEEP {
@@ -165,6 +180,11 @@ fn counts_what_stands_deep(rt: HostRuntime) -> Result<(), Fail> {
         assert!(rt; text.len() <= 100_000);
         assert!(rt;
             nest(rt.alloc(), text.as_bytes()) == Ok(*nesting),
+            "at {times} times {}",
+            parts[1]
+        );
+        assert!(rt;
+            is_read_by_nesting(rt.alloc(), text.as_bytes(), *nesting),
             "at {times} times {}",
             parts[1]
         );

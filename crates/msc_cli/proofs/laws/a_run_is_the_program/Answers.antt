@@ -1,5 +1,5 @@
 use Rattle.std.proofs.Common.{◌≡◌, ℕ, List, Bool, true, false, nat_lt, length, take, arith, refl, if◌then◌else◌}
-use Rattle.c_mean.specs.Behaviour.{Behaviour, Done, More, Undefined, Good}
+use Rattle.c_mean.specs.Behaviour.{Done, More, Undefined, Good}
 use Rattle.c_mean.specs.Small.{SmallUnit, written_by, status_of, meaning}
 use Rattle.alpha_isa.specs.Behave.{IsStack}
 use Rattle.msc_cli.specs.declared.run.TheConstants.{STACK, BUDGET}

@@ -1,0 +1,74 @@
+"""Makes a C text of about 4 MiB, always the same.
+
+usage: bench/made_text.py KIND FILE
+
+The kinds: `ordinary` (declarations and functions with names, numbers, literals, comments, linemarkers and marks),
+`operators` (one chain of operators), `commas` (one list of commas), `statements` (one block of statements),
+`brackets` (an expression in 250 brackets, again and again) and `typedefs` (names of types, and an object of each).
+"""
+import itertools
+import sys
+
+SIZE = 4 * 1024 * 1024 - 600
+
+
+def draws():
+    """Gives a function that draws a number below its argument, the same numbers in each run."""
+    seed = 1
+
+    def draw(n):
+        nonlocal seed
+        seed = (seed * 1103515245 + 12345) % 2**31
+        return (seed >> 8) % n
+
+    return draw
+
+
+def function(number, draw):
+    """An ordinary function."""
+    names = ["v%d_%d" % (number, k) for k in range(4)]
+    lines = [
+        "/* function %d: %s */\n" % (number, "words of a comment " * draw(4)),
+        "static int f%d(int %s, int %s, unsigned long %s) {\n" % (number, names[0], names[1], names[2]),
+        "    int %s = %d; // a local\n" % (names[3], draw(100000)),
+    ]
+    for _ in range(3 + draw(5)):
+        a, b, c = (names[draw(4)] for _ in range(3))
+        mark = ["*", "-", "&", "|", "<<"][draw(5)] if c != names[2] else "+"
+        lines.append("    %s = (%s + 0x%xu) %s (int)%s ^ %d;\n" % (a, b, draw(65536), mark, c, 1 + draw(7)))
+        letter = ["a", "\\n", "\\x41", "\\0"][draw(4)]
+        lines.append("    if (%s >= %d && %s != '%s') { %s += %s; } else { %s--; }\n" % (b, draw(999), c, letter, a, b, a))
+    lines.append('    return sizeof "text %d\\n" > 3 ? %s : %s;\n}\n' % (number, names[0], names[3]))
+    return "".join(lines)
+
+
+def ordinary():
+    draw = draws()
+    return '# 1 "made.c"\n', (function(number, draw) for number in itertools.count()), ""
+
+
+KINDS = {
+    "ordinary": ordinary,
+    "operators": lambda: ("int main(void) { return 1", itertools.repeat(" + 1"), "; }\n"),
+    "commas": lambda: ("int main(void) { 1", itertools.repeat(", 1"), "; return 0; }\n"),
+    "statements": lambda: ("int main(void) {\n", itertools.repeat("    ;\n    1;\n"), "}\n"),
+    "brackets": lambda: ("int main(void) {\n", itertools.repeat("(" * 250 + "1" + ")" * 250 + ";\n"), "}\n"),
+    "typedefs": lambda: ("", ("typedef int t%d; t%d v%d;\n" % (n, n, n) for n in itertools.count()), ""),
+}
+
+
+def made(kind):
+    front, parts, end = KINDS[kind]()
+    text, size = [front], 0
+    for part in parts:
+        if size >= SIZE - len(part):
+            break
+        text.append(part)
+        size += len(part)
+    return "".join(text) + end
+
+
+if __name__ == "__main__":
+    kind, path = sys.argv[1:]
+    with open(path, "w") as file:
+        file.write(made(kind))

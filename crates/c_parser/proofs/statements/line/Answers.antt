@@ -1,0 +1,23 @@
+use Rattle.std.proofs.Common.{rules, arith}
+use Rattle.std.proofs.lemmas.Grind.{common_steps}
+use Rattle.c_grammar.specs.ParseStatements.{line}
+use Rattle.c_parser.proofs.statements.line.Goals as goal
+
+pub returns-in_err-base : goal.returns-in_err-base
+unfolding line
+returns-in_err-base c = first_of (search rules, grind (arith, common_steps))
+
+pub locals-requires : goal.locals-requires
+locals-requires c = first_of (search rules, grind (arith, common_steps))
+
+pub returns-in_err-found : goal.returns-in_err-found
+unfolding line
+returns-in_err-found c = first_of (search rules, grind (arith, common_steps))
+
+pub returns-in_err-expect : goal.returns-in_err-expect
+unfolding line
+returns-in_err-expect c = first_of (search rules, grind (arith, common_steps))
+
+pub returns : goal.returns
+unfolding line
+returns c = first_of (search rules, grind (arith, common_steps))

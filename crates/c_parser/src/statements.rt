@@ -1,0 +1,471 @@
+//! Statements.
+
+ghost use Rattle.std.specs.Prelude.{◌≡◌, ◌++◌, [], length, OnOk};
+ghost use Rattle.c_grammar.specs.Types.{bare};
+ghost use Rattle.c_grammar.specs.Statements.{locals_of};
+ghost use Rattle.c_grammar.specs.ParseExpr.{listed_from};
+ghost use Rattle.c_grammar.specs.ParseStatements as model;
+ghost use Rattle.c_parser.specs.Blocks.{returned, value, ends_section};
+ghost use Rattle.c_declarations.specs.Answers.{Answers};
+
+use c_declarations::{Base, Fault, Scope, Tokens, declaration, expr, plain, whole};
+use c_grammar::{Head, Naming, head_of};
+use c_lexer::{Keyword, Punct};
+use c_tree::{Box, Expr, ForFirst, Label, Local, Section, Seq, Stmt, TypeNode};
+use std::alloc::{AllocError, Global};
+
+/// Reads a declarator in a block, behind its type, and its initialiser.
+fn local(
+    alloc: Global,
+    scope: &Scope<'_>,
+    tokens: &mut Tokens<'_>,
+    depth: usize,
+    ty: TypeNode,
+) -> Result<Local, Fault>
+    ensures { Answers (model.local scope.now depth ty tokens.old) result tokens.new }
+{
+    let declaration = declaration(alloc, scope, tokens, depth, Naming::Required, ty)?;
+    if !tokens.sees(Punct::Assign) {
+        return Ok(Local {
+            declaration,
+            init: None,
+        });
+    }
+    tokens.take();
+    let init = expr(alloc, scope, tokens, depth, 2)?;
+    Ok(Local {
+        declaration,
+        init: Some(init),
+    })
+}
+
+/// Reads the declarators in a block behind their type, which has no braces.
+fn locals(
+    alloc: Global,
+    scope: &Scope<'_>,
+    tokens: &mut Tokens<'_>,
+    depth: usize,
+    base: Base,
+) -> Result<Seq<Local>, Fault>
+    requires { bare base ≡ base }
+    ensures { Answers (listed_from (model.local scope.now depth base) (length tokens.old) [] tokens.old) result tokens.new }
+{
+    let mut found = Seq::new(alloc);
+    for _turn in 0..tokens.left() {
+        let ty = base.bare()?.into_type();
+        found.push(local(alloc, scope, tokens, depth, ty)?)?;
+        if !tokens.sees(Punct::Comma) {
+            return Ok(found);
+        }
+        tokens.take();
+    }
+    Err(Fault::Refused)
+}
+
+/// Reads a declaration in a block.
+fn line(
+    alloc: Global,
+    scope: &Scope<'_>,
+    tokens: &mut Tokens<'_>,
+    depth: usize,
+) -> Result<Seq<Local>, Fault>
+    ensures { Answers (model.line scope.now depth tokens.old) result tokens.new }
+{
+    let base = plain(alloc, scope, tokens)?;
+    let found = locals(alloc, scope, tokens, depth, base)?;
+    tokens.expect(Punct::Semicolon)?;
+    Ok(found)
+}
+
+/// Reads an expression that is missing where this punctuator stands.
+fn optional(
+    alloc: Global,
+    scope: &Scope<'_>,
+    tokens: &mut Tokens<'_>,
+    depth: usize,
+    mark: Punct,
+) -> Result<Option<Expr>, Fault>
+    ensures { Answers (model.optional scope.now depth mark tokens.old) result tokens.new }
+{
+    if tokens.sees(mark) {
+        return Ok(None);
+    }
+    Ok(Some(whole(alloc, scope, tokens, depth)?))
+}
+
+/// Reads an expression in brackets.
+fn condition(
+    alloc: Global,
+    scope: &Scope<'_>,
+    tokens: &mut Tokens<'_>,
+    depth: usize,
+) -> Result<Expr, Fault>
+    ensures { Answers (model.condition scope.now depth tokens.old) result tokens.new }
+{
+    tokens.expect(Punct::LeftParen)?;
+    let found = whole(alloc, scope, tokens, depth)?;
+    tokens.expect(Punct::RightParen)?;
+    Ok(found)
+}
+
+/// Reads the first part of a `for`, where it is an expression.
+fn first_value(
+    alloc: Global,
+    scope: &Scope<'_>,
+    tokens: &mut Tokens<'_>,
+    depth: usize,
+) -> Result<ForFirst, Fault>
+    ensures { Answers (model.first_value scope.now depth tokens.old) result tokens.new }
+{
+    let found = whole(alloc, scope, tokens, depth)?;
+    tokens.expect(Punct::Semicolon)?;
+    Ok(ForFirst::Value(found))
+}
+
+/// Reads the first part of a `for`, up to the semicolon behind it.
+fn for_first(
+    alloc: Global,
+    scope: &Scope<'_>,
+    tokens: &mut Tokens<'_>,
+    depth: usize,
+) -> Result<ForFirst, Fault>
+    ensures { Answers (model.first scope.now depth tokens.old) result tokens.new }
+{
+    if tokens.sees(Punct::Semicolon) {
+        tokens.take();
+        return Ok(ForFirst::Nothing);
+    }
+    if scope.begins_type(tokens) {
+        return Ok(ForFirst::Locals(line(alloc, scope, tokens, depth)?));
+    }
+    first_value(alloc, scope, tokens, depth)
+}
+
+/// Reads a `case` behind its word.
+fn case_label(
+    alloc: Global,
+    scope: &Scope<'_>,
+    tokens: &mut Tokens<'_>,
+    depth: usize,
+    at: u32,
+) -> Result<Label, Fault>
+    ensures { Answers (model.case_label scope.now depth at tokens.old) result tokens.new }
+{
+    let value = expr(alloc, scope, tokens, depth, 4)?;
+    tokens.expect(Punct::Colon)?;
+    Ok(Label::Case { at, value })
+}
+
+/// Reads a label of a `switch`.
+fn label(
+    alloc: Global,
+    scope: &Scope<'_>,
+    tokens: &mut Tokens<'_>,
+    depth: usize,
+) -> Result<Label, Fault>
+    ensures { Answers (model.label scope.now depth tokens.old) result tokens.new }
+{
+    let at = tokens.place();
+    if tokens.sees_word(Keyword::Case) {
+        tokens.take();
+        return case_label(alloc, scope, tokens, depth, at);
+    }
+    tokens.expect_word(Keyword::Default)?;
+    tokens.expect(Punct::Colon)?;
+    Ok(Label::Default { at })
+}
+
+/// Reads the value of a `return` behind its word, up to the semicolon behind it.
+fn returned(
+    alloc: Global,
+    scope: &Scope<'_>,
+    tokens: &mut Tokens<'_>,
+    depth: usize,
+    at: u32,
+) -> Result<Stmt, Fault>
+    ensures { Answers (returned scope.now depth at tokens.old) result tokens.new }
+{
+    let value = optional(alloc, scope, tokens, depth, Punct::Semicolon)?;
+    tokens.expect(Punct::Semicolon)?;
+    Ok(Stmt::Return { at, value })
+}
+
+/// Reads an expression as a statement.
+fn value(
+    alloc: Global,
+    scope: &Scope<'_>,
+    tokens: &mut Tokens<'_>,
+    depth: usize,
+) -> Result<Stmt, Fault>
+    ensures { Answers (value scope.now depth tokens.old) result tokens.new }
+{
+    let found = whole(alloc, scope, tokens, depth)?;
+    tokens.expect(Punct::Semicolon)?;
+    Ok(Stmt::Expression(found))
+}
+
+/// Whether the statements under a label end here.
+fn ends_section(tokens: &Tokens<'_>) -> bool
+    ensures { result ≡ ends_section tokens.now }
+{
+    tokens.sees(Punct::RightBrace)
+        || tokens.sees_word(Keyword::Case)
+        || tokens.sees_word(Keyword::Default)
+}
+
+/// Puts declarations behind statements.
+fn push_locals(found: &mut Seq<Stmt>, locals: Seq<Local>) -> Result<(), AllocError>
+    ensures { OnOk result (found.new ≡ found.old ++ locals_of locals) }
+{
+    for local in Seq::into_vec(locals) {
+        found.push(Stmt::Local(local))?;
+    }
+    Ok(())
+}
+
+/// Reads what stands in a block behind its brace, and the brace that closes it.
+#[cycle(stmt)]
+pub fn items(
+    alloc: Global,
+    scope: &Scope<'_>,
+    tokens: &mut Tokens<'_>,
+    depth: usize,
+    inner: usize,
+) -> Result<Seq<Stmt>, Fault>
+    ensures { Answers (model.items_from scope.now depth (model.stmt scope.now inner) (length tokens.old) [] tokens.old) result tokens.new }
+{
+    let mut found = Seq::new(alloc);
+    for _turn in 0..tokens.left() {
+        if tokens.sees(Punct::RightBrace) {
+            tokens.take();
+            return Ok(found);
+        }
+        if scope.begins_type(tokens) {
+            push_locals(&mut found, line(alloc, scope, tokens, depth)?)?;
+        } else {
+            found.push(stmt(alloc, scope, tokens, inner)?)?;
+        }
+    }
+    Err(Fault::Refused)
+}
+
+/// Reads the statements under a label.
+#[cycle(stmt)]
+fn stmts(
+    alloc: Global,
+    scope: &Scope<'_>,
+    tokens: &mut Tokens<'_>,
+    depth: usize,
+    inner: usize,
+) -> Result<Seq<Stmt>, Fault>
+    ensures { Answers (model.stmts_from scope.now depth (model.stmt scope.now inner) (length tokens.old) [] tokens.old) result tokens.new }
+{
+    let mut found = Seq::new(alloc);
+    for _turn in 0..tokens.left() {
+        if ends_section(tokens) {
+            return Ok(found);
+        }
+        found.push(stmt(alloc, scope, tokens, inner)?)?;
+    }
+    Err(Fault::Refused)
+}
+
+/// Reads a label and the statements under it.
+#[cycle(stmt)]
+fn section(
+    alloc: Global,
+    scope: &Scope<'_>,
+    tokens: &mut Tokens<'_>,
+    depth: usize,
+    inner: usize,
+) -> Result<Section, Fault>
+    ensures { Answers (model.section scope.now depth (model.stmt scope.now inner) tokens.old) result tokens.new }
+{
+    let label = label(alloc, scope, tokens, depth)?;
+    let statements = stmts(alloc, scope, tokens, depth, inner)?;
+    Ok(Section { label, statements })
+}
+
+/// Reads the sections of a `switch` behind the brace, and the brace that closes them.
+#[cycle(stmt)]
+fn sections(
+    alloc: Global,
+    scope: &Scope<'_>,
+    tokens: &mut Tokens<'_>,
+    depth: usize,
+    inner: usize,
+) -> Result<Seq<Section>, Fault>
+    ensures { Answers (model.sections_from scope.now depth (model.stmt scope.now inner) (length tokens.old) [] tokens.old) result tokens.new }
+{
+    let mut found = Seq::new(alloc);
+    for _turn in 0..tokens.left() {
+        if tokens.sees(Punct::RightBrace) {
+            tokens.take();
+            return Ok(found);
+        }
+        found.push(section(alloc, scope, tokens, depth, inner)?)?;
+    }
+    Err(Fault::Refused)
+}
+
+/// Reads the second branch of an `if`, which goes to the nearest one.
+#[cycle(stmt)]
+fn alternative(
+    alloc: Global,
+    scope: &Scope<'_>,
+    tokens: &mut Tokens<'_>,
+    depth: usize,
+    inner: usize,
+    condition: Expr,
+    then: Box<Stmt>,
+) -> Result<Stmt, Fault>
+    ensures { Answers (model.alternative scope.now depth (model.stmt scope.now inner) condition then tokens.old) result tokens.new }
+{
+    if !tokens.sees_word(Keyword::Else) {
+        return Ok(Stmt::If {
+            condition,
+            then,
+            otherwise: None,
+        });
+    }
+    tokens.take();
+    let otherwise = Box::new(alloc, stmt(alloc, scope, tokens, inner)?)?;
+    Ok(Stmt::If {
+        condition,
+        then,
+        otherwise: Some(otherwise),
+    })
+}
+
+/// Reads an `if` behind its word.
+#[cycle(stmt)]
+fn choice(
+    alloc: Global,
+    scope: &Scope<'_>,
+    tokens: &mut Tokens<'_>,
+    depth: usize,
+    inner: usize,
+) -> Result<Stmt, Fault>
+    ensures { Answers (model.choice scope.now depth (model.stmt scope.now inner) tokens.old) result tokens.new }
+{
+    let condition = condition(alloc, scope, tokens, depth)?;
+    let then = Box::new(alloc, stmt(alloc, scope, tokens, inner)?)?;
+    alternative(alloc, scope, tokens, depth, inner, condition, then)
+}
+
+/// Reads a `while` behind its word.
+#[cycle(stmt)]
+fn while_loop(
+    alloc: Global,
+    scope: &Scope<'_>,
+    tokens: &mut Tokens<'_>,
+    depth: usize,
+    inner: usize,
+) -> Result<Stmt, Fault>
+    ensures { Answers (model.while scope.now depth (model.stmt scope.now inner) tokens.old) result tokens.new }
+{
+    let condition = condition(alloc, scope, tokens, depth)?;
+    let body = Box::new(alloc, stmt(alloc, scope, tokens, inner)?)?;
+    Ok(Stmt::While { condition, body })
+}
+
+/// Reads a `do` behind its word.
+#[cycle(stmt)]
+fn do_loop(
+    alloc: Global,
+    scope: &Scope<'_>,
+    tokens: &mut Tokens<'_>,
+    depth: usize,
+    inner: usize,
+) -> Result<Stmt, Fault>
+    ensures { Answers (model.until scope.now depth (model.stmt scope.now inner) tokens.old) result tokens.new }
+{
+    let body = Box::new(alloc, stmt(alloc, scope, tokens, inner)?)?;
+    tokens.expect_word(Keyword::While)?;
+    let condition = condition(alloc, scope, tokens, depth)?;
+    tokens.expect(Punct::Semicolon)?;
+    Ok(Stmt::Do { body, condition })
+}
+
+/// Reads a `for` behind its word.
+#[cycle(stmt)]
+fn for_loop(
+    alloc: Global,
+    scope: &Scope<'_>,
+    tokens: &mut Tokens<'_>,
+    depth: usize,
+    inner: usize,
+) -> Result<Stmt, Fault>
+    ensures { Answers (model.for scope.now depth (model.stmt scope.now inner) tokens.old) result tokens.new }
+{
+    tokens.expect(Punct::LeftParen)?;
+    let first = for_first(alloc, scope, tokens, depth)?;
+    let condition = optional(alloc, scope, tokens, depth, Punct::Semicolon)?;
+    tokens.expect(Punct::Semicolon)?;
+    let step = optional(alloc, scope, tokens, depth, Punct::RightParen)?;
+    tokens.expect(Punct::RightParen)?;
+    let body = Box::new(alloc, stmt(alloc, scope, tokens, inner)?)?;
+    Ok(Stmt::For {
+        first,
+        condition,
+        step,
+        body,
+    })
+}
+
+/// Reads a `switch` behind its word.
+#[cycle(stmt)]
+fn switch(
+    alloc: Global,
+    scope: &Scope<'_>,
+    tokens: &mut Tokens<'_>,
+    depth: usize,
+    inner: usize,
+) -> Result<Stmt, Fault>
+    ensures { Answers (model.switch scope.now depth (model.stmt scope.now inner) tokens.old) result tokens.new }
+{
+    let operand = condition(alloc, scope, tokens, depth)?;
+    tokens.expect(Punct::LeftBrace)?;
+    let sections = sections(alloc, scope, tokens, depth, inner)?;
+    Ok(Stmt::Switch { operand, sections })
+}
+
+/// Reads a statement. The depth bounds how deep it goes: as much as there are tokens is enough.
+#[cycle(stmt)]
+pub fn stmt(
+    alloc: Global,
+    scope: &Scope<'_>,
+    tokens: &mut Tokens<'_>,
+    depth: usize,
+) -> Result<Stmt, Fault>
+    ensures { Answers (model.stmt scope.now depth tokens.old) result tokens.new }
+{
+    if depth == 0 {
+        return Err(Fault::Refused);
+    }
+    let at = tokens.place();
+    let inner = depth - 1;
+    let head = head_of(tokens.peek());
+    if head != Head::Other {
+        tokens.take();
+    }
+    match head {
+        Head::Block => Ok(Stmt::Block(items(alloc, scope, tokens, depth, inner)?)),
+        Head::Empty => Ok(Stmt::Empty),
+        Head::If => choice(alloc, scope, tokens, depth, inner),
+        Head::While => while_loop(alloc, scope, tokens, depth, inner),
+        Head::Do => do_loop(alloc, scope, tokens, depth, inner),
+        Head::For => for_loop(alloc, scope, tokens, depth, inner),
+        Head::Switch => switch(alloc, scope, tokens, depth, inner),
+        Head::Break => {
+            tokens.expect(Punct::Semicolon)?;
+            Ok(Stmt::Break { at })
+        }
+        Head::Continue => {
+            tokens.expect(Punct::Semicolon)?;
+            Ok(Stmt::Continue { at })
+        }
+        Head::Return => returned(alloc, scope, tokens, depth, at),
+        Head::Other => value(alloc, scope, tokens, depth),
+    }
+}

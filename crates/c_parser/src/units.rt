@@ -1,0 +1,383 @@
+//! Units.
+
+ghost use Rattle.std.specs.Prelude.{◌≡◌, [], length, IfOk};
+ghost use Rattle.c_grammar.specs.ParseSpecifiers.{braced_from};
+ghost use Rattle.c_grammar.specs.Types as types;
+ghost use Rattle.c_grammar.specs.ParseUnits as model;
+ghost use Rattle.c_declarations.specs.Answers.{Answers, AnswersIn, AnswersUnit};
+ghost use Rattle.c_parser.specs.Objects.{external_of, is_function};
+
+use crate::statements::items;
+use c_declarations::{
+    Base, Fault, Scope, Tokens, append, declaration, declarator, expr, shaped, specifier,
+};
+use c_grammar::{Declarator, Named, Naming, Opening, Shape, opening_of};
+use c_lexer::Punct;
+use c_tree::{Declaration, External, FunctionEnd, Init, Seq, Storage, TypeNode};
+use std::alloc::{AllocError, Global};
+
+/// Reads initialisers with commas between them, one or more, and perhaps a comma behind.
+#[cycle(init)]
+fn inits(
+    alloc: Global,
+    scope: &Scope<'_>,
+    tokens: &mut Tokens<'_>,
+    depth: usize,
+) -> Result<Seq<Init>, Fault>
+    ensures { Answers (braced_from (model.init scope.now depth) (length tokens.old) [] tokens.old) result tokens.new }
+{
+    let mut found = Seq::new(alloc);
+    for _turn in 0..tokens.left() {
+        found.push(init(alloc, scope, tokens, depth)?)?;
+        if !tokens.sees(Punct::Comma) {
+            return Ok(found);
+        }
+        tokens.take();
+        if tokens.sees(Punct::RightBrace) {
+            return Ok(found);
+        }
+    }
+    Err(Fault::Refused)
+}
+
+/// Reads an initialiser. The depth bounds how deep it goes: as much as there are tokens is enough.
+#[cycle(init)]
+fn init(
+    alloc: Global,
+    scope: &Scope<'_>,
+    tokens: &mut Tokens<'_>,
+    depth: usize,
+) -> Result<Init, Fault>
+    ensures { Answers (model.init scope.now depth tokens.old) result tokens.new }
+{
+    if depth == 0 {
+        return Err(Fault::Refused);
+    }
+    if !tokens.sees(Punct::LeftBrace) {
+        return Ok(Init::Value(expr(alloc, scope, tokens, depth, 2)?));
+    }
+    let at = tokens.place();
+    tokens.take();
+    let items = inits(alloc, scope, tokens, depth - 1)?;
+    tokens.expect(Punct::RightBrace)?;
+    Ok(Init::List { at, items })
+}
+
+/// Reads the declarators of a `typedef` behind their type. The names of types grow from one to the next.
+fn typedefs_listed(
+    alloc: Global,
+    scope: &mut Scope<'_>,
+    tokens: &mut Tokens<'_>,
+    depth: usize,
+    base: Base,
+) -> Result<Seq<External>, Fault>
+    ensures { AnswersIn (model.typedefs_from scope.old depth (length tokens.old) base [] tokens.old) result scope.new tokens.new }
+{
+    let mut found = Seq::new(alloc);
+    let mut ty = base;
+    for _turn in 0..tokens.left() {
+        let bare = ty.bare()?;
+        let first = ty.into_type();
+        let declaration = declaration(alloc, scope, tokens, depth, Naming::Required, first)?;
+        scope.add_type(alloc, declaration.name.copy()?)?;
+        found.push(External::Typedef(declaration))?;
+        ty = bare;
+        if !tokens.sees(Punct::Comma) {
+            return Ok(found);
+        }
+        tokens.take();
+    }
+    Err(Fault::Refused)
+}
+
+/// Reads a `typedef` behind its word.
+fn typedefs(
+    alloc: Global,
+    scope: &mut Scope<'_>,
+    tokens: &mut Tokens<'_>,
+    depth: usize,
+) -> Result<Seq<External>, Fault>
+    ensures { AnswersIn (model.typedefs scope.old depth tokens.old) result scope.new tokens.new }
+{
+    let base = specifier(alloc, scope, tokens, depth)?;
+    let found = typedefs_listed(alloc, scope, tokens, depth, base)?;
+    tokens.expect(Punct::Semicolon)?;
+    Ok(found)
+}
+
+/// A declarator with a name, behind its type.
+#[derive(Drop)]
+struct Declared {
+    ty: TypeNode,
+    named: Named,
+    shapes: Seq<Shape>,
+}
+
+impl Declared {
+    /// Whether the declarator itself is one of a function.
+    fn is_function(&self) -> bool
+        ensures { result ≡ is_function self.now.shapes }
+    {
+        match self.shapes.as_slice() {
+            [Shape::Takes(_), ..] => true,
+            _ => false,
+        }
+    }
+
+    /// What it declares.
+    fn into_declaration(self, alloc: Global) -> Result<Declaration, AllocError>
+        ensures { IfOk result (λ d. d ≡ types.declared self.ty self.named self.shapes) }
+    {
+        let Declared { ty, named, shapes } = self;
+        let ty = shaped(alloc, shapes, ty)?;
+        Ok(Declaration {
+            at: named.at,
+            name: named.name,
+            ty,
+        })
+    }
+
+    /// What it declares at file scope.
+    fn into_external(
+        self,
+        alloc: Global,
+        storage: Option<Storage>,
+        init: Option<Init>,
+    ) -> Result<External, AllocError>
+        ensures { IfOk result (λ x. x ≡ external_of (is_function self.shapes) (types.declared self.ty self.named self.shapes) storage init) }
+    {
+        let is_function = self.is_function();
+        let declaration = self.into_declaration(alloc)?;
+        if !is_function {
+            return Ok(External::Object {
+                declaration,
+                storage,
+                init,
+            });
+        }
+        let end = match init {
+            None => FunctionEnd::Nothing,
+            Some(init) => FunctionEnd::Init(init),
+        };
+        Ok(External::Function {
+            declaration,
+            storage,
+            end,
+        })
+    }
+}
+
+/// Reads what stands behind a declarator: its initialiser, or nothing.
+fn object(
+    alloc: Global,
+    scope: &Scope<'_>,
+    tokens: &mut Tokens<'_>,
+    depth: usize,
+    storage: Option<Storage>,
+    declared: Declared,
+) -> Result<External, Fault>
+    ensures { Answers (model.object_by scope.now depth storage declared.ty declared.named declared.shapes tokens.old) result tokens.new }
+{
+    if !tokens.sees(Punct::Assign) {
+        return Ok(declared.into_external(alloc, storage, None)?);
+    }
+    tokens.take();
+    let value = init(alloc, scope, tokens, depth)?;
+    Ok(declared.into_external(alloc, storage, Some(value))?)
+}
+
+/// Reads declarators with commas between them, each with its initialiser, behind those that were found.
+fn objects(
+    alloc: Global,
+    scope: &Scope<'_>,
+    tokens: &mut Tokens<'_>,
+    depth: usize,
+    storage: Option<Storage>,
+    base: Base,
+    found: Seq<External>,
+) -> Result<Seq<External>, Fault>
+    ensures { Answers (model.objects_from scope.now depth storage (length tokens.old) base found tokens.old) result tokens.new }
+{
+    let mut found = found;
+    let mut ty = base;
+    for _turn in 0..tokens.left() {
+        let Declarator { name, shapes } = declarator(
+            alloc,
+            scope,
+            tokens,
+            depth,
+            Naming::Required,
+        )?;
+        let Some(named) = name else {
+            return Err(Fault::Refused);
+        };
+        let bare = ty.bare()?;
+        let ty_here = ty.into_type();
+        let declared = Declared {
+            ty: ty_here,
+            named,
+            shapes,
+        };
+        found.push(object(alloc, scope, tokens, depth, storage, declared)?)?;
+        ty = bare;
+        if !tokens.sees(Punct::Comma) {
+            return Ok(found);
+        }
+        tokens.take();
+    }
+    Err(Fault::Refused)
+}
+
+/// Reads what stands behind the first declarator, of which the further ones have the bare type.
+fn objects_behind(
+    alloc: Global,
+    scope: &Scope<'_>,
+    tokens: &mut Tokens<'_>,
+    depth: usize,
+    storage: Option<Storage>,
+    declared: Declared,
+    bare: Base,
+) -> Result<Seq<External>, Fault>
+    requires { types.bare declared.ty ≡ bare }
+    ensures { Answers (model.objects_behind scope.now depth storage declared.ty declared.named declared.shapes tokens.old) result tokens.new }
+{
+    let mut found = Seq::new(alloc);
+    found.push(object(alloc, scope, tokens, depth, storage, declared)?)?;
+    if !tokens.sees(Punct::Comma) {
+        return Ok(found);
+    }
+    tokens.take();
+    objects(alloc, scope, tokens, depth, storage, bare, found)
+}
+
+/// Reads the body of a function behind its brace.
+fn body_behind(
+    alloc: Global,
+    scope: &Scope<'_>,
+    tokens: &mut Tokens<'_>,
+    depth: usize,
+    storage: Option<Storage>,
+    declaration: Declaration,
+) -> Result<Seq<External>, Fault>
+    ensures { Answers (model.body_behind scope.now depth storage declaration tokens.old) result tokens.new }
+{
+    let body = items(alloc, scope, tokens, depth, depth)?;
+    let mut found = Seq::new(alloc);
+    found.push(External::Function {
+        declaration,
+        storage,
+        end: FunctionEnd::Body(body),
+    })?;
+    Ok(found)
+}
+
+/// Reads what stands behind the first declarator: the body of a function, or the rest of a declaration.
+fn objects_named(
+    alloc: Global,
+    scope: &Scope<'_>,
+    tokens: &mut Tokens<'_>,
+    depth: usize,
+    storage: Option<Storage>,
+    declared: Declared,
+    bare: Base,
+) -> Result<Seq<External>, Fault>
+    requires { types.bare declared.ty ≡ bare }
+    ensures { Answers (model.objects_named scope.now depth storage declared.ty declared.named declared.shapes tokens.old) result tokens.new }
+{
+    if tokens.sees(Punct::LeftBrace) {
+        tokens.take();
+        let declaration = declared.into_declaration(alloc)?;
+        return body_behind(alloc, scope, tokens, depth, storage, declaration);
+    }
+    let found = objects_behind(alloc, scope, tokens, depth, storage, declared, bare)?;
+    tokens.expect(Punct::Semicolon)?;
+    Ok(found)
+}
+
+/// Reads what stands behind a type at file scope.
+fn behind_type(
+    alloc: Global,
+    scope: &Scope<'_>,
+    tokens: &mut Tokens<'_>,
+    depth: usize,
+    storage: Option<Storage>,
+    base: Base,
+) -> Result<Seq<External>, Fault>
+    ensures { Answers (model.behind_type scope.now depth storage base tokens.old) result tokens.new }
+{
+    if tokens.sees(Punct::Semicolon) {
+        tokens.take();
+        let ty = base.into_type();
+        let mut found = Seq::new(alloc);
+        found.push(External::Tags { storage, ty })?;
+        return Ok(found);
+    }
+    let Declarator { name, shapes } = declarator(alloc, scope, tokens, depth, Naming::Required)?;
+    let Some(named) = name else {
+        return Err(Fault::Refused);
+    };
+    let bare = base.bare()?;
+    let ty = base.into_type();
+    let declared = Declared { ty, named, shapes };
+    objects_named(alloc, scope, tokens, depth, storage, declared, bare)
+}
+
+/// Reads a declaration at file scope behind its storage word.
+fn stored(
+    alloc: Global,
+    scope: &Scope<'_>,
+    tokens: &mut Tokens<'_>,
+    depth: usize,
+    storage: Option<Storage>,
+) -> Result<Seq<External>, Fault>
+    ensures { AnswersIn (model.stored scope.now depth storage tokens.old) result scope.now tokens.new }
+{
+    let base = specifier(alloc, scope, tokens, depth)?;
+    behind_type(alloc, scope, tokens, depth, storage, base)
+}
+
+/// Reads an external declaration.
+fn external(
+    alloc: Global,
+    scope: &mut Scope<'_>,
+    tokens: &mut Tokens<'_>,
+    depth: usize,
+) -> Result<Seq<External>, Fault>
+    ensures { AnswersIn (model.external scope.old depth tokens.old) result scope.new tokens.new }
+{
+    match opening_of(tokens.peek()) {
+        Opening::Typedef => {
+            tokens.take();
+            typedefs(alloc, scope, tokens, depth)
+        }
+        Opening::Static => {
+            tokens.take();
+            stored(alloc, scope, tokens, depth, Some(Storage::Static))
+        }
+        Opening::Extern => {
+            tokens.take();
+            stored(alloc, scope, tokens, depth, Some(Storage::Extern))
+        }
+        Opening::Other => stored(alloc, scope, tokens, depth, None),
+    }
+}
+
+/// Reads external declarations up to the end.
+pub fn externals(
+    alloc: Global,
+    scope: &mut Scope<'_>,
+    tokens: &mut Tokens<'_>,
+) -> Result<Seq<External>, Fault>
+    ensures { AnswersUnit (model.externals_from (length tokens.old) scope.old [] tokens.old) result tokens.new }
+{
+    let mut found = Seq::new(alloc);
+    for _turn in 0..tokens.left() {
+        let left = tokens.left();
+        if left == 0 {
+            return Ok(found);
+        }
+        let more = external(alloc, scope, tokens, left)?;
+        found = append(found, more)?;
+    }
+    Ok(found)
+}

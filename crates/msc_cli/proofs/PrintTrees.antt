@@ -1,0 +1,52 @@
+-- What is printed of the text that was read of a file.
+use Rattle.std.proofs.Common.{◌≡◌, ℕ, ◌≤◌, List, inl, inr, length, take, ap, subst, arith, length-take, Option, Some, None, IfSome}
+use Rattle.bk_io.specs.Shelf.{Shelf, file_of}
+use Rattle.c_tree.specs.declared.declarations.Unit.{Unit as Tree}
+use Rattle.msc_cli.specs.declared.outcome.Outcome.{Outcome}
+use Rattle.msc_cli.specs.declared.outcome.Outcome.TheVariants.{Printed, FileFault, WriteFault, Refused, Limit, NoMemory}
+use Rattle.msc_cli.specs.declared.outcome.SourceFault.TheVariants.{Lex, Syntax}
+use Rattle.msc_cli.specs.declared.outcome.Which.TheVariants.{Text, Nesting}
+use Rattle.msc_cli.specs.TopCall.{IsFront, text_of}
+use Rattle.msc_cli.specs.PrintTree.{Spells, SpellsNone, Prints}
+
+-- a front within the limit is the whole file
+short : (file text : List ℕ) → text ≡ take 4194305 file → 4194305 ≤ length file → length text ≤ 4194304 → ⊥
+short file text front long within = omega (arith, within, ap length front, length-take 4194305 file, long)
+
+spells_file : (file text : List ℕ) (tree : Tree) → IsFront 4194305 file text → Spells text tree → Spells file tree
+spells_file file text tree front s = elim front [
+  | inl w ↦ subst (λ t. Spells t tree) w.0 s
+  | inr w ↦ absurd (short file text w.0 w.1 s.0)
+]
+
+none_cut : (file text : List ℕ) (answer : Outcome) → text ≡ take 4194305 file → 4194305 ≤ length file → SpellsNone text answer → SpellsNone file answer
+none_cut file text (Limit Text counted) front long n = (omega (arith, long), n.1)
+none_cut file text (Limit Nesting counted) front long n = absurd (short file text front long n.0)
+none_cut file text (Refused (Lex at)) front long n = absurd (short file text front long n.0)
+none_cut file text (Refused (Syntax at)) front long n = absurd (short file text front long n.0)
+none_cut file text _ front long n = absurd n
+
+none_file : (file text : List ℕ) (answer : Outcome) → IsFront 4194305 file text → SpellsNone text answer → SpellsNone file answer
+none_file file text answer front n = elim front [
+  | inl w ↦ subst (λ t. SpellsNone t answer) w.0 n
+  | inr w ↦ none_cut file text answer w.0 w.1 n
+]
+
+-- what holds of the text holds of the file, where it is told
+spells_told : (told : Option Shelf) (name text : List ℕ) (tree : Tree) → IfSome told (λ shelf. IsFront 4194305 (file_of shelf name) text) → Spells text tree → IfSome (text_of told name) (λ t. Spells t tree)
+spells_told None name text tree front s = tt
+spells_told (Some shelf) name text tree front s = spells_file (file_of shelf name) text tree front s
+
+none_told : (told : Option Shelf) (name text : List ℕ) (answer : Outcome) → IfSome told (λ shelf. IsFront 4194305 (file_of shelf name) text) → SpellsNone text answer → IfSome (text_of told name) (λ t. SpellsNone t answer)
+none_told None name text answer front n = tt
+none_told (Some shelf) name text answer front n = none_file (file_of shelf name) text answer front n
+
+pub prints_told : (told : Option Shelf) (name text : List ℕ) (answer : Outcome) (old new : Option (List ℕ)) → IfSome told (λ shelf. IsFront 4194305 (file_of shelf name) text)
+    → Prints (Some text) answer old new → Prints (text_of told name) answer old new
+prints_told told name text Printed old new front p = (p.0, spells_told told name text p.0 front p.1, p.2)
+prints_told told name text WriteFault old new front p = (p.0, spells_told told name text p.0 front p.1, p.2)
+prints_told told name text (Refused source) old new front p = (none_told told name text (Refused source) front p.0, p.1)
+prints_told told name text (Limit which counted) old new front p = (none_told told name text (Limit which counted) front p.0, p.1)
+prints_told told name text FileFault old new front p = p
+prints_told told name text NoMemory old new front p = p
+prints_told told name text _ old new front p = absurd p
