@@ -2,6 +2,8 @@
 use Rattle.std.proofs.Common.{◌≡◌, ℕ, ◌≤◌, List, inl, inr, length, take, ap, subst, arith, length-take, Option, Some, None, IfSome}
 use Rattle.bk_io.specs.Shelf.{Shelf, file_of}
 use Rattle.c_tree.specs.declared.declarations.Unit.{Unit as Tree}
+use Rattle.c_parser.specs.declared.fault.ParseFault.TheVariants as fault
+use Rattle.c_parser.proofs.OneAnswer.{read_or_refused}
 use Rattle.msc_cli.specs.declared.outcome.Outcome.{Outcome}
 use Rattle.msc_cli.specs.declared.outcome.Outcome.TheVariants.{Printed, FileFault, WriteFault, Refused, Limit, NoMemory}
 use Rattle.msc_cli.specs.declared.outcome.SourceFault.TheVariants.{Lex, Syntax}
@@ -50,3 +52,11 @@ prints_told told name text (Limit which counted) old new front p = (none_told to
 prints_told told name text FileFault old new front p = p
 prints_told told name text NoMemory old new front p = p
 prints_told told name text _ old new front p = absurd p
+
+-- a text that spells a tree is not refused
+pub not_refused : (text : List ℕ) (tree : Tree) (answer : Outcome) → Spells text tree → SpellsNone text answer → ⊥
+not_refused text tree (Limit Text counted) s n = omega (arith, s.0, n.0)
+not_refused text tree (Refused (Lex at)) s n = let e : fault.Lex at ≡ fault.NoMemory = read_or_refused text tree (fault.Lex at) s.1 n.1 in cc
+not_refused text tree (Limit Nesting counted) s n = let e : fault.Nesting counted ≡ fault.NoMemory = read_or_refused text tree (fault.Nesting counted) s.1 (n.1, n.2) in cc
+not_refused text tree (Refused (Syntax at)) s n = let e : fault.Syntax at ≡ fault.NoMemory = read_or_refused text tree (fault.Syntax at) s.1 n.1 in cc
+not_refused text tree _ s n = n

@@ -1,11 +1,14 @@
-//! Laws of the image format, and of runs.
+//! Laws of the image format, of runs, and of trees.
 
 ghost use Rattle.std.specs.Prelude.{◌≡◌, List, ℕ, None};
+ghost use Rattle.c_tree.specs.declared.declarations.Unit.{Unit as Tree};
 ghost use Rattle.alpha_isa.specs.Program.{Program};
 ghost use Rattle.alpha_isa.specs.ImageFormat.{IsImage};
 ghost use Rattle.msc_cli.specs.ImageFault.{image_fault};
 ghost use Rattle.msc_cli.specs.ReadImage.{AreWords};
 ghost use Rattle.msc_cli.specs.RunImage.{IsRun};
+ghost use Rattle.msc_cli.specs.PrintTree.{Spells, SpellsNone};
+ghost use Rattle.msc_cli.specs.declared.outcome.Outcome.{Outcome as Answer};
 ghost use Rattle.msc_cli.specs.TopCall.{IsCompiled, DoesAlike};
 
 use crate::outcome::Outcome;
@@ -23,4 +26,9 @@ pub fn one_image()
 /// What a run of a compiled text put, and its status, are those of the program.
 pub fn a_run_is_the_program()
     ensures { (text put input : List ℕ) (p : Program) (status : ℕ) → IsCompiled text p → IsRun p input (Outcome.Ran status) put → DoesAlike text input put status }
+{}
+
+/// A text that spells a tree is refused by `print` for no cause.
+pub fn a_tree_is_not_refused()
+    ensures { (text : List ℕ) (tree : Tree) (answer : Answer) → Spells text tree → SpellsNone text answer → ⊥ }
 {}
