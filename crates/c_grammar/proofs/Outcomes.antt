@@ -20,11 +20,22 @@ pub no_ok : {A X : Type 0} {ts : List Token} {p : A × List Token} → ◌≡◌
 unfolding IsErr
 no_ok {A} e = absurd (subst (λ o. IsErr {A = A} o) e tt)
 
+IsOk : {A : Type 0} → Outcome A → Type 0
+IsOk (Ok p) = Unit {0}
+IsOk (Err ts) = ⊥
+
+pub no_err : {A X : Type 0} {p : A × List Token} {ts : List Token} → ◌≡◌ {A = Outcome A} (Ok p) (Err ts) → X
+unfolding IsOk
+no_err {A} e = absurd (subst (λ o. IsOk {A = A} o) e tt)
+
 pub no_true : {X : Type 0} → false ≡ true → X
 no_true e = absurd (false≢true e)
 
 pub same_ok : {A : Type 0} {p q : A × List Token} → ◌≡◌ {A = Outcome A} (Ok p) (Ok q) → p ≡ q
 same_ok e = cc
+
+pub same_err : {A : Type 0} {r q : List Token} → ◌≡◌ {A = Outcome A} (Err r) (Err q) → r ≡ q
+same_err e = cc
 
 -- a test that cannot hold
 pub fails : (b : Bool) → (b ≡ true → ⊥) → b ≡ false

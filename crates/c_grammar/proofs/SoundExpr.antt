@@ -20,7 +20,7 @@ use Rattle.c_grammar.specs.Classes.{infix_of, prefix_of, level_of, binds, demand
 use Rattle.c_grammar.specs.Tokens.{Scope, spelling, is_type, place, is_mark, is_name, is_text, begins_type}
 use Rattle.c_grammar.specs.Types.{takes_name, may_be_nameless, nameless, with_shape, shaped, parameter_of, without_void, comma_of}
 use Rattle.c_grammar.specs.Grammar.{AreConsts, IsPlain, AreTexts, IsExpr, IsWhole, AreListed, AreArguments, IsTypeName, IsDeclarator, AreParameters, AreParametersListed, IsParameter}
-use Rattle.c_grammar.specs.Parser.{Parser, and_then, consts}
+use Rattle.c_grammar.specs.Parser.{IsEnd, Parser, and_then, consts}
 use Rattle.c_grammar.specs.ParseExpr.{plain, texts_from, listed_from, whole, type_name, parameter, arguments, parameters, named, cast_behind, brackets_behind, bracketed, size_of_type, size_of_value, size_of, operand_by, operand, member, step_by, climb, tight, length_of, suffixes, group_behind, core_bracket, core, starred, shaping, expr, declarator}
 use Rattle.std.specs.Prelude.{◌≢◌}
 use Rattle.std.proofs.lemmas.Bool.{ltb-true, ltb-false}
@@ -29,7 +29,7 @@ use Rattle.c_grammar.proofs.Facts.{levels}
 use Rattle.c_grammar.proofs.Reach.{place-append}
 use Rattle.c_grammar.proofs.First.{first, first_listed}
 use Rattle.c_grammar.proofs.ReadPlain.{plain_begins}
-use Rattle.c_grammar.proofs.Says.{Says, ok_says, err_says, bind_says, bind_says_at, if_says, token_says, done_says, expect_says, consts_says, listed_says, weaker}
+use Rattle.c_grammar.proofs.Says.{Says, ok_says, err_says, refused_says, bind_says, bind_says_at, if_says, token_says, done_says, expect_says, consts_says, listed_says, weaker}
 use Rattle.c_grammar.proofs.SoundPlain.{plain_says}
 
 -- the levels that are asked for
@@ -241,7 +241,7 @@ module _ (s : Scope) where
 
     bracketed_says : (least : ℕ) (l : Token) (ts : List Token) → least ≤ 17 → l.kind ≡ k.Mark p.LeftParen → Says (bracketed s rec dec least l.at ts) ts (λ b q. IsOperand s least (l ∷ b) q)
     bracketed_says least l ts cap lk = if_says (begins_type s ts) _ _ ts _
-        (λ yes. if_says (ltb least 17) (cast_behind s rec dec l.at ts) (Err ts) ts _ (λ low. let h = ltb-true least 17 low in cast_says least l ts (omega arith) lk) (λ high. err_says ts ts _))
+        (λ yes. if_says (ltb least 17) (cast_behind s rec dec l.at ts) (Err ts) ts _ (λ low. let h = ltb-true least 17 low in cast_says least l ts (omega arith) lk) (λ high. refused_says ts _))
         (λ other. brackets_says least l ts cap lk)
 
     size_value_says : (least : ℕ) (t : Token) (ts : List Token) → least ≤ 17 → t.kind ≡ k.Word w.Sizeof → Says (size_of_value s rec dec t.at ts) ts (λ b q. IsOperand s least (t ∷ b) q)
@@ -278,12 +278,12 @@ module _ (s : Scope) where
         subst P (sym q.1) (done_says (e.Text t.at xs, 19) (t ∷ q.0) u (IsOperand s least) (record { wanted = omega arith; is = IsExpr.texts {m = 19} (t ∷ q.0) xs (omega arith) q.2 })))
 
     operand_says : (kind : TokenKind) (least : ℕ) (t : Token) (ts : List Token) → least ≤ 17 → t.kind ≡ kind → Says (operand_by s rec dec least (prefix_of kind) (t ∷ ts)) (t ∷ ts) (IsOperand s least)
-    operand_says k.Name least t ts cap kind = if_says (is_type s t) (Err (t ∷ ts)) _ (t ∷ ts) _ (λ yes. err_says (t ∷ ts) (t ∷ ts) _) (λ other. token_says _ t ts _ (named_says least t ts cap kind other))
+    operand_says k.Name least t ts cap kind = if_says (is_type s t) (Err (t ∷ ts)) _ (t ∷ ts) _ (λ yes. refused_says (t ∷ ts) _) (λ other. token_says _ t ts _ (named_says least t ts cap kind other))
     operand_says k.Number least t ts cap kind = token_says (Ok ((e.Number t.at (spelling s t), 19), ts)) t ts _ (ok_says (e.Number t.at (spelling s t), 19) ts _ (record { wanted = omega arith; is = IsExpr.number {m = 19} t (omega arith) kind }))
     operand_says k.Char least t ts cap kind = token_says (Ok ((e.Character t.at (spelling s t), 19), ts)) t ts _ (ok_says (e.Character t.at (spelling s t), 19) ts _ (record { wanted = omega arith; is = IsExpr.character {m = 19} t (omega arith) kind }))
     operand_says k.Text least t ts cap kind = texts_operand least t ts cap kind
     operand_says (k.Word w.Sizeof) least t ts cap kind = token_says _ t ts _ (size_says least t ts cap kind)
-    operand_says (k.Word _) least t ts cap kind = err_says (t ∷ ts) (t ∷ ts) _
+    operand_says (k.Word _) least t ts cap kind = refused_says (t ∷ ts) _
     operand_says (k.Mark p.LeftParen) least t ts cap kind = token_says _ t ts _ (bracketed_says least t ts cap kind)
     operand_says (k.Mark p.Increment) least t ts cap kind = step_prefix_says least t ts _ cap (ap prefix_of kind)
     operand_says (k.Mark p.Decrement) least t ts cap kind = step_prefix_says least t ts _ cap (ap prefix_of kind)
@@ -293,15 +293,15 @@ module _ (s : Scope) where
     operand_says (k.Mark p.Minus) least t ts cap kind = unary_says least t ts _ cap (ap prefix_of kind)
     operand_says (k.Mark p.Tilde) least t ts cap kind = unary_says least t ts _ cap (ap prefix_of kind)
     operand_says (k.Mark p.Exclamation) least t ts cap kind = unary_says least t ts _ cap (ap prefix_of kind)
-    operand_says (k.Mark _) least t ts cap kind = err_says (t ∷ ts) (t ∷ ts) _
-    operand_says k.End least t ts cap kind = err_says (t ∷ ts) (t ∷ ts) _
+    operand_says (k.Mark _) least t ts cap kind = refused_says (t ∷ ts) _
+    operand_says k.End least t ts cap kind = refused_says (t ∷ ts) _
 
     -- ---- the loop over operators
 
     member_says : (make : List ℕ → Expr) (ts : List Token) (T : List Token → Expr → Type 0) → ((n : Token) → n.kind ≡ k.Name → T (n ∷ []) (make (spelling s n))) → Says (member s rec dec make ts) ts T
     unfolding member
-    member_says make [] T h = err_says [] [] T
-    member_says make (n ∷ r) T h = if_says (is_name n.kind) _ _ (n ∷ r) T (λ yes. token_says _ n r T (ok_says (make (spelling s n)) r _ (h n (name_is n.kind yes)))) (λ other. err_says (n ∷ r) (n ∷ r) T)
+    member_says make [] T h = refused_says [] T
+    member_says make (n ∷ r) T h = if_says (is_name n.kind) _ _ (n ∷ r) T (λ yes. token_says _ n r T (ok_says (make (spelling s n)) r _ (h n (name_is n.kind yes)))) (λ other. refused_says (n ∷ r) T)
 
     step_says : (class : Infix) (t : Token) (level : ℕ) (done : List Token) (x : Expr) (ts : List Token) → infix_of t.kind ≡ class → demands class ≤ level → IsExpr s level done x
         → Says (step_by s rec dec class (place done) x ts) ts (λ b z. IsExpr s (makes class) (done ++ t ∷ b) z)
@@ -317,9 +317,9 @@ module _ (s : Scope) where
         done_says (e.Choose (place done) x v z) c w' (λ c y. IsExpr s 4 (done ++ t ∷ (b ++ (r ∷ c))) y) (IsExpr.choose {m = 4} done t b r c x v z (omega arith) (weaken h 6 le) (choose_is t.kind kind) g rk o))))
     step_says (i.Assign op) t level done x ts kind le h = bind_says (rec 2 ts) _ ts (λ b z. IsExpr s 2 b z) _ (sound 2 ts two_wanted) (λ b z u g.
         done_says (e.Assign (place done) op x z) b u (λ c y. IsExpr s 2 (done ++ t ∷ c) y) (IsExpr.assign {m = 2} done t b op x z (omega arith) (weaken h 17 le) kind g))
-    step_says i.Comma t level done x ts kind le h = err_says ts ts _
-    step_says i.Tight t level done x ts kind le h = err_says ts ts _
-    step_says i.Nothing t level done x ts kind le h = err_says ts ts _
+    step_says i.Comma t level done x ts kind le h = refused_says ts _
+    step_says i.Tight t level done x ts kind le h = refused_says ts _
+    step_says i.Nothing t level done x ts kind le h = refused_says ts _
 
     climb_says : (least j level : ℕ) (x : Expr) (done ts : List Token) → Wanted least → least ≤ level → IsExpr s level done x → Says (climb s rec dec (place done) least j level x ts) ts (λ a z. IsExpr s least (done ++ a) z)
     unfolding climb
@@ -327,7 +327,7 @@ module _ (s : Scope) where
     climb_says least (suc j) level x done [] w' low h = if_says (ltb 0 least) _ _ [] _ (λ yes. done_says x done [] (λ a z. IsExpr s least a z) (weaken h least low))
         (λ other. absurd (let le = ltb-false 0 least other in let two = w'.two in omega arith))
     climb_says least (suc j) level x done (t ∷ ts) w' low h = if_says (ltb (binds (infix_of t.kind)) least) _ _ (t ∷ ts) _ (λ yes. done_says x done (t ∷ ts) (λ a z. IsExpr s least a z) (weaken h least low))
-        (λ other. if_says (ltb level (demands (infix_of t.kind))) (Err (t ∷ ts)) _ (t ∷ ts) _ (λ tight. err_says (t ∷ ts) (t ∷ ts) _) (λ loose.
+        (λ other. if_says (ltb level (demands (infix_of t.kind))) (Err (t ∷ ts)) _ (t ∷ ts) _ (λ tight. refused_says (t ∷ ts) _) (λ loose.
         token_says _ t ts _ (bind_says (step_by s rec dec (infix_of t.kind) (place done) x ts) _ ts (λ b z. IsExpr s (makes (infix_of t.kind)) (done ++ t ∷ b) z) _
         (step_says (infix_of t.kind) t level done x ts refl (ltb-false level (demands (infix_of t.kind)) loose) h) (λ b z r g.
         let above = makes_above (infix_of t.kind) least w' (ltb-false (binds (infix_of t.kind)) least other) in
@@ -337,7 +337,7 @@ module _ (s : Scope) where
 
     tight_says : (m : ℕ) (ts : List Token) → Wanted m → Says (tight s rec dec m ts) ts (λ a x. IsExpr s m a x)
     unfolding operand
-    tight_says m [] w' = err_says [] [] _
+    tight_says m [] w' = refused_says [] _
     tight_says m (t ∷ ts) w' = bind_says_at (operand_by s rec dec m (prefix_of t.kind) (t ∷ ts)) _ (t ∷ ts) (IsOperand s m) _ (operand_says t.kind m t ts w'.cap refl) (λ a q r e h.
         let P : ℕ → Type 0 = λ at. Says (climb s rec dec at m (length r) q.1 q.0 r) r (λ b z. IsExpr s m (a ++ b) z) in
         subst P (sym (ap place e ∙ place-append a r (first s h.is).0)) (climb_says m (length r) q.1 q.0 a r w' h.wanted h.is))
@@ -377,23 +377,23 @@ module _ (s : Scope) where
     group_says naming l t ts lk tk = bind_says (starred s rec dec naming ts) _ ts (λ a d. IsDeclarator s naming 0 (t ∷ a) d) _ (starred_says naming t ts tk) (λ a d u h. expect_says p.RightParen _ u _ (λ r v rk.
         ok_says d v _ (IsDeclarator.group l t a r d lk tk h rk)))
 
-    nameless_says : (naming : Naming) (r ts : List Token) → Says (cond (may_be_nameless naming) (Ok (nameless, ts)) (Err r)) ts (λ a d. IsDeclarator s naming 1 a d)
-    nameless_says naming r ts = if_says (may_be_nameless naming) (Ok (nameless, ts)) (Err r) ts _ (λ may. ok_says nameless ts _ (IsDeclarator.unnamed may)) (λ not. err_says r ts _)
+    nameless_says : (naming : Naming) (r ts : List Token) → IsEnd r ts → Says (cond (may_be_nameless naming) (Ok (nameless, ts)) (Err r)) ts (λ a d. IsDeclarator s naming 1 a d)
+    nameless_says naming r ts end = if_says (may_be_nameless naming) (Ok (nameless, ts)) (Err r) ts _ (λ may. ok_says nameless ts _ (IsDeclarator.unnamed may)) (λ not. err_says r ts _ end)
 
     bracket_says : (naming : Naming) (l : Token) (ts : List Token) → l.kind ≡ k.Mark p.LeftParen → Says (core_bracket s rec dec naming (l ∷ ts)) (l ∷ ts) (λ a d. IsDeclarator s naming 1 a d)
-    bracket_says naming l [] lk = nameless_says naming [] (l ∷ [])
+    bracket_says naming l [] lk = nameless_says naming [] (l ∷ []) (l ∷ [], refl)
     bracket_says naming l (t ∷ ts) lk = if_says (is_mark p.Star t.kind) _ _ (l ∷ t ∷ ts) _
         (λ yes. token_says _ l (t ∷ ts) _ (token_says _ t ts _ (group_says naming l t ts lk (mark_is p.Star t.kind yes))))
-        (λ other. nameless_says naming (t ∷ ts) (l ∷ t ∷ ts))
+        (λ other. nameless_says naming (t ∷ ts) (l ∷ t ∷ ts) (l ∷ [], refl))
 
     core_says : (naming : Naming) (ts : List Token) → Says (core s rec dec naming ts) ts (λ a d. IsDeclarator s naming 1 a d)
     unfolding core
-    core_says naming [] = nameless_says naming [] []
+    core_says naming [] = nameless_says naming [] [] ([], refl)
     core_says naming (t ∷ ts) = if_says (is_name t.kind) _ _ (t ∷ ts) _
         (λ yes. if_says (takes_name naming (is_type s t)) _ _ (t ∷ ts) _
         (λ takes. token_says _ t ts _ (ok_says (record { name = Some (record { at = t.at; name = spelling s t }); shapes = [] }) ts _ (IsDeclarator.named t (name_is t.kind yes) takes)))
-        (λ other. nameless_says naming (t ∷ ts) (t ∷ ts)))
-        (λ other. if_says (is_mark p.LeftParen t.kind) _ _ (t ∷ ts) _ (λ yes. bracket_says naming t ts (mark_is p.LeftParen t.kind yes)) (λ none. nameless_says naming (t ∷ ts) (t ∷ ts)))
+        (λ other. nameless_says naming (t ∷ ts) (t ∷ ts) ([], refl)))
+        (λ other. if_says (is_mark p.LeftParen t.kind) _ _ (t ∷ ts) _ (λ yes. bracket_says naming t ts (mark_is p.LeftParen t.kind yes)) (λ none. nameless_says naming (t ∷ ts) (t ∷ ts) ([], refl)))
 
     core_suffixes : (naming : Naming) (ts : List Token) → Says (and_then (core s rec dec naming ts) (λ d r. suffixes s rec dec (length r) d r)) ts (λ a d. IsDeclarator s naming 0 a d)
     core_suffixes naming ts = bind_says (core s rec dec naming ts) _ ts (λ a d. IsDeclarator s naming 1 a d) _ (core_says naming ts) (λ a d r h. weaker _ r _ _ (λ b z q. loosen q) (suffixes_says naming (length r) a d r h))
@@ -406,9 +406,9 @@ mutual
   unfolding expr
 
   pub sound_expr : (s : Scope) (n : ℕ) → SoundE s (expr s n)
-  sound_expr s zero m ts w' = err_says ts ts _
+  sound_expr s zero m ts w' = refused_says ts _
   sound_expr s (suc n) m ts w' = tight_says s (expr s n) (declarator s n) (sound_expr s n) (sound_declarator s n) m ts w'
 
   pub sound_declarator : (s : Scope) (n : ℕ) → SoundD s (declarator s n)
-  sound_declarator s zero naming ts = err_says ts ts _
+  sound_declarator s zero naming ts = refused_says ts _
   sound_declarator s (suc n) naming ts = shaping_says s (expr s n) (declarator s n) (sound_expr s n) (sound_declarator s n) naming ts

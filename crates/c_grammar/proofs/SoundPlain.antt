@@ -24,7 +24,7 @@ use Rattle.c_grammar.specs.Grammar.{AreConsts, AreWords, IsPlain}
 use Rattle.c_grammar.specs.Parser.{Parser, consts}
 use Rattle.c_grammar.specs.ParseExpr.{settle, word_by, named_type, tagged, tag, specifier_by, specifier_from, plain}
 use Rattle.c_grammar.proofs.Outcomes.{no_true, name_is}
-use Rattle.c_grammar.proofs.Says.{Says, ok_says, err_says, bind_says, if_says, token_says, done_says, consts_says, weaker}
+use Rattle.c_grammar.proofs.Says.{Says, ok_says, refused_says, bind_says, if_says, token_says, done_says, consts_says, weaker}
 
 -- ---- a class and its kinds
 
@@ -142,7 +142,7 @@ module _ (s : Scope) (on : Specifier → ℕ → Parser TypeNode) (U : Token →
   word_says : (o : Option WordSet) (go : WordSet → Parser TypeNode) (x : WordSet) (u : Token) (r : List Token) (word : TypeWord) → specifier_of u.kind ≡ c.Word word → with_word x word ≡ o
       → ((v : WordSet) → Says (go v r) r (λ a ty. From U v a ty)) → Says (word_by o go x (u ∷ r)) (u ∷ r) (λ a ty. From U x a ty)
   word_says (Some v) go x u r word e f h = token_says (go v r) u r _ (weaker (go v r) r _ _ (λ a ty q. past_word x u word e f q) (h v))
-  word_says None go x u r word e f h = stop_says x (λ r. Err r) (u ∷ r) (λ n. err_says (u ∷ r) (u ∷ r) _)
+  word_says None go x u r word e f h = stop_says x (λ r. Err r) (u ∷ r) (λ n. refused_says (u ∷ r) _)
 
   module _ (struct_says : (u : Token) (r : List Token) → u.kind ≡ k.Word w.Struct → Says (on c.Struct u.at r) r (λ b ty. U u b ty))
       (enum_says : (u : Token) (r : List Token) → u.kind ≡ k.Word w.Enum → Says (on c.Enum u.at r) r (λ b ty. U u b ty))
@@ -151,7 +151,7 @@ module _ (s : Scope) (on : Specifier → ℕ → Parser TypeNode) (U : Token →
     unfolding named_type
     named_says x u r e n = if_says (is_type s u) _ _ (u ∷ r) _
         (λ yes. token_says _ u r _ (bind_says (consts (length r) r) _ r (λ a q. AreConsts a) _ (consts_says (length r) r) (λ a q v h. done_says (y.Named (spelling s u)) a v (λ a ty. From U x (u ∷ a) ty) (From.tail [] u a (y.Named (spelling s u)) n AreConsts.none (named u a e yes h)))))
-        (λ other. err_says (u ∷ r) (u ∷ r) _)
+        (λ other. refused_says (u ∷ r) _)
 
     by_says : (go : WordSet → Parser TypeNode) (x : WordSet) (class : Specifier) (u : Token) (r : List Token) → specifier_of u.kind ≡ class → ((v : WordSet) → Says (go v r) r (λ a ty. From U v a ty))
         → Says (specifier_by s on go x class (u ∷ r)) (u ∷ r) (λ a ty. From U x a ty)
@@ -160,12 +160,12 @@ module _ (s : Scope) (on : Specifier → ℕ → Parser TypeNode) (U : Token →
     by_says go x c.Struct u r e h = stop_says x (λ r. on c.Struct (place r) (behind r)) (u ∷ r) (λ n. token_says (on c.Struct u.at r) u r _ (weaker (on c.Struct u.at r) r _ _ (λ b ty q. From.tail [] u b ty n AreConsts.none q) (struct_says u r (struct_is u.kind e))))
     by_says go x c.Enum u r e h = stop_says x (λ r. on c.Enum (place r) (behind r)) (u ∷ r) (λ n. token_says (on c.Enum u.at r) u r _ (weaker (on c.Enum u.at r) r _ _ (λ b ty q. From.tail [] u b ty n AreConsts.none q) (enum_says u r (enum_is u.kind e))))
     by_says go x c.Name u r e h = stop_says x (named_type s) (u ∷ r) (λ n. named_says x u r (named_is u.kind e) n)
-    by_says go x c.Nothing u r e h = stop_says x (λ r. Err r) (u ∷ r) (λ n. err_says (u ∷ r) (u ∷ r) _)
+    by_says go x c.Nothing u r e h = stop_says x (λ r. Err r) (u ∷ r) (λ n. refused_says (u ∷ r) _)
 
     pub specifier_says : (j : ℕ) (x : WordSet) (ts : List Token) → Says (specifier_from s on j x ts) ts (λ a ty. From U x a ty)
     unfolding specifier_from
-    specifier_says zero x ts = stop_says x (λ r. Err r) ts (λ n. err_says ts ts _)
-    specifier_says (suc j) x [] = stop_says x (λ r. Err r) [] (λ n. err_says [] [] _)
+    specifier_says zero x ts = stop_says x (λ r. Err r) ts (λ n. refused_says ts _)
+    specifier_says (suc j) x [] = stop_says x (λ r. Err r) [] (λ n. refused_says [] _)
     specifier_says (suc j) x (u ∷ r) = by_says (specifier_from s on j) x (specifier_of u.kind) u r refl (λ v. specifier_says j v r)
 
 -- ---- without braces
@@ -178,10 +178,10 @@ pub data IsTail (s : Scope) (u : Token) : List Token → TypeNode → Type 0 whe
 
 pub tag_says : (s : Scope) (class : Specifier) (ts : List Token) (T : List Token → TypeNode → Type 0) → ((v : Token) (a : List Token) → v.kind ≡ k.Name → AreConsts a → T (v ∷ a) (tagged class v.at (spelling s v))) → Says (tag s class ts) ts T
 unfolding tag
-tag_says s class [] T h = err_says [] [] T
+tag_says s class [] T h = refused_says [] T
 tag_says s class (v ∷ r) T h = if_says (is_name v.kind) _ _ (v ∷ r) T
     (λ yes. token_says _ v r T (bind_says (consts (length r) r) _ r (λ a q. AreConsts a) _ (consts_says (length r) r) (λ a q z g. done_says (tagged class v.at (spelling s v)) a z (λ a ty. T (v ∷ a) ty) (h v a (name_is v.kind yes) g))))
-    (λ other. err_says (v ∷ r) (v ∷ r) T)
+    (λ other. refused_says (v ∷ r) T)
 
 is_plain : (s : Scope) {a : List Token} {ty : TypeNode} → From (IsTail s) no_words a ty → IsPlain s a ty
 is_plain s (From.words a z q h e) = IsPlain.words a z q h e

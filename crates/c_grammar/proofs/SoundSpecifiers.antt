@@ -23,7 +23,7 @@ use Rattle.c_grammar.specs.Parser.{Parser, consts}
 use Rattle.c_grammar.specs.ParseExpr.{tagged, specifier_from, expr, declarator}
 use Rattle.c_grammar.specs.ParseSpecifiers.{named_by, declaration, braced_from, valued, constant, declared_from, member, members_from, braces, tag_or_body, specifier}
 use Rattle.c_grammar.proofs.Outcomes.{mark_is, name_is}
-use Rattle.c_grammar.proofs.Says.{Says, ok_says, err_says, bind_says, if_says, token_says, done_says, expect_says, consts_says, after_says, weaker}
+use Rattle.c_grammar.proofs.Says.{Says, ok_says, refused_says, bind_says, if_says, token_says, done_says, expect_says, consts_says, after_says, weaker}
 use Rattle.c_grammar.proofs.SoundPlain.{From, IsTail, specifier_says}
 use Rattle.c_grammar.proofs.SoundExpr.{four_wanted, sound_expr, sound_declarator}
 
@@ -31,7 +31,7 @@ use Rattle.c_grammar.proofs.SoundExpr.{four_wanted, sound_expr, sound_declarator
 
 named_says : (s : Scope) (naming : Naming) (ty : TypeNode) (a : List Token) (o : Option Named) (shapes : List Shape) (r : List Token) → IsDeclarator s naming 0 a (record { name = o; shapes = shapes }) → Says (named_by ty o shapes r) r (λ b z. IsDeclared s naming ty (a ++ b) z)
 named_says s naming ty a (Some u) shapes r h = done_says (declared ty u shapes) a r (λ a z. IsDeclared s naming ty a z) (IsDeclared.of a u shapes h)
-named_says s naming ty a None shapes r h = err_says r r _
+named_says s naming ty a None shapes r h = refused_says r _
 
 pub declaration_says : (s : Scope) (n : ℕ) (naming : Naming) (ty : TypeNode) (ts : List Token) → Says (declaration s n naming ty ts) ts (λ a d. IsDeclared s naming ty a d)
 unfolding declaration
@@ -39,7 +39,7 @@ declaration_says s n naming ty ts = bind_says (declarator s n naming ts) _ ts (�
 
 declared_says : (s : Scope) (n j : ℕ) (ty : TypeNode) (found : List Declaration) (ts : List Token) → Says (declared_from s n j ty found ts) ts (λ a ys. (xs : List Declaration) × (ys ≡ found ++ xs) × AreDeclared s ty a xs)
 unfolding declared_from
-declared_says s n zero ty found ts = err_says ts ts _
+declared_says s n zero ty found ts = refused_says ts _
 declared_says s n (suc j) ty found ts = bind_says (declaration s n nm.Member ty ts) _ ts (λ a d. IsDeclared s nm.Member ty a d) _ (declaration_says s n nm.Member ty ts) (λ a d r h.
     after_says (λ a xs. AreDeclared s ty a xs) (declared_from s n j (bare ty) (found ++ d ∷ [])) found d a r (AreDeclared.one a d h) (λ t u kind.
     weaker (declared_from s n j (bare ty) (found ++ d ∷ []) u) u _ _ (λ b ys q. (q.0, q.1, AreDeclared.more a t b d q.0 h kind q.2)) (declared_says s n j (bare ty) (found ++ d ∷ []) u)))
@@ -64,7 +64,7 @@ pub braced_says : {A : Type 0} (item : Parser A) (R : List Token → A → Type 
     → ((a : List Token) (t : Token) (b : List Token) (x : A) (xs : List A) → R a x → t.kind ≡ k.Mark p.Comma → L b xs → L (a ++ t ∷ b) (x ∷ xs))
     → (j : ℕ) (found : List A) (ts : List Token) → Says (braced_from item j found ts) ts (λ a ys. (xs : List A) × (ys ≡ found ++ xs) × L a xs)
 unfolding braced_from
-braced_says item R L h one last more zero found ts = err_says ts ts _
+braced_says item R L h one last more zero found ts = refused_says ts _
 braced_says item R L h one last more (suc j) found ts = bind_says (item ts) _ ts R _ (h ts) (λ a x r g.
     braced_after L (braced_from item j (found ++ x ∷ [])) found x a r (one a x g) (λ t kind. last a t x g kind) (λ t u kind.
     weaker (braced_from item j (found ++ x ∷ []) u) u _ _ (λ b ys q. (q.0, q.1, more a t b x q.0 g kind q.2)) (braced_says item R L h one last more j (found ++ x ∷ []) u)))
@@ -80,10 +80,10 @@ valued_says s n t (u ∷ r) kind listed = if_says (is_mark p.Assign u.kind) _ _ 
 
 constant_says : (s : Scope) (n : ℕ) (ts : List Token) → Says (constant s n ts) ts (λ a x. IsConstant s a x)
 unfolding constant
-constant_says s n [] = err_says [] [] _
+constant_says s n [] = refused_says [] _
 constant_says s n (t ∷ r) = if_says (is_name t.kind) _ _ (t ∷ r) _
-    (λ yes. if_says (is_type s t) (Err (t ∷ r)) _ (t ∷ r) _ (λ type. err_says (t ∷ r) (t ∷ r) _) (λ listed. token_says _ t r _ (valued_says s n t r (name_is t.kind yes) listed)))
-    (λ other. err_says (t ∷ r) (t ∷ r) _)
+    (λ yes. if_says (is_type s t) (Err (t ∷ r)) _ (t ∷ r) _ (λ type. refused_says (t ∷ r) _) (λ listed. token_says _ t r _ (valued_says s n t r (name_is t.kind yes) listed)))
+    (λ other. refused_says (t ∷ r) _)
 
 -- ---- specifiers
 
@@ -112,7 +112,7 @@ module _ (s : Scope) (n : ℕ) (spec : Parser TypeNode) (sound : (ts : List Toke
 
   members_says : (j : ℕ) (found : List Declaration) (ts : List Token) → Says (members_from s n spec j found ts) ts (λ a ys. (xs : List Declaration) × (ys ≡ found ++ xs) × AreMembers s a xs)
   unfolding members_from
-  members_says zero found ts = err_says ts ts _
+  members_says zero found ts = refused_says ts _
   members_says (suc j) found ts = bind_says (member s n spec ts) _ ts (λ a ds. IsMember s a ds) _ (member_says ts) (λ a ds r h. if_says (is_mark p.RightBrace (kind_at r)) (Ok (found ++ ds, r)) (members_from s n spec j (found ++ ds) r) r _
       (λ brace. done_says (found ++ ds) a r (λ a ys. (xs : List Declaration) × (ys ≡ found ++ xs) × AreMembers s a xs) (ds, refl, AreMembers.one a ds h))
       (λ other. weaker (members_from s n spec j (found ++ ds) r) r _ _ (λ b ys q. (ds ++ q.0, q.1 ∙ append_assoc found ds q.0, AreMembers.more a b ds q.0 h q.2)) (members_says j (found ++ ds) r)))
@@ -146,7 +146,7 @@ module _ (s : Scope) (n : ℕ) (spec : Parser TypeNode) (sound : (ts : List Toke
 
 pub sound_specifier : (s : Scope) (n : ℕ) (ts : List Token) → Says (specifier s n ts) ts (λ a ty. IsSpecifier s a ty)
 unfolding specifier
-sound_specifier s zero ts = err_says ts ts _
+sound_specifier s zero ts = refused_says ts _
 sound_specifier s (suc n) ts = weaker (specifier_from s (tag_or_body s n (specifier s n)) (length ts) no_words ts) ts _ _ (λ a ty h. is_specifier s h)
     (specifier_says s (tag_or_body s n (specifier s n)) (IsBraced s)
     (λ u r e. on_says s n (specifier s n) (sound_specifier s n) c.Struct u r (λ b at name ts g. struct_says s n (specifier s n) (sound_specifier s n) u b at name ts e g) (λ v a vk h. IsTail.struct v a e vk h))

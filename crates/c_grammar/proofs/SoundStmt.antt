@@ -26,8 +26,8 @@ use Rattle.c_grammar.specs.ParseExpr.{plain, listed_from, expr, declarator}
 use Rattle.c_grammar.specs.ParseSpecifiers.{declaration}
 use Rattle.c_grammar.specs.ParseStatements.{expression, local_by, local, line, optional, condition, first_value, first, case_label, label, items_from, ends_section, stmts_from, section, sections_from, alternative, choice, while, until, for, switch, return, value, stmt_by, stmt}
 use Rattle.c_grammar.proofs.Outcomes.{mark_is, word_is}
-use Rattle.c_grammar.proofs.Says.{Says, ok_says, err_says, bind_says, if_says, token_says, done_says, expect_says, expect_word_first, listed_says, weaker}
-use Rattle.c_grammar.proofs.SaysRest.{SaysR, ok_r, err_r, bind_r, then_r, drop, weaker_r, if_r, token_r, done_r, expect_r, expect_word_r}
+use Rattle.c_grammar.proofs.Says.{Says, ok_says, refused_says, bind_says, if_says, token_says, done_says, expect_says, expect_word_first, listed_says, weaker}
+use Rattle.c_grammar.proofs.SaysRest.{SaysR, ok_r, refused_r, bind_r, then_r, drop, weaker_r, if_r, token_r, done_r, expect_r, expect_word_r}
 use Rattle.c_grammar.proofs.SoundPlain.{plain_says}
 use Rattle.c_grammar.proofs.SoundExpr.{four_wanted, two_wanted, sound_expr, sound_declarator, whole_says}
 use Rattle.c_grammar.proofs.SoundSpecifiers.{declaration_says}
@@ -87,7 +87,7 @@ module _ (s : Scope) (n : ℕ) where
 
   default_says : (ts : List Token) → Says (and_then (expect_word w.Default ts) (λ _. expect p.Colon >>= λ _. pure (l.Default (place ts)))) ts (λ a v. IsLabel s a v)
   unfolding expect_word
-  default_says [] = err_says [] [] _
+  default_says [] = refused_says [] _
   default_says (t ∷ ts) = expect_word_first w.Default _ t ts _ (λ kind. expect_says p.Colon _ ts _ (λ c z ck. ok_says (l.Default t.at) z _ (IsLabel.«default» t c kind ck)))
 
   label_says : (ts : List Token) → Says (label s n ts) ts (λ a v. IsLabel s a v)
@@ -160,7 +160,7 @@ module _ (s : Scope) (n : ℕ) (rec : Parser Stmt) (sound : SoundS s rec) where
 
   pub items_says : (j : ℕ) (found : List Stmt) (ts : List Token) → Says (items_from s n rec j found ts) ts (λ a zs. (ys : List Stmt) × (zs ≡ found ++ ys) × IsClosed s a ys)
   unfolding items_from
-  items_says zero found ts = err_says ts ts _
+  items_says zero found ts = refused_says ts _
   items_says (suc j) found [] = item_says (items_from s n rec j) found [] (items_says j)
   items_says (suc j) found (t ∷ ts) = if_says (is_mark p.RightBrace t.kind) (Ok (found, ts)) _ (t ∷ ts) _
       (λ yes. token_says (Ok (found, ts)) t ts _ (ok_says found ts _ ([], sym (append-nil found), record { inner = []; close = t; all_is = refl; are = AreItems.nothing; close_is = mark_is p.RightBrace t.kind yes })))
@@ -168,7 +168,7 @@ module _ (s : Scope) (n : ℕ) (rec : Parser Stmt) (sound : SoundS s rec) where
 
   stmts_says : (j : ℕ) (found : List Stmt) (ts : List Token) → Says (stmts_from s n rec j found ts) ts (λ a zs. (ys : List Stmt) × (zs ≡ found ++ ys) × AreStmts s a ys)
   unfolding stmts_from
-  stmts_says zero found ts = err_says ts ts _
+  stmts_says zero found ts = refused_says ts _
   stmts_says (suc j) found ts = if_says (ends_section s n rec ts) (Ok (found, ts)) _ ts _ (λ yes. ok_says found ts _ ([], sym (append-nil found), AreStmts.no_statement))
       (λ other. bind_says (rec ts) _ ts (λ a v. IsStmt s 0 a v) _ (any_says ts) (λ a v r g. weaker (stmts_from s n rec j (found ++ v ∷ []) r) r _ _ (λ b zs q. (v ∷ q.0, q.1 ∙ append_assoc found (v ∷ []) q.0, AreStmts.statements a b v q.0 g q.2)) (stmts_says j (found ++ v ∷ []) r)))
 
@@ -193,7 +193,7 @@ module _ (s : Scope) (n : ℕ) (rec : Parser Stmt) (sound : SoundS s rec) where
 
   sections_says : (j : ℕ) (found : List Section) (ts : List Token) → Says (sections_from s n rec j found ts) ts (λ a zs. (ys : List Section) × (zs ≡ found ++ ys) × AreClosed s a ys)
   unfolding sections_from
-  sections_says zero found ts = err_says ts ts _
+  sections_says zero found ts = refused_says ts _
   sections_says (suc j) found [] = bind_says (section s n rec []) _ [] IsSection _ (section_says []) (λ a v r h. weaker _ r _ _ (λ b zs q. more_section found a v b zs h q) (sections_says j (found ++ v ∷ []) r))
   sections_says (suc j) found (t ∷ ts) = if_says (is_mark p.RightBrace t.kind) (Ok (found, ts)) _ (t ∷ ts) _
       (λ yes. token_says (Ok (found, ts)) t ts _ (ok_says found ts _ ([], sym (append-nil found), record { inner = []; close = t; all_is = refl; are = AreSections.no_section; close_is = mark_is p.RightBrace t.kind yes })))
@@ -284,6 +284,6 @@ module _ (s : Scope) (n : ℕ) (rec : Parser Stmt) (sound : SoundS s rec) where
 
 pub sound_stmt : (s : Scope) (n : ℕ) → SoundS s (stmt s n)
 unfolding stmt
-sound_stmt s zero ts = err_r ts ts _
+sound_stmt s zero ts = refused_r ts _
 sound_stmt s (suc n) [] = value_says s (suc n) (stmt s n) (sound_stmt s n) []
 sound_stmt s (suc n) (t ∷ ts) = stmt_says s (suc n) (stmt s n) (sound_stmt s n) t.kind t ts refl

@@ -27,14 +27,14 @@ use Rattle.c_grammar.specs.Grammar.{IsExpr, IsDeclarator}
 use Rattle.c_grammar.specs.Specifiers.{IsDeclared, IsSpecifier}
 use Rattle.c_grammar.specs.Statements.{AreItems}
 use Rattle.c_grammar.specs.Units.{IsInit, AreInits, IsStorage, end_by, external_by, IsObject, AreObjects, with_type, AreTypedefs, IsExternal, AreExternals}
-use Rattle.c_grammar.specs.Parser.{Outcome, Parser, and_then, ◌>>=◌, pure, expect}
+use Rattle.c_grammar.specs.Parser.{Outcome, IsEnd, Parser, and_then, ◌>>=◌, pure, expect}
 use Rattle.c_grammar.specs.ParseExpr.{expr, declarator}
 use Rattle.c_grammar.specs.ParseSpecifiers.{declaration, braced_from, specifier}
 use Rattle.c_grammar.specs.ParseStatements.{items_from, stmt}
 use Rattle.c_grammar.specs.ParseUnits.{init_list, init_value, init, typedefs_from, typedefs, object_by, object_named, objects_from, objects_behind, body_behind, objects_named, objects_by, behind_type, stored, external_at, external, externals_behind, externals_from, unit_of, unit}
 use Rattle.c_grammar.specs.Units as units
 use Rattle.c_grammar.proofs.Outcomes.{mark_is}
-use Rattle.c_grammar.proofs.Says.{Says, ok_says, err_says, bind_says, if_says, token_says, done_says, expect_says, after_says, weaker}
+use Rattle.c_grammar.proofs.Says.{Says, ok_says, refused_says, bind_says, if_says, token_says, done_says, expect_says, after_says, weaker}
 use Rattle.c_grammar.proofs.SoundExpr.{two_wanted, sound_expr, sound_declarator}
 use Rattle.c_grammar.proofs.SoundSpecifiers.{declaration_says, braced_says, sound_specifier}
 use Rattle.c_grammar.proofs.SoundStmt.{items_says, sound_stmt}
@@ -53,7 +53,7 @@ init_list_says s n rec l ts h lk = bind_says (braced_from rec (length ts) [] ts)
 
 sound_init : (s : Scope) (n : ℕ) (ts : List Token) → Says (init s n ts) ts (λ a v. IsInit s a v)
 unfolding init
-sound_init s zero ts = err_says ts ts _
+sound_init s zero ts = refused_says ts _
 sound_init s (suc n) [] = init_value_says s (suc n) (init s n) []
 sound_init s (suc n) (l ∷ ts) = if_says (is_mark p.LeftBrace l.kind) _ _ (l ∷ ts) _ (λ yes. token_says _ l ts _ (init_list_says s (suc n) (init s n) l ts (sound_init s n) (mark_is p.LeftBrace l.kind yes))) (λ other. init_value_says s (suc n) (init s n) (l ∷ ts))
 
@@ -72,7 +72,7 @@ typedef_after s ty found a (t ∷ r) d go h g = if_says (is_mark p.Comma t.kind)
 
 typedefs_says : (n j : ℕ) (s : Scope) (ty : TypeNode) (found : List External) (ts : List Token) → Says (typedefs_from s n j ty found ts) ts (Typedefs s ty found)
 unfolding typedefs_from
-typedefs_says n zero s ty found ts = err_says ts ts _
+typedefs_says n zero s ty found ts = refused_says ts _
 typedefs_says n (suc j) s ty found ts = bind_says (declaration s n nm.Required ty ts) _ ts (λ a d. IsDeclared s nm.Required ty a d) _ (declaration_says s n nm.Required ty ts) (λ a d r h.
     typedef_after s ty found a r d (typedefs_from (with_type s d.name) n j (bare ty) (found ++ x.Typedef d ∷ [])) h (λ ts. typedefs_says n j (with_type s d.name) (bare ty) (found ++ x.Typedef d ∷ []) ts))
 
@@ -96,11 +96,11 @@ module _ (s : Scope) (n : ℕ) (storage : Option Storage) where
 
   named_says : (ty : TypeNode) (o' : Option Named) (shapes : List Shape) (a r : List Token) → IsDeclarator s nm.Required 0 a (record { name = o'; shapes = shapes }) → Says (object_named s n storage ty o' shapes r) r (λ b v. IsObject s storage ty (a ++ b) v)
   named_says ty (Some u) shapes a r h = object_says ty u shapes a r h
-  named_says ty None shapes a r h = err_says r r _
+  named_says ty None shapes a r h = refused_says r _
 
   objects_says : (j : ℕ) (ty : TypeNode) (found : List External) (ts : List Token) → Says (objects_from s n storage j ty found ts) ts (λ a zs. (vs : List External) × (zs ≡ found ++ vs) × AreObjects s storage ty a vs)
   unfolding objects_from
-  objects_says zero ty found ts = err_says ts ts _
+  objects_says zero ty found ts = refused_says ts _
   objects_says (suc j) ty found ts = bind_says (declarator s n nm.Required ts) _ ts (λ a d. IsDeclarator s nm.Required 0 a d) _ (sound_declarator s n nm.Required ts) (λ a d r h.
       bind_says (object_named s n storage ty d.name d.shapes r) _ r (λ b v. IsObject s storage ty (a ++ b) v) _ (named_says ty d.name d.shapes a r h) (λ b v z g.
       weaker _ z _ _ (λ c zs q. subst (λ y. (vs : List External) × (zs ≡ found ++ vs) × AreObjects s storage ty y vs) (append_assoc a b c) q)
@@ -131,7 +131,7 @@ module _ (s : Scope) (n : ℕ) (storage : Option Storage) where
   first_says ty d (Some u) a (l ∷ r) h = if_says (is_mark p.LeftBrace l.kind) _ _ (l ∷ r) _
       (λ yes. token_says _ l r _ (body_says ty (declared ty u d.shapes) a l r (IsDeclared.of a u d.shapes h) (mark_is p.LeftBrace l.kind yes)))
       (λ other. rest_says ty u d.shapes a (l ∷ r) h)
-  first_says ty d None a r h = err_says r r _
+  first_says ty d None a r h = refused_says r _
 
   declared_says : (ty : TypeNode) (ts : List Token) → Says (and_then (declarator s n nm.Required ts) (λ d. objects_by s n storage ty d d.name)) ts (λ a vs. IsBehind s storage ty a vs)
   declared_says ty ts = bind_says (declarator s n nm.Required ts) _ ts (λ a d. IsDeclarator s nm.Required 0 a d) _ (sound_declarator s n nm.Required ts) (λ a d r h. first_says ty d d.name a r h)
@@ -188,6 +188,37 @@ externals_sound (suc j) s found ys (t ∷ ts) le e =
     let sizes = ap length h.1 ∙ length-append h.0 q.0.1 in
     let o' = externals_sound j q.0.0.1 (found ++ q.0.0.0) ys q.0.1 (omega arith) q.2 in
     (q.0.0.0 ++ o'.0, o'.1 ∙ append_assoc found q.0.0.0 o'.0, subst (λ z. AreExternals s z (q.0.0.0 ++ o'.0)) (sym h.1) (AreExternals.more h.0 q.0.1 q.0.0.0 o'.0 q.0.0.1 h.2 o'.2))
+
+-- the same of a refusal
+stops_split : (o' : Outcome (List External × Scope)) (go : List External × Scope → List Token → Result (List External) (List Token)) (ts r : List Token) → ((q : List Token) → o' ≡ Err q → IsEnd q ts)
+    → ((q : (List External × Scope) × List Token) → o' ≡ Ok q → go q.0 q.1 ≡ Err r → IsEnd r ts) → externals_behind o' go ≡ Err r → IsEnd r ts
+stops_split (Ok q) go ts r f g e = g q refl e
+stops_split (Err z) go ts r f g e = subst (λ w. IsEnd w ts) (same_end e) (f z refl)
+  where
+    same_end : {z r : List Token} → ◌≡◌ {A = Result (List External) (List Token)} (Err z) (Err r) → z ≡ r
+    same_end e = cc
+
+externals_end : (j : ℕ) (s : Scope) (found : List External) (ts r : List Token) → externals_from j s found ts ≡ Err r → IsEnd r ts
+unfolding externals_from
+externals_end zero s found ts r e = cc
+externals_end (suc j) s found [] r e = cc
+externals_end (suc j) s found (t ∷ ts) r e =
+    let says = external_says s (length (t ∷ ts)) t ts in
+    stops_split (external s (length (t ∷ ts)) (t ∷ ts)) (λ q r. externals_from j q.1 (found ++ q.0) r) (t ∷ ts) r says.stops (λ q is more.
+    let u = says.by q is in
+    let v = externals_end j q.0.1 (found ++ q.0.0) q.1 r more in
+    (u.0 ++ v.0, u.1 ∙ ap (λ z. u.0 ++ z) v.1 ∙ sym (append_assoc u.0 v.0 r))) e
+
+unit_end : (size : ℕ) (o' : Result (List External) (List Token)) (tokens r : List Token) → ((q : List Token) → o' ≡ Err q → IsEnd q tokens) → unit_of size o' ≡ Err r → IsEnd r tokens
+unit_end size (Ok vs) tokens r f e = cc
+unit_end size (Err z) tokens r f e = subst (λ w. IsEnd w tokens) (same_end e) (f z refl)
+  where
+    same_end : {z r : List Token} → ◌≡◌ {A = Result Tree (List Token)} (Err z) (Err r) → z ≡ r
+    same_end e = cc
+
+-- The tokens from the refused one on are the last of them.
+pub refused_end : (text : List ℕ) (tokens r : List Token) → unit text tokens ≡ Err r → IsEnd r tokens
+refused_end text tokens r e = unit_end (length text) (externals_from (length tokens) (record { text = text; types = [] }) [] tokens) tokens r (λ q. externals_end (length tokens) (record { text = text; types = [] }) [] tokens q) e
 
 same_tree : {t u : Tree} → ◌≡◌ {A = Result Tree (List Token)} (Ok t) (Ok u) → t ≡ u
 same_tree e = cc

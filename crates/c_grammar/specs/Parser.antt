@@ -1,6 +1,6 @@
 -- Functions that read the front of a token list: what they read and the tokens behind it, or the tokens
 -- from the refused one on. They look one token ahead, and refuse the first one that no reading goes on with.
-use Rattle.std.specs.Prelude.{ℕ, zero, suc, if◌then◌else◌, List, Result, Ok, Err}
+use Rattle.std.specs.Prelude.{◌≡◌, ℕ, zero, suc, if◌then◌else◌, List, ◌++◌, Result, Ok, Err}
 use Rattle.c_lexer.specs.declared.token.Keyword.TheVariants as w
 use Rattle.c_lexer.specs.declared.token.Keyword.{Keyword}
 use Rattle.c_lexer.specs.declared.token.Punct.{Punct}
@@ -9,6 +9,10 @@ use Rattle.c_grammar.specs.Tokens.{is_mark, is_word, kind_at, behind}
 
 abbrev pub Outcome : Type 0 → Type 0
 Outcome A = Result (A × List Token) (List Token)
+
+-- these tokens are the last of those
+abbrev pub IsEnd : List Token → List Token → Type 0
+IsEnd rest ts = (front : List Token) × (ts ≡ front ++ rest)
 
 abbrev pub Parser : Type 0 → Type 0
 Parser A = List Token → Outcome A

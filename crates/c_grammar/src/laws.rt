@@ -5,6 +5,7 @@ ghost use Rattle.c_lexer.specs.declared.token.Token.{Token};
 ghost use Rattle.c_tree.specs.declared.declarations.Unit.{Unit as Tree};
 ghost use Rattle.c_tree.specs.Nodes.{unit_nodes};
 ghost use Rattle.c_grammar.specs.Units.{Reads};
+ghost use Rattle.c_grammar.specs.Parser.{IsEnd};
 ghost use Rattle.c_grammar.specs.ParseUnits.{unit};
 
 /// A token list has at most one reading.
@@ -21,4 +22,9 @@ pub fn unit_is_exact()
 /// The tree of a reading has at most two nodes for each token.
 pub fn nodes_are_few()
     ensures { (text : List ℕ) (tokens : List Token) (x : Tree) → Reads text tokens x → unit_nodes x ≤ 2 * length tokens }
+{}
+
+/// What the function `unit` refuses are the last of the tokens, from the refused one on.
+pub fn refused_tokens_are_the_last()
+    ensures { (text : List ℕ) (tokens rest : List Token) → unit text tokens ≡ Err rest → IsEnd rest tokens }
 {}

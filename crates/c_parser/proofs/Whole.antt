@@ -7,7 +7,7 @@ use Rattle.c_tree.specs.declared.declarations.Unit.{Unit as Tree}
 use Rattle.c_tree.specs.Nodes.{unit_nodes}
 use Rattle.c_grammar.specs.ParseUnits.{unit}
 use Rattle.c_grammar.proofs.ReadUnits.{complete}
-use Rattle.c_grammar.proofs.SoundUnits.{sound}
+use Rattle.c_grammar.proofs.SoundUnits.{sound, refused_end}
 use Rattle.c_grammar.proofs.FewUnits.{unit_few}
 use Rattle.c_parser.specs.declared.fault.ParseFault.{ParseFault}
 use Rattle.c_parser.specs.declared.fault.ParseFault.TheVariants.{Lex, Nesting, Syntax, NoMemory}
@@ -43,6 +43,7 @@ not_read_of text ts n (Err (Syntax at)) are has within gives = record {
   within = within;
   none = λ tree reads. not_both (unit text ts) tree gives.rest (complete text ts tree reads) gives.refused;
   refuses = gives;
+  ends = refused_end text ts gives.rest gives.refused;
 }
 not_read_of text ts n (Err NoMemory) are has within gives = tt
 

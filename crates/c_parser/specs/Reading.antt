@@ -4,6 +4,7 @@ use Rattle.c_lexer.specs.declared.token.Token.{Token}
 use Rattle.c_lexer.specs.Pieces.{FaultAt}
 use Rattle.c_tree.specs.declared.declarations.Unit.{Unit as Tree}
 use Rattle.c_grammar.specs.Units.{Reads}
+use Rattle.c_grammar.specs.Parser.{IsEnd}
 use Rattle.c_grammar.specs.ParseUnits.{unit}
 use Rattle.c_parser.specs.declared.fault.ParseFault.{ParseFault}
 use Rattle.c_parser.specs.declared.fault.ParseFault.TheVariants.{Lex, Nesting, Syntax, NoMemory}
@@ -37,7 +38,8 @@ pub record IsRead (text : List ℕ) (tree : Tree) : Type 0 where
   pub within : nesting ≤ 256
   pub reads : Reads text tokens tree
 
--- The text is all tokens, of a nesting within the limit, but they have no reading: they are refused at this offset.
+-- The text is all tokens, of a nesting within the limit, but they have no reading: they are refused from one on, which
+-- stands at this offset, or behind the last, at the text's length.
 pub record HasNoReading (text : List ℕ) (at : ℕ) : Type 0 where
   pub tokens : List Token
   pub are_tokens : IsTokens text tokens
@@ -46,6 +48,7 @@ pub record HasNoReading (text : List ℕ) (at : ℕ) : Type 0 where
   pub within : nesting ≤ 256
   pub none : (tree : Tree) → Reads text tokens tree → ⊥
   pub refuses : IsRefused text tokens at
+  pub ends : IsEnd refuses.rest tokens
 
 abbrev pub IsNotRead : List ℕ → ParseFault → Type 0
 IsNotRead text (Lex at) = FaultAt text at
