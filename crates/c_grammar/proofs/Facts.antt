@@ -18,8 +18,8 @@ abbrev pub infix_at : List Token → Infix
 infix_at ts = infix_of (kind_at ts)
 
 pub levels : (op : BinaryOp) → (6 ≤ level_of op) × (level_of op ≤ 15)
-levels b.Either = (omega arith, omega arith)
-levels b.Both = (omega arith, omega arith)
+levels b.LogicalOr = (omega arith, omega arith)
+levels b.LogicalAnd = (omega arith, omega arith)
 levels b.Or = (omega arith, omega arith)
 levels b.Xor = (omega arith, omega arith)
 levels b.And = (omega arith, omega arith)
@@ -41,7 +41,7 @@ levels b.Remainder = (omega arith, omega arith)
 pub gap : (x : Infix) → binds x ≤ 17 → binds x < 16
 gap i.Comma h = omega arith
 gap (i.Assign op) h = omega arith
-gap i.Choose h = omega arith
+gap i.Conditional h = omega arith
 gap (i.Binary op) h = let l = levels op in omega arith
 gap i.Index h = absurd (omega arith)
 gap i.Field h = absurd (omega arith)
@@ -54,7 +54,7 @@ gap i.Nothing h = omega arith
 pub no_two : (x : Infix) → binds x ≤ 2 → binds x < 2
 no_two i.Comma h = omega arith
 no_two (i.Assign op) h = absurd (omega arith)
-no_two i.Choose h = absurd (omega arith)
+no_two i.Conditional h = absurd (omega arith)
 no_two (i.Binary op) h = let l = levels op in absurd (omega arith)
 no_two i.Index h = absurd (omega arith)
 no_two i.Field h = absurd (omega arith)
@@ -66,7 +66,7 @@ no_two i.Nothing h = omega arith
 pub no_four : (x : Infix) → binds x ≤ 4 → binds x < 4
 no_four i.Comma h = omega arith
 no_four (i.Assign op) h = omega arith
-no_four i.Choose h = absurd (omega arith)
+no_four i.Conditional h = absurd (omega arith)
 no_four (i.Binary op) h = let l = levels op in absurd (omega arith)
 no_four i.Index h = absurd (omega arith)
 no_four i.Field h = absurd (omega arith)

@@ -16,7 +16,7 @@ use Rattle.c_grammar.specs.declared.shapes.Named.{Named}
 use Rattle.c_grammar.specs.declared.shapes.Naming.{Naming}
 use Rattle.c_grammar.specs.declared.shapes.Declarator.{Declarator}
 use Rattle.c_grammar.specs.Tokens.{Scope, spelling, place}
-use Rattle.c_grammar.specs.Types.{shaped, wrapped, parameter_by, lone_void, without_void, comma_of}
+use Rattle.c_grammar.specs.Types.{with_shapes, with_one_shape, parameter_by, lone_void, without_void, comma_of}
 use Rattle.c_grammar.specs.Grammar.{IsPlain, IsExpr, IsWhole, AreListed, AreArguments, IsTypeName, IsDeclarator, AreParameters, AreParametersListed, IsParameter}
 use Rattle.c_grammar.proofs.First.{texts_first}
 use Rattle.c_grammar.proofs.ReadPlain.{plain_begins}
@@ -42,15 +42,15 @@ shapes_more : (ss : List Shape) (s : Shape) → shapes_count (ss ++ s ∷ []) �
 shapes_more [] s = let e : shape_count s + 0 ≡ 0 + shape_count s = omega arith in e
 shapes_more (x ∷ xs) s = let i = shapes_more xs s in let e : shape_count x + shapes_count (xs ++ s ∷ []) ≡ (shape_count x + shapes_count xs) + shape_count s = omega arith in e
 
-wrapped_count : (s : Shape) (ty : TypeNode) → type_count (wrapped s ty) ≡ shape_count s + type_count ty
+wrapped_count : (s : Shape) (ty : TypeNode) → type_count (with_one_shape s ty) ≡ shape_count s + type_count ty
 wrapped_count sh.Pointer ty = let e = n.count-Pointer ty in omega arith
 wrapped_count (sh.Array None) ty = let e = n.count-Array-None ty in omega arith
 wrapped_count (sh.Array (Some v)) ty = let e = n.count-Array-Some ty v in omega arith
 wrapped_count (sh.Takes ps) ty = let e = n.count-Takes ty ps in omega arith
 
-pub shaped_count : (ss : List Shape) (ty : TypeNode) → type_count (shaped ss ty) ≡ shapes_count ss + type_count ty
+pub shaped_count : (ss : List Shape) (ty : TypeNode) → type_count (with_shapes ss ty) ≡ shapes_count ss + type_count ty
 shaped_count [] ty = let e : type_count ty ≡ 0 + type_count ty = omega arith in e
-shaped_count (s ∷ ss) ty = let i = shaped_count ss ty in let c = wrapped_count s (shaped ss ty) in omega arith
+shaped_count (s ∷ ss) ty = let i = shaped_count ss ty in let c = wrapped_count s (with_shapes ss ty) in omega arith
 
 pub plain_count : (s : Scope) {a : List Token} {ty : TypeNode} → IsPlain s a ty → type_count ty ≡ 1
 plain_count s (IsPlain.words a x b h e) = n.count-Basic b
@@ -96,14 +96,14 @@ module _ (s : Scope) where
     expr_few (IsExpr.index a l b r v z low h lk g rk) = let i = expr_few h in let j = whole_few g in let e = n.count-Index (place a) v z in omega (arith, length-append a (l ∷ b ++ r ∷ []), length-append b (r ∷ []))
     expr_few (IsExpr.field a t u v low h tk uk) = let i = expr_few h in let e = n.count-Field (place a) v (spelling s u) in omega (arith, length-append a (t ∷ u ∷ []))
     expr_few (IsExpr.arrow a t u v low h tk uk) = let i = expr_few h in let e = n.count-Arrow (place a) v (spelling s u) in omega (arith, length-append a (t ∷ u ∷ []))
-    expr_few (IsExpr.after a t op v low h kind) = let i = expr_few h in let e = n.count-After (place a) op v in omega (arith, length-append a (t ∷ []))
+    expr_few (IsExpr.after a t op v low h kind) = let i = expr_few h in let e = n.count-Postfix (place a) op v in omega (arith, length-append a (t ∷ []))
     expr_few (IsExpr.step t a op v low kind h) = let i = expr_few h in let e = n.count-Unary t.at op v in omega arith
     expr_few (IsExpr.unary t a op v low kind h) = let i = expr_few h in let e = n.count-Unary t.at op v in omega arith
     expr_few (IsExpr.size_of t a v low kind h) = let i = expr_few h in let e = n.count-SizeOfValue t.at v in omega arith
     expr_few (IsExpr.size_of_type t l a r ty low kind lk h rk) = let i = type_few h in let e = n.count-SizeOfType t.at ty in omega (arith, length-append a (r ∷ []))
     expr_few (IsExpr.cast l a r b ty v low lk h rk g) = let i = type_few h in let j = expr_few g in let e = n.count-Cast l.at ty v in omega (arith, length-append a (r ∷ b))
     expr_few (IsExpr.binary a t b op v z low kind h g) = let i = expr_few h in let j = expr_few g in let e = n.count-Binary (place a) op v z in omega (arith, length-append a (t ∷ b))
-    expr_few (IsExpr.choose a t b r d u v z low h tk g rk o) = let i = expr_few h in let j = whole_few g in let k = expr_few o in let e = n.count-Choose (place a) u v z in omega (arith, length-append a (t ∷ b ++ r ∷ d), length-append b (r ∷ d))
+    expr_few (IsExpr.choose a t b r d u v z low h tk g rk o) = let i = expr_few h in let j = whole_few g in let k = expr_few o in let e = n.count-Conditional (place a) u v z in omega (arith, length-append a (t ∷ b ++ r ∷ d), length-append b (r ∷ d))
     expr_few (IsExpr.assign a t b op v z low h kind g) = let i = expr_few h in let j = expr_few g in let e = n.count-Assign (place a) op v z in omega (arith, length-append a (t ∷ b))
 
     pub whole_few : {a : List Token} {v : Expr} → IsWhole s a v → expr_count v ≤ 2 * length a
@@ -138,4 +138,4 @@ module _ (s : Scope) where
     parameters_listed_few (AreParametersListed.more_parameters a t b x xs h kind g) = let i = parameter_few h in let j = parameters_listed_few g in omega (arith, length-append a (t ∷ b))
 
     parameter_few : {a : List Token} {x : Parameter} → IsParameter s a x → node_count (parameter_node x) ≤ 2 * length a
-    parameter_few (IsParameter.parameter a b ty d h g) = let i = declarator_few g in let c = shaped_count d.shapes ty in let o = plain_count s h in let f = (plain_begins s h).0 in let e = parameter_count (place a) (shaped d.shapes ty) d.name in omega (arith, length-append a b)
+    parameter_few (IsParameter.parameter a b ty d h g) = let i = declarator_few g in let c = shaped_count d.shapes ty in let o = plain_count s h in let f = (plain_begins s h).0 in let e = parameter_count (place a) (with_shapes d.shapes ty) d.name in omega (arith, length-append a b)

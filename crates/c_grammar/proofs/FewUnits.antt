@@ -14,7 +14,7 @@ use Rattle.c_tree.specs.declared.statements.ForFirst.{ForFirst}
 use Rattle.c_tree.specs.declared.declarations.Storage.{Storage}
 use Rattle.c_tree.specs.declared.declarations.Init.{Init}
 use Rattle.c_tree.specs.declared.declarations.External.{External}
-use Rattle.c_tree.specs.declared.declarations.Unit.{Unit as Tree}
+use Rattle.c_tree.specs.declared.declarations.TranslationUnit.{TranslationUnit}
 use Rattle.c_tree.specs.Nodes.{node_count, nodes_count, nodes_of, stmt_node, member_node, constant_node, local_node, first_nodes, part_of_for, optional, label_nodes, section_node, init_node, optional_init, external_node, unit_nodes}
 use Rattle.c_tree.proofs.Counts as n
 use Rattle.c_tree.proofs.Counts.{expr_count, type_count, stmt_count, init_count, list_count, nodes_count-joined, list_count-append}
@@ -22,7 +22,7 @@ use Rattle.c_grammar.specs.declared.shapes.Shape.{Shape}
 use Rattle.c_grammar.specs.declared.shapes.Shape.TheVariants as sh
 use Rattle.c_grammar.specs.declared.shapes.Naming.{Naming}
 use Rattle.c_grammar.specs.Tokens.{Scope}
-use Rattle.c_grammar.specs.Types.{bare, declared}
+use Rattle.c_grammar.specs.Types.{bare, declaration_of}
 use Rattle.c_grammar.specs.Grammar.{IsPlain}
 use Rattle.c_grammar.specs.Specifiers.{IsDeclared, AreDeclared, IsConstant, AreConstants, IsSpecifier, AreMembers, IsMember}
 use Rattle.c_grammar.specs.Statements.{IsLocal, AreLocals, IsLine, IsOptional, IsFirst, IsLabel, locals_of, IsStmt, AreItems, AreSections, AreStmts}
@@ -63,7 +63,7 @@ members_few s l (AreDeclared.more {ty = ty} a t b d ds h kind g) = let c = decla
 
 constant_few : (s : Scope) {a : List Token} {v : Constant} → IsConstant s a v → node_count (constant_node v) ≤ 2 * length a
 constant_few s (IsConstant.plain t kind listed) = omega arith
-constant_few s (IsConstant.valued t z a v kind listed zk h) = let c = expr_few s h in omega arith
+constant_few s (IsConstant.constant_value t z a v kind listed zk h) = let c = expr_few s h in omega arith
 
 constants_few : (s : Scope) {a : List Token} {vs : List Constant} → AreConstants s a vs → list_count constant_node vs ≤ 2 * length a
 constants_few s (AreConstants.one a v h) = let c = constant_few s h in omega arith
@@ -165,8 +165,8 @@ external_count (sh.Takes ps ∷ shapes) d storage None = refl
 external_count (sh.Takes ps ∷ shapes) d storage (Some v) = refl
 
 object_few : (s : Scope) (storage : Option Storage) {ty : TypeNode} {a : List Token} {v : External} → IsObject s storage ty a v → node_count (external_node v) + 1 ≤ 2 * length a + type_count ty
-object_few s storage {ty} (IsObject.plain a v shapes h) = let c = declarator_few s h in let o = shaped_count shapes ty in let e = external_count shapes (declared ty v shapes) storage None in omega arith
-object_few s storage {ty} (IsObject.given a t b v shapes z h kind g) = let c = declarator_few s h in let o = shaped_count shapes ty in let d = init_few s g in let e = external_count shapes (declared ty v shapes) storage (Some z) in omega (arith, length-append a (t ∷ b))
+object_few s storage {ty} (IsObject.plain a v shapes h) = let c = declarator_few s h in let o = shaped_count shapes ty in let e = external_count shapes (declaration_of ty v shapes) storage None in omega arith
+object_few s storage {ty} (IsObject.given a t b v shapes z h kind g) = let c = declarator_few s h in let o = shaped_count shapes ty in let d = init_few s g in let e = external_count shapes (declaration_of ty v shapes) storage (Some z) in omega (arith, length-append a (t ∷ b))
 
 objects_few : (s : Scope) (storage : Option Storage) {ty : TypeNode} {a : List Token} {vs : List External} → Lone ty → AreObjects s storage ty a vs → list_count external_node vs ≤ 2 * length a + type_count ty
 objects_few s storage l (AreObjects.one a v h) = let c = object_few s storage h in omega arith
@@ -188,5 +188,5 @@ externals_few AreExternals.none = omega arith
 externals_few (AreExternals.more a b vs us z h g) = let c = external_few h in let o = externals_few g in let e = list_count-append external_node vs us in omega (arith, length-append a b)
 
 -- The tree of a reading has at most two nodes for each token.
-pub unit_few : (text : List ℕ) (tokens : List Token) (tree : Tree) → Reads text tokens tree → unit_nodes tree ≤ 2 * length tokens
+pub unit_few : (text : List ℕ) (tokens : List Token) (tree : TranslationUnit) → Reads text tokens tree → unit_nodes tree ≤ 2 * length tokens
 unit_few text tokens tree h = externals_few h.externals

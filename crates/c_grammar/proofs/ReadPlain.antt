@@ -14,7 +14,7 @@ use Rattle.c_grammar.specs.WordSets.{no_words, basic_of}
 use Rattle.c_grammar.specs.Tokens.{Scope, spelling, is_type, is_word, kind_at, begins_type}
 use Rattle.c_grammar.specs.Grammar.{AreConsts, AreWords, IsPlain}
 use Rattle.c_grammar.specs.Parser.{Parser, consts}
-use Rattle.c_grammar.specs.ParseExpr.{settle, word_by, named_type, tagged, tag, specifier_by, specifier_from, plain}
+use Rattle.c_grammar.specs.ParseExpr.{settle, word_by, named_type, tag_type, tag, specifier_by, specifier_from, plain}
 use Rattle.c_grammar.proofs.Outcomes.{no_true, fails, word_is, is_word_of}
 
 -- no specifier goes on at such a token
@@ -90,7 +90,7 @@ module _ (s : Scope) (on : Specifier → ℕ → Parser TypeNode) where
       let l = lead no_words h j t (b ++ r) (subst (λ z. length z ≤ j) q le) in
       (l.0, ap (specifier_from s on j no_words) q ∙ l.1 ∙ ap (λ cl. specifier_by s on (specifier_from s on l.0) no_words cl (t ∷ b ++ r)) kind)
 
-pub tag_read : (s : Scope) (class : Specifier) (u : Token) (b r : List Token) → u.kind ≡ k.Name → AreConsts b → is_word w.Const (kind_at r) ≡ false → tag s class (u ∷ b ++ r) ≡ Ok (tagged class u.at (spelling s u), r)
+pub tag_read : (s : Scope) (class : Specifier) (u : Token) (b r : List Token) → u.kind ≡ k.Name → AreConsts b → is_word w.Const (kind_at r) ≡ false → tag s class (u ∷ b ++ r) ≡ Ok (tag_type class u.at (spelling s u), r)
 unfolding tag
 tag_read s class u b r kind h next = let e = consts_all h r next in rw (kind, e) refl
 

@@ -21,7 +21,7 @@ use Rattle.c_grammar.specs.Types.{may_be_nameless}
 use Rattle.c_grammar.specs.Grammar.{AreConsts, IsPlain, IsDeclarator}
 use Rattle.c_grammar.specs.Specifiers.{IsTag, IsDeclared, AreDeclared, IsConstant, AreConstants, IsSpecifier, AreMembers, IsMember}
 use Rattle.c_grammar.specs.Parser.{Parser}
-use Rattle.c_grammar.specs.ParseExpr.{tagged, specifier_by, specifier_from}
+use Rattle.c_grammar.specs.ParseExpr.{tag_type, specifier_by, specifier_from}
 use Rattle.c_grammar.specs.ParseSpecifiers.{declaration, braced_from, constant, declared_from, member, members_from, body, braces, tag_or_body, specifier}
 use Rattle.c_grammar.proofs.Outcomes.{no_true, is_mark_of, expect_at}
 use Rattle.c_grammar.proofs.Facts.{infix_at, weak, type_no_mark}
@@ -99,12 +99,12 @@ are_declared_read s (AreDeclared.more {ty = ty} a t b d ds h kind g) n (suc j) f
 
 constant_name : (s : Scope) {a : List Token} {x : Constant} → IsConstant s a x → (0 < length a) × ((r : List Token) → is_mark p.RightBrace (kind_at (a ++ r)) ≡ false)
 constant_name s (IsConstant.plain t kind listed) = (omega arith, λ r. ap (is_mark p.RightBrace) kind)
-constant_name s (IsConstant.valued t u a x kind listed uk h) = (omega arith, λ r. ap (is_mark p.RightBrace) kind)
+constant_name s (IsConstant.constant_value t u a x kind listed uk h) = (omega arith, λ r. ap (is_mark p.RightBrace) kind)
 
 constant_read : (s : Scope) {a : List Token} {x : Constant} → IsConstant s a x → (n : ℕ) (r : List Token) → length (a ++ r) ≤ n → binds (infix_at r) < 2 → is_mark p.Assign (kind_at r) ≡ false → constant s n (a ++ r) ≡ Ok (x, r)
 unfolding constant
 constant_read s (IsConstant.plain t kind listed) n r len under other = let nk = ap is_name kind in rw (nk, listed, other) refl
-constant_read s (IsConstant.valued t u a x kind listed uk h) n r len under other =
+constant_read s (IsConstant.constant_value t u a x kind listed uk h) n r len under other =
     let nk = ap is_name kind in
     let v = is_mark_of p.Assign u.kind uk in
     let g = read_expr s (omega arith) h n r (omega arith) (omega arith) in
@@ -179,7 +179,7 @@ consts_no_brace AreConsts.none r h = h
 consts_no_brace (AreConsts.more t a e g) r h = ap (is_mark p.LeftBrace) e
 
 module _ (s : Scope) where
-  tag_alone : (n : ℕ) (class : Specifier) (at : ℕ) (v : Token) (b r : List Token) → v.kind ≡ k.Name → AreConsts b → Follows r → tag_or_body s n (specifier s n) class at (v ∷ b ++ r) ≡ Ok (tagged class v.at (spelling s v), r)
+  tag_alone : (n : ℕ) (class : Specifier) (at : ℕ) (v : Token) (b r : List Token) → v.kind ≡ k.Name → AreConsts b → Follows r → tag_or_body s n (specifier s n) class at (v ∷ b ++ r) ≡ Ok (tag_type class v.at (spelling s v), r)
   unfolding tag_or_body
   tag_alone n class at v b r kind h next =
       let e = consts_all h r (no_const r next.stops) in

@@ -15,7 +15,7 @@ use Rattle.c_tree.specs.declared.declarations.Init as i
 use Rattle.c_tree.specs.declared.declarations.FunctionEnd.TheVariants as f
 use Rattle.c_tree.specs.declared.declarations.External.{External}
 use Rattle.c_tree.specs.declared.declarations.External.TheVariants as x
-use Rattle.c_tree.specs.declared.declarations.Unit.{Unit as Tree}
+use Rattle.c_tree.specs.declared.declarations.TranslationUnit.{TranslationUnit}
 use Rattle.c_grammar.specs.declared.classes.Opening.TheVariants as o
 use Rattle.c_grammar.specs.declared.shapes.Shape.{Shape}
 use Rattle.c_grammar.specs.declared.shapes.Named.{Named}
@@ -325,7 +325,7 @@ externals_read (AreExternals.more {s = s} a b vs us z h g) (suc j) found le =
     one_turn j s found (a ++ b) (omega arith) ∙ rw (e, o) (ap Ok (append_assoc found vs us))
 
 -- The unit that the tokens spell is read.
-pub complete : (text : List ℕ) (tokens : List Token) (tree : Tree) → units.Reads text tokens tree → unit text tokens ≡ Ok tree
+pub complete : (text : List ℕ) (tokens : List Token) (tree : TranslationUnit) → units.Reads text tokens tree → unit text tokens ≡ Ok tree
 complete text tokens tree h =
     let e = externals_read h.externals (length tokens) [] (omega arith) in
     ap (unit_of (length text)) e ∙ ap (λ n. Ok (record { externals = tree.externals; length = n })) (sym h.length)

@@ -13,10 +13,10 @@ use Rattle.c_grammar.specs.declared.shapes.Declarator.{Declarator}
 use Rattle.c_grammar.specs.declared.shapes.Naming.{Naming}
 use Rattle.c_grammar.specs.declared.shapes.Naming.TheVariants as nm
 use Rattle.c_grammar.specs.Tokens.{Scope, spelling, is_type, place, is_mark, is_name, kind_at, behind}
-use Rattle.c_grammar.specs.Types.{takes_name, may_be_nameless, nameless, with_shape, shaped, parameter_of, without_void}
+use Rattle.c_grammar.specs.Types.{takes_name, may_be_nameless, nameless, with_shape, with_shapes, parameter_of, without_void}
 use Rattle.c_grammar.specs.Grammar.{AreConsts, IsPlain}
-use Rattle.c_grammar.specs.Parser.{Outcome, and_then}
-use Rattle.c_grammar.specs.ParseExpr.{listed_from, type_name, parameter, parameters, length_of, suffixes, group_behind, core, starred, expr, declarator}
+use Rattle.c_grammar.specs.Parser.{ParseOutcome, and_then}
+use Rattle.c_grammar.specs.ParseExpr.{listed_from, type_name, parameter, parameters, length_of, suffixes, group_behind, core, pointer_declarator, expr, declarator}
 use Rattle.c_grammar.proofs.Outcomes.{no_true, is_mark_of, expect_at}
 use Rattle.c_grammar.proofs.Facts.{weak, begins_no_mark, type_no_mark}
 use Rattle.c_grammar.proofs.ReadPlain.{Stops, no_const, consts_all, plain_read, BeginsType, plain_begins}
@@ -62,7 +62,7 @@ bracket_opens l r e = record { no_star = ap (is_mark p.Star) e; no_name = ap is_
 paren_opens : (l : Token) (r : List Token) → l.kind ≡ k.Mark p.LeftParen → is_mark p.Star (kind_at r) ≡ false → Opens (l ∷ r)
 paren_opens l r e h = record { no_star = ap (is_mark p.Star) e; no_name = ap is_name e; no_group = λ q. h }
 
-typed : ℕ → TypeNode → List Token → Outcome TypeName
+typed : ℕ → TypeNode → List Token → ParseOutcome TypeName
 typed at ty r = Ok (record { at = at; ty = ty }, r)
 
 both_ways : {A : Type 0} (b : Bool) (x v z : A) → (b ≡ true → x ≡ z) → (b ≡ false → v ≡ z) → cond b x v ≡ z
@@ -81,7 +81,7 @@ module _ (s : Scope) where
 
   pub star_rule : (naming : Naming) (t : Token) (a b : List Token) (d : Declarator) → t.kind ≡ k.Mark p.Star → AreConsts a → ((r : List Token) → Stops r → Stops (b ++ r)) → ReadsD s naming b d
       → ReadsD s naming (t ∷ a ++ b) (with_shape d sh.Pointer)
-  unfolding declarator starred
+  unfolding declarator pointer_declarator
   star_rule naming t a b d kind c stops h zero r len ends = absurd (omega arith)
   star_rule naming t a b d kind c stops h (suc n) r len ends =
       let q = append_assoc a b r in
@@ -117,9 +117,9 @@ module _ (s : Scope) where
   }
 
   -- what is read behind a star
-  starred_read : (naming : Naming) (n : ℕ) (t : Token) (ts r : List Token) (d : Declarator) → t.kind ≡ k.Mark p.Star → declarator s (suc n) naming (t ∷ ts) ≡ Ok (d, r) → starred s (expr s n) (declarator s n) naming ts ≡ Ok (d, r)
+  starred_read : (naming : Naming) (n : ℕ) (t : Token) (ts r : List Token) (d : Declarator) → t.kind ≡ k.Mark p.Star → declarator s (suc n) naming (t ∷ ts) ≡ Ok (d, r) → pointer_declarator s (expr s n) (declarator s n) naming ts ≡ Ok (d, r)
   unfolding declarator
-  starred_read naming n t ts r d e g = sym (ap (λ b. cond b (starred s (expr s n) (declarator s n) naming ts) (and_then (core s (expr s n) (declarator s n) naming (t ∷ ts)) (λ d r. suffixes s (expr s n) (declarator s n) (length r) d r))) (is_mark_of p.Star t.kind e)) ∙ g
+  starred_read naming n t ts r d e g = sym (ap (λ b. cond b (pointer_declarator s (expr s n) (declarator s n) naming ts) (and_then (core s (expr s n) (declarator s n) naming (t ∷ ts)) (λ d r. suffixes s (expr s n) (declarator s n) (length r) d r))) (is_mark_of p.Star t.kind e)) ∙ g
 
   pub group_rule : (naming : Naming) (l t : Token) (a : List Token) (r : Token) (d : Declarator) → l.kind ≡ k.Mark p.LeftParen → t.kind ≡ k.Mark p.Star → ReadsD s naming (t ∷ a) d → r.kind ≡ k.Mark p.RightParen
       → ReachesD s naming (l ∷ t ∷ a ++ r ∷ []) d
@@ -228,7 +228,7 @@ module _ (s : Scope) where
       let c = g n r (omega (arith, length-append a (b ++ r))) ends in
       rw (q, o, c) (ap (λ at. Ok (parameter_of at ty d, r)) (place-append a (b ++ r) some))
 
-  pub type_rule : (a b : List Token) (ty : TypeNode) (d : Declarator) → IsPlain s a ty → ((r : List Token) → Stops r → Stops (b ++ r)) → ReadsD s nm.Refused b d → ReadsType s (a ++ b) (record { at = place a; ty = shaped d.shapes ty })
+  pub type_rule : (a b : List Token) (ty : TypeNode) (d : Declarator) → IsPlain s a ty → ((r : List Token) → Stops r → Stops (b ++ r)) → ReadsD s nm.Refused b d → ReadsType s (a ++ b) (record { at = place a; ty = with_shapes d.shapes ty })
   unfolding type_name typed
   type_rule a b ty d h stops g n r len ends =
       let q = append_assoc a b r in
@@ -236,4 +236,4 @@ module _ (s : Scope) where
       let all : length (a ++ (b ++ r)) ≤ n = subst (λ z. length z ≤ n) q len in
       let o = plain_read s h (b ++ r) (stops r ends.stops) in
       let c = g n r (omega (arith, length-append a (b ++ r))) ends in
-      rw (q, o, c) (ap (λ at. typed at (shaped d.shapes ty) r) (place-append a (b ++ r) some))
+      rw (q, o, c) (ap (λ at. typed at (with_shapes d.shapes ty) r) (place-append a (b ++ r) some))

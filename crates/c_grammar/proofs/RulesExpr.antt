@@ -197,9 +197,9 @@ module _ (s : Scope) where
   arrow_rule m a t n x low some h tk nk =
       advance_by s m 18 i.Arrow t a (n ∷ []) x (e.Arrow (place a) x (spelling s n)) (ap infix_of tk) (record { low = low; under = omega arith; high = omega arith; demand = omega arith }) some h (λ d u len next. rw nk refl)
 
-  pub after_rule : (m : ℕ) (a : List Token) (t : Token) (op : StepOp) (x : Expr) → m ≤ 18 → 0 < length a → Reaches s 18 a x → infix_of t.kind ≡ i.Step op → Reaches s m (a ++ t ∷ []) (e.After (place a) op x)
+  pub after_rule : (m : ℕ) (a : List Token) (t : Token) (op : StepOp) (x : Expr) → m ≤ 18 → 0 < length a → Reaches s 18 a x → infix_of t.kind ≡ i.Step op → Reaches s m (a ++ t ∷ []) (e.Postfix (place a) op x)
   after_rule m a t op x low some h kind =
-      advance_by s m 18 (i.Step op) t a [] x (e.After (place a) op x) kind (record { low = low; under = omega arith; high = omega arith; demand = omega arith }) some h (λ n u len next. refl)
+      advance_by s m 18 (i.Step op) t a [] x (e.Postfix (place a) op x) kind (record { low = low; under = omega arith; high = omega arith; demand = omega arith }) some h (λ n u len next. refl)
 
   pub binary_rule : (m : ℕ) (a : List Token) (t : Token) (b : List Token) (op : BinaryOp) (x z : Expr) → m ≤ level_of op → infix_of t.kind ≡ i.Binary op → 0 < length a
       → Reaches s (level_of op) a x → Reads s (suc (level_of op)) b z → Reaches s m (a ++ t ∷ b) (e.Binary (place a) op x z)
@@ -208,9 +208,9 @@ module _ (s : Scope) where
       let o = g n u len (omega arith) in rw o refl)
 
   pub choose_rule : (m : ℕ) (a : List Token) (t : Token) (b : List Token) (r : Token) (d : List Token) (x v z : Expr) → m ≤ 4 → 0 < length a → Reaches s 6 a x → t.kind ≡ k.Mark p.Question → ReadsWhole s b v → r.kind ≡ k.Mark p.Colon
-      → Reads s 4 d z → Reaches s m (a ++ (t ∷ b ++ r ∷ d)) (e.Choose (place a) x v z)
+      → Reads s 4 d z → Reaches s m (a ++ (t ∷ b ++ r ∷ d)) (e.Conditional (place a) x v z)
   choose_rule m a t b r d x v z low some h tk g rk o =
-      advance_by s m 6 i.Choose t a (b ++ r ∷ d) x (e.Choose (place a) x v z) (ap infix_of tk) (record { low = low; under = omega arith; high = omega arith; demand = omega arith }) some h (λ n u len next.
+      advance_by s m 6 i.Conditional t a (b ++ r ∷ d) x (e.Conditional (place a) x v z) (ap infix_of tk) (record { low = low; under = omega arith; high = omega arith; demand = omega arith }) some h (λ n u len next.
       let q = append_assoc b (r ∷ d) u in
       let all : length (b ++ (r ∷ d ++ u)) ≤ n = subst (λ c. length c ≤ n) q len in
       let c = g n (r ∷ d ++ u) all (weak r (d ++ u) p.Colon 1 rk (omega arith)) in

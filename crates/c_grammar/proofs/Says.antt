@@ -8,13 +8,13 @@ use Rattle.c_lexer.specs.declared.token.Punct.TheVariants as p
 use Rattle.c_lexer.specs.declared.token.Token.{Token}
 use Rattle.c_grammar.specs.Tokens.{is_mark, is_word, kind_at, behind}
 use Rattle.c_grammar.specs.Grammar.{AreConsts}
-use Rattle.c_grammar.specs.Parser.{Outcome, IsEnd, Parser, and_then, expect, expect_word, consts}
+use Rattle.c_grammar.specs.Parser.{ParseOutcome, IsEnd, Parser, and_then, expect, expect_word, consts}
 use Rattle.c_grammar.specs.ParseExpr.{listed_from}
 use Rattle.c_grammar.proofs.Outcomes.{no_ok, no_err, same_ok, same_err, mark_is, word_is}
 
 -- Where the outcome is a tree and the tokens behind it, those before them and the tree are so related; else it is
 -- the last of the tokens, from the refused one on.
-pub record Says {A : Type 0} (o : Outcome A) (ts : List Token) (T : List Token → A → Type 0) : Type 0 where
+pub record Says {A : Type 0} (o : ParseOutcome A) (ts : List Token) (T : List Token → A → Type 0) : Type 0 where
   pub by : (q : A × List Token) → o ≡ Ok q → (a : List Token) × (ts ≡ a ++ q.1) × T a q.0
   pub stops : (r : List Token) → o ≡ Err r → IsEnd r ts
 
@@ -28,7 +28,7 @@ err_says r ts T end = record { by = λ q e. no_ok e; stops = λ q e. subst (λ z
 pub refused_says : {A : Type 0} (ts : List Token) (T : List Token → A → Type 0) → Says (Err ts) ts T
 refused_says ts T = err_says ts ts T ([], refl)
 
-bound : {A B : Type 0} (o : Outcome A) (f : A → Parser B) (ts : List Token) (R : List Token → A → Type 0) (T : List Token → B → Type 0) → Says o ts R
+bound : {A B : Type 0} (o : ParseOutcome A) (f : A → Parser B) (ts : List Token) (R : List Token → A → Type 0) (T : List Token → B → Type 0) → Says o ts R
     → ((a : List Token) (x : A) (r : List Token) → R a x → Says (f x r) r (λ b z. T (a ++ b) z))
     → (q : B × List Token) → and_then o f ≡ Ok q → (c : List Token) × (ts ≡ c ++ q.1) × T c q.0
 bound (Ok (x, r)) f ts R T h g q e =
@@ -37,7 +37,7 @@ bound (Ok (x, r)) f ts R T h g q e =
     (u.0 ++ v.0, u.1 ∙ ap (λ z. u.0 ++ z) v.1 ∙ sym (append_assoc u.0 v.0 q.1), v.2)
 bound (Err r) f ts R T h g q e = no_ok e
 
-bound_end : {A B : Type 0} (o : Outcome A) (f : A → Parser B) (ts : List Token) (R : List Token → A → Type 0) (T : List Token → B → Type 0) → Says o ts R
+bound_end : {A B : Type 0} (o : ParseOutcome A) (f : A → Parser B) (ts : List Token) (R : List Token → A → Type 0) (T : List Token → B → Type 0) → Says o ts R
     → ((a : List Token) (x : A) (r : List Token) → ts ≡ a ++ r → R a x → Says (f x r) r (λ b z. T (a ++ b) z))
     → (q : List Token) → and_then o f ≡ Err q → IsEnd q ts
 bound_end (Ok (x, r)) f ts R T h g q e =
@@ -46,12 +46,12 @@ bound_end (Ok (x, r)) f ts R T h g q e =
     (u.0 ++ v.0, u.1 ∙ ap (λ z. u.0 ++ z) v.1 ∙ sym (append_assoc u.0 v.0 q))
 bound_end (Err r) f ts R T h g q e = subst (λ z. IsEnd z ts) (same_err e) (h.stops r refl)
 
-pub bind_says : {A B : Type 0} (o : Outcome A) (f : A → Parser B) (ts : List Token) (R : List Token → A → Type 0) (T : List Token → B → Type 0) → Says o ts R
+pub bind_says : {A B : Type 0} (o : ParseOutcome A) (f : A → Parser B) (ts : List Token) (R : List Token → A → Type 0) (T : List Token → B → Type 0) → Says o ts R
     → ((a : List Token) (x : A) (r : List Token) → R a x → Says (f x r) r (λ b z. T (a ++ b) z)) → Says (and_then o f) ts T
 bind_says o f ts R T h g = record { by = bound o f ts R T h g; stops = bound_end o f ts R T h (λ a x r e. g a x r) }
 
 -- the same, where what follows needs to know the tokens
-bound_at : {A B : Type 0} (o : Outcome A) (f : A → Parser B) (ts : List Token) (R : List Token → A → Type 0) (T : List Token → B → Type 0) → Says o ts R
+bound_at : {A B : Type 0} (o : ParseOutcome A) (f : A → Parser B) (ts : List Token) (R : List Token → A → Type 0) (T : List Token → B → Type 0) → Says o ts R
     → ((a : List Token) (x : A) (r : List Token) → ts ≡ a ++ r → R a x → Says (f x r) r (λ b z. T (a ++ b) z))
     → (q : B × List Token) → and_then o f ≡ Ok q → (c : List Token) × (ts ≡ c ++ q.1) × T c q.0
 bound_at (Ok (x, r)) f ts R T h g q e =
@@ -60,16 +60,16 @@ bound_at (Ok (x, r)) f ts R T h g q e =
     (u.0 ++ v.0, u.1 ∙ ap (λ z. u.0 ++ z) v.1 ∙ sym (append_assoc u.0 v.0 q.1), v.2)
 bound_at (Err r) f ts R T h g q e = no_ok e
 
-pub bind_says_at : {A B : Type 0} (o : Outcome A) (f : A → Parser B) (ts : List Token) (R : List Token → A → Type 0) (T : List Token → B → Type 0) → Says o ts R
+pub bind_says_at : {A B : Type 0} (o : ParseOutcome A) (f : A → Parser B) (ts : List Token) (R : List Token → A → Type 0) (T : List Token → B → Type 0) → Says o ts R
     → ((a : List Token) (x : A) (r : List Token) → ts ≡ a ++ r → R a x → Says (f x r) r (λ b z. T (a ++ b) z)) → Says (and_then o f) ts T
 bind_says_at o f ts R T h g = record { by = bound_at o f ts R T h g; stops = bound_end o f ts R T h g }
 
-pub if_says : {A : Type 0} (b : Bool) (x v : Outcome A) (ts : List Token) (T : List Token → A → Type 0) → (b ≡ true → Says x ts T) → (b ≡ false → Says v ts T) → Says (cond b x v) ts T
+pub if_says : {A : Type 0} (b : Bool) (x v : ParseOutcome A) (ts : List Token) (T : List Token → A → Type 0) → (b ≡ true → Says x ts T) → (b ≡ false → Says v ts T) → Says (cond b x v) ts T
 if_says true x v ts T f g = f refl
 if_says false x v ts T f g = g refl
 
 -- a token that was taken
-pub token_says : {A : Type 0} (o : Outcome A) (t : Token) (r : List Token) (T : List Token → A → Type 0) → Says o r (λ b z. T (t ∷ b) z) → Says o (t ∷ r) T
+pub token_says : {A : Type 0} (o : ParseOutcome A) (t : Token) (r : List Token) (T : List Token → A → Type 0) → Says o r (λ b z. T (t ∷ b) z) → Says o (t ∷ r) T
 token_says o t r T h = record { by = λ q e. let u = h.by q e in (t ∷ u.0, ap (λ z. t ∷ z) u.1, u.2); stops = λ q e. let u = h.stops q e in (t ∷ u.0, ap (λ z. t ∷ z) u.1) }
 
 pub expect_says : {B : Type 0} (m : Punct) (f : Unit {0} → Parser B) (ts : List Token) (T : List Token → B → Type 0)
@@ -107,7 +107,7 @@ consts_says (suc j) (t ∷ r) = if_says (is_word w.Const t.kind) (consts j r) (O
     (λ other. ok_says tt (t ∷ r) _ AreConsts.none)
 
 -- a weaker relation
-pub weaker : {A : Type 0} (o : Outcome A) (ts : List Token) (R T : List Token → A → Type 0) → ((a : List Token) (x : A) → R a x → T a x) → Says o ts R → Says o ts T
+pub weaker : {A : Type 0} (o : ParseOutcome A) (ts : List Token) (R T : List Token → A → Type 0) → ((a : List Token) (x : A) → R a x → T a x) → Says o ts R → Says o ts T
 weaker o ts R T f h = record { by = λ q e. let u = h.by q e in (u.0, u.1, f u.0 q.0 u.2); stops = h.stops }
 
 -- nothing more was taken

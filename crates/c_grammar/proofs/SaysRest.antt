@@ -5,12 +5,12 @@ use Rattle.c_lexer.specs.declared.token.Keyword.{Keyword}
 use Rattle.c_lexer.specs.declared.token.Punct.{Punct}
 use Rattle.c_lexer.specs.declared.token.Token.{Token}
 use Rattle.c_grammar.specs.Tokens.{is_mark, is_word}
-use Rattle.c_grammar.specs.Parser.{Outcome, IsEnd, Parser, and_then, expect, expect_word}
+use Rattle.c_grammar.specs.Parser.{ParseOutcome, IsEnd, Parser, and_then, expect, expect_word}
 use Rattle.c_grammar.proofs.Outcomes.{no_ok, no_err, same_ok, same_err, mark_is, word_is}
 use Rattle.c_grammar.proofs.Says.{Says}
 
 -- Where the outcome is a tree and the tokens behind it, those before them, the tree and those behind are so related.
-pub record SaysR {A : Type 0} (o : Outcome A) (ts : List Token) (T : List Token → A → List Token → Type 0) : Type 0 where
+pub record SaysR {A : Type 0} (o : ParseOutcome A) (ts : List Token) (T : List Token → A → List Token → Type 0) : Type 0 where
   pub by : (q : A × List Token) → o ≡ Ok q → (a : List Token) × (ts ≡ a ++ q.1) × T a q.0 q.1
   pub stops : (r : List Token) → o ≡ Err r → IsEnd r ts
 
@@ -21,7 +21,7 @@ ok_r x ts T h = record { by = λ q e. subst (λ q. (a : List Token) × (ts ≡ a
 pub refused_r : {A : Type 0} (ts : List Token) (T : List Token → A → List Token → Type 0) → SaysR (Err ts) ts T
 refused_r ts T = record { by = λ q e. no_ok e; stops = λ q e. subst (λ z. IsEnd z ts) (same_err e) ([], refl) }
 
-bound : {A B : Type 0} (o : Outcome A) (f : A → Parser B) (ts : List Token) (R : List Token → A → List Token → Type 0) (T : List Token → B → List Token → Type 0) → SaysR o ts R
+bound : {A B : Type 0} (o : ParseOutcome A) (f : A → Parser B) (ts : List Token) (R : List Token → A → List Token → Type 0) (T : List Token → B → List Token → Type 0) → SaysR o ts R
     → ((a : List Token) (x : A) (r : List Token) → R a x r → SaysR (f x r) r (λ b z u. T (a ++ b) z u))
     → (q : B × List Token) → and_then o f ≡ Ok q → (c : List Token) × (ts ≡ c ++ q.1) × T c q.0 q.1
 bound (Ok (x, r)) f ts R T h g q e =
@@ -30,7 +30,7 @@ bound (Ok (x, r)) f ts R T h g q e =
     (u.0 ++ v.0, u.1 ∙ ap (λ z. u.0 ++ z) v.1 ∙ sym (append_assoc u.0 v.0 q.1), v.2)
 bound (Err r) f ts R T h g q e = no_ok e
 
-bound_end : {A B : Type 0} (o : Outcome A) (f : A → Parser B) (ts : List Token) (R : List Token → A → List Token → Type 0) (T : List Token → B → List Token → Type 0) → SaysR o ts R
+bound_end : {A B : Type 0} (o : ParseOutcome A) (f : A → Parser B) (ts : List Token) (R : List Token → A → List Token → Type 0) (T : List Token → B → List Token → Type 0) → SaysR o ts R
     → ((a : List Token) (x : A) (r : List Token) → R a x r → SaysR (f x r) r (λ b z u. T (a ++ b) z u))
     → (q : List Token) → and_then o f ≡ Err q → IsEnd q ts
 bound_end (Ok (x, r)) f ts R T h g q e =
@@ -39,29 +39,29 @@ bound_end (Ok (x, r)) f ts R T h g q e =
     (u.0 ++ v.0, u.1 ∙ ap (λ z. u.0 ++ z) v.1 ∙ sym (append_assoc u.0 v.0 q))
 bound_end (Err r) f ts R T h g q e = subst (λ z. IsEnd z ts) (same_err e) (h.stops r refl)
 
-pub bind_r : {A B : Type 0} (o : Outcome A) (f : A → Parser B) (ts : List Token) (R : List Token → A → List Token → Type 0) (T : List Token → B → List Token → Type 0) → SaysR o ts R
+pub bind_r : {A B : Type 0} (o : ParseOutcome A) (f : A → Parser B) (ts : List Token) (R : List Token → A → List Token → Type 0) (T : List Token → B → List Token → Type 0) → SaysR o ts R
     → ((a : List Token) (x : A) (r : List Token) → R a x r → SaysR (f x r) r (λ b z u. T (a ++ b) z u)) → SaysR (and_then o f) ts T
 bind_r o f ts R T h g = record { by = bound o f ts R T h g; stops = bound_end o f ts R T h g }
 
-pub lift : {A : Type 0} (o : Outcome A) (ts : List Token) (R : List Token → A → Type 0) → Says o ts R → SaysR o ts (λ a x r. R a x)
+pub lift : {A : Type 0} (o : ParseOutcome A) (ts : List Token) (R : List Token → A → Type 0) → Says o ts R → SaysR o ts (λ a x r. R a x)
 lift o ts R h = record { by = λ q e. h.by q e; stops = h.stops }
 
-pub drop : {A : Type 0} (o : Outcome A) (ts : List Token) (R : List Token → A → Type 0) → SaysR o ts (λ a x r. R a x) → Says o ts R
+pub drop : {A : Type 0} (o : ParseOutcome A) (ts : List Token) (R : List Token → A → Type 0) → SaysR o ts (λ a x r. R a x) → Says o ts R
 drop o ts R h = record { by = λ q e. h.by q e; stops = h.stops }
 
-pub weaker_r : {A : Type 0} (o : Outcome A) (ts : List Token) (R T : List Token → A → List Token → Type 0) → ((a : List Token) (x : A) (r : List Token) → R a x r → T a x r) → SaysR o ts R → SaysR o ts T
+pub weaker_r : {A : Type 0} (o : ParseOutcome A) (ts : List Token) (R T : List Token → A → List Token → Type 0) → ((a : List Token) (x : A) (r : List Token) → R a x r → T a x r) → SaysR o ts R → SaysR o ts T
 weaker_r o ts R T f h = record { by = λ q e. let u = h.by q e in (u.0, u.1, f u.0 q.0 q.1 u.2); stops = h.stops }
 
 -- behind what says nothing of the tokens behind it
-pub then_r : {A B : Type 0} (o : Outcome A) (f : A → Parser B) (ts : List Token) (R : List Token → A → Type 0) (T : List Token → B → List Token → Type 0) → Says o ts R
+pub then_r : {A B : Type 0} (o : ParseOutcome A) (f : A → Parser B) (ts : List Token) (R : List Token → A → Type 0) (T : List Token → B → List Token → Type 0) → Says o ts R
     → ((a : List Token) (x : A) (r : List Token) → R a x → SaysR (f x r) r (λ b z u. T (a ++ b) z u)) → SaysR (and_then o f) ts T
 then_r o f ts R T h g = bind_r o f ts (λ a x r. R a x) T (lift o ts R h) g
 
-pub if_r : {A : Type 0} (b : Bool) (x v : Outcome A) (ts : List Token) (T : List Token → A → List Token → Type 0) → (b ≡ true → SaysR x ts T) → (b ≡ false → SaysR v ts T) → SaysR (cond b x v) ts T
+pub if_r : {A : Type 0} (b : Bool) (x v : ParseOutcome A) (ts : List Token) (T : List Token → A → List Token → Type 0) → (b ≡ true → SaysR x ts T) → (b ≡ false → SaysR v ts T) → SaysR (cond b x v) ts T
 if_r true x v ts T f g = f refl
 if_r false x v ts T f g = g refl
 
-pub token_r : {A : Type 0} (o : Outcome A) (t : Token) (r : List Token) (T : List Token → A → List Token → Type 0) → SaysR o r (λ b z u. T (t ∷ b) z u) → SaysR o (t ∷ r) T
+pub token_r : {A : Type 0} (o : ParseOutcome A) (t : Token) (r : List Token) (T : List Token → A → List Token → Type 0) → SaysR o r (λ b z u. T (t ∷ b) z u) → SaysR o (t ∷ r) T
 token_r o t r T h = record { by = λ q e. let u = h.by q e in (t ∷ u.0, ap (λ z. t ∷ z) u.1, u.2); stops = λ q e. let u = h.stops q e in (t ∷ u.0, ap (λ z. t ∷ z) u.1) }
 
 pub done_r : {A : Type 0} (x : A) (a ts : List Token) (T : List Token → A → List Token → Type 0) → T a x ts → SaysR (Ok (x, ts)) ts (λ b z u. T (a ++ b) z u)

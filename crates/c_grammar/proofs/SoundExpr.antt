@@ -18,10 +18,10 @@ use Rattle.c_grammar.specs.declared.shapes.Naming.{Naming}
 use Rattle.c_grammar.specs.declared.shapes.Naming.TheVariants as nm
 use Rattle.c_grammar.specs.Classes.{infix_of, prefix_of, level_of, binds, demands, makes}
 use Rattle.c_grammar.specs.Tokens.{Scope, spelling, is_type, place, is_mark, is_name, is_text, begins_type}
-use Rattle.c_grammar.specs.Types.{takes_name, may_be_nameless, nameless, with_shape, shaped, parameter_of, without_void, comma_of}
+use Rattle.c_grammar.specs.Types.{takes_name, may_be_nameless, nameless, with_shape, with_shapes, parameter_of, without_void, comma_of}
 use Rattle.c_grammar.specs.Grammar.{AreConsts, IsPlain, AreTexts, IsExpr, IsWhole, AreListed, AreArguments, IsTypeName, IsDeclarator, AreParameters, AreParametersListed, IsParameter}
 use Rattle.c_grammar.specs.Parser.{IsEnd, Parser, and_then, consts}
-use Rattle.c_grammar.specs.ParseExpr.{plain, texts_from, listed_from, whole, type_name, parameter, arguments, parameters, named, cast_behind, brackets_behind, bracketed, size_of_type, size_of_value, size_of, operand_by, operand, member, step_by, climb, tight, length_of, suffixes, group_behind, core_bracket, core, starred, shaping, expr, declarator}
+use Rattle.c_grammar.specs.ParseExpr.{plain, texts_from, listed_from, whole, type_name, parameter, arguments, parameters, named, cast_behind, brackets_behind, bracket_operand, size_of_type, size_of_value, size_of, operand_by, operand, member, step_by, climb, tight, length_of, suffixes, group_behind, core_bracket, core, pointer_declarator, shaping, expr, declarator}
 use Rattle.std.specs.Prelude.{◌≢◌}
 use Rattle.std.proofs.lemmas.Bool.{ltb-true, ltb-false}
 use Rattle.c_grammar.proofs.Outcomes.{no_true, mark_is, name_is, text_is}
@@ -80,7 +80,7 @@ is_arrow i.Arrow = true
 is_arrow _ = false
 
 is_choose : Infix → Bool
-is_choose i.Choose = true
+is_choose i.Conditional = true
 is_choose _ = false
 
 index_is : (kind : TokenKind) → infix_of kind ≡ i.Index → kind ≡ k.Mark p.LeftBracket
@@ -101,7 +101,7 @@ arrow_is (k.Mark p.Arrow) e = refl
 arrow_is (k.Mark _) e = no_true (ap is_arrow e)
 arrow_is _ e = no_true (ap is_arrow e)
 
-choose_is : (kind : TokenKind) → infix_of kind ≡ i.Choose → kind ≡ k.Mark p.Question
+choose_is : (kind : TokenKind) → infix_of kind ≡ i.Conditional → kind ≡ k.Mark p.Question
 unfolding is_choose
 choose_is (k.Mark p.Question) e = refl
 choose_is (k.Mark _) e = no_true (ap is_choose e)
@@ -110,7 +110,7 @@ choose_is _ e = no_true (ap is_choose e)
 makes_above : (class : Infix) (least : ℕ) → Wanted least → least ≤ binds class → least ≤ makes class
 makes_above i.Comma least w le = le
 makes_above (i.Assign op) least w le = let a = w.three in omega arith
-makes_above i.Choose least w le = let a = w.five in omega arith
+makes_above i.Conditional least w le = let a = w.five in omega arith
 makes_above (i.Binary op) least w le = le
 makes_above i.Index least w le = le
 makes_above i.Field least w le = le
@@ -195,7 +195,7 @@ module _ (s : Scope) where
     unfolding type_name
     type_says ts = bind_says_at (plain s ts) _ ts (λ a ty. IsPlain s a ty) _ (plain_says s ts) (λ a ty r e h.
         bind_says (dec nm.Refused r) _ r (λ b d. IsDeclarator s nm.Refused 0 b d) _ (sound_d nm.Refused r) (λ b d u g.
-        done_says (record { at = place ts; ty = shaped d.shapes ty }) b u (λ c z. IsTypeName s (a ++ c) z) (subst (λ at. IsTypeName s (a ++ b) (record { at = at; ty = shaped d.shapes ty })) (sym (ap place e ∙ place-append a r (plain_begins s h).0)) (IsTypeName.type_name a b ty d h g))))
+        done_says (record { at = place ts; ty = with_shapes d.shapes ty }) b u (λ c z. IsTypeName s (a ++ c) z) (subst (λ at. IsTypeName s (a ++ b) (record { at = at; ty = with_shapes d.shapes ty })) (sym (ap place e ∙ place-append a r (plain_begins s h).0)) (IsTypeName.type_name a b ty d h g))))
 
     parameter_says : (ts : List Token) → Says (parameter s rec dec ts) ts (λ a x. IsParameter s a x)
     unfolding parameter
@@ -239,7 +239,7 @@ module _ (s : Scope) where
     brackets_says least l ts cap lk = bind_says (whole s rec dec ts) _ ts (λ a x. IsWhole s a x) _ (whole_says ts) (λ a x u h. expect_says p.RightParen _ u _ (λ r v rk.
         ok_says (x, 19) v _ (record { wanted = omega arith; is = IsExpr.brackets {m = 19} l a r x (omega arith) lk h rk })))
 
-    bracketed_says : (least : ℕ) (l : Token) (ts : List Token) → least ≤ 17 → l.kind ≡ k.Mark p.LeftParen → Says (bracketed s rec dec least l.at ts) ts (λ b q. IsOperand s least (l ∷ b) q)
+    bracketed_says : (least : ℕ) (l : Token) (ts : List Token) → least ≤ 17 → l.kind ≡ k.Mark p.LeftParen → Says (bracket_operand s rec dec least l.at ts) ts (λ b q. IsOperand s least (l ∷ b) q)
     bracketed_says least l ts cap lk = if_says (begins_type s ts) _ _ ts _
         (λ yes. if_says (ltb least 17) (cast_behind s rec dec l.at ts) (Err ts) ts _ (λ low. let h = ltb-true least 17 low in cast_says least l ts (omega arith) lk) (λ high. refused_says ts _))
         (λ other. brackets_says least l ts cap lk)
@@ -309,12 +309,12 @@ module _ (s : Scope) where
         ok_says (e.Index (place done) x z) v _ (IsExpr.index {m = 18} done t a r x z (omega arith) (weaken h 18 le) (index_is t.kind kind) g rk)))
     step_says i.Field t level done x ts kind le h = member_says (e.Field (place done) x) ts _ (λ n nk. IsExpr.field {m = 18} done t n x (omega arith) (weaken h 18 le) (field_is t.kind kind) nk)
     step_says i.Arrow t level done x ts kind le h = member_says (e.Arrow (place done) x) ts _ (λ n nk. IsExpr.arrow {m = 18} done t n x (omega arith) (weaken h 18 le) (arrow_is t.kind kind) nk)
-    step_says (i.Step op) t level done x ts kind le h = ok_says (e.After (place done) op x) ts _ (IsExpr.after {m = 18} done t op x (omega arith) (weaken h 18 le) kind)
+    step_says (i.Step op) t level done x ts kind le h = ok_says (e.Postfix (place done) op x) ts _ (IsExpr.after {m = 18} done t op x (omega arith) (weaken h 18 le) kind)
     step_says (i.Binary op) t level done x ts kind le h = bind_says (rec (suc (level_of op)) ts) _ ts (λ b z. IsExpr s (suc (level_of op)) b z) _ (sound (suc (level_of op)) ts (above_wanted op)) (λ b z u g.
         done_says (e.Binary (place done) op x z) b u (λ c y. IsExpr s (level_of op) (done ++ t ∷ c) y) (IsExpr.binary {m = level_of op} done t b op x z (omega arith) kind (weaken h (level_of op) le) g))
-    step_says i.Choose t level done x ts kind le h = bind_says (whole s rec dec ts) _ ts (λ a z. IsWhole s a z) _ (whole_says ts) (λ b v u g. expect_says p.Colon _ u _ (λ r u' rk.
+    step_says i.Conditional t level done x ts kind le h = bind_says (whole s rec dec ts) _ ts (λ a z. IsWhole s a z) _ (whole_says ts) (λ b v u g. expect_says p.Colon _ u _ (λ r u' rk.
         bind_says (rec 4 u') _ u' (λ c z. IsExpr s 4 c z) _ (sound 4 u' four_wanted) (λ c z w' o.
-        done_says (e.Choose (place done) x v z) c w' (λ c y. IsExpr s 4 (done ++ t ∷ (b ++ (r ∷ c))) y) (IsExpr.choose {m = 4} done t b r c x v z (omega arith) (weaken h 6 le) (choose_is t.kind kind) g rk o))))
+        done_says (e.Conditional (place done) x v z) c w' (λ c y. IsExpr s 4 (done ++ t ∷ (b ++ (r ∷ c))) y) (IsExpr.choose {m = 4} done t b r c x v z (omega arith) (weaken h 6 le) (choose_is t.kind kind) g rk o))))
     step_says (i.Assign op) t level done x ts kind le h = bind_says (rec 2 ts) _ ts (λ b z. IsExpr s 2 b z) _ (sound 2 ts two_wanted) (λ b z u g.
         done_says (e.Assign (place done) op x z) b u (λ c y. IsExpr s 2 (done ++ t ∷ c) y) (IsExpr.assign {m = 2} done t b op x z (omega arith) (weaken h 17 le) kind g))
     step_says i.Comma t level done x ts kind le h = refused_says ts _
@@ -366,15 +366,15 @@ module _ (s : Scope) where
         subst P (sym q.2) (weaker _ u _ _ (λ c v o. subst (λ c. IsDeclarator s naming 1 c v) (append_assoc done (t ∷ q.0 ++ q.1 ∷ []) c) o) (suffixes_says naming j (done ++ (t ∷ q.0 ++ q.1 ∷ [])) (with_shape d (sh.Takes (without_void xs))) u (IsDeclarator.takes done t q.0 q.1 d xs h (mark_is p.LeftParen t.kind yes) q.3 q.4))))))
         (λ none. done_says d done (t ∷ ts) (λ a z. IsDeclarator s naming 1 a z) h))
 
-    starred_says : (naming : Naming) (t : Token) (ts : List Token) → t.kind ≡ k.Mark p.Star → Says (starred s rec dec naming ts) ts (λ b d. IsDeclarator s naming 0 (t ∷ b) d)
-    unfolding starred
+    starred_says : (naming : Naming) (t : Token) (ts : List Token) → t.kind ≡ k.Mark p.Star → Says (pointer_declarator s rec dec naming ts) ts (λ b d. IsDeclarator s naming 0 (t ∷ b) d)
+    unfolding pointer_declarator
     starred_says naming t ts kind = bind_says (consts (length ts) ts) _ ts (λ a q. AreConsts a) _ (consts_says (length ts) ts) (λ a q r c.
         bind_says (dec naming r) _ r (λ b d. IsDeclarator s naming 0 b d) _ (sound_d naming r) (λ b d u h.
         done_says (with_shape d sh.Pointer) b u (λ c z. IsDeclarator s naming 0 (t ∷ (a ++ c)) z) (IsDeclarator.star t a b d (omega arith) kind c h)))
 
     group_says : (naming : Naming) (l t : Token) (ts : List Token) → l.kind ≡ k.Mark p.LeftParen → t.kind ≡ k.Mark p.Star → Says (group_behind s rec dec naming ts) ts (λ b d. IsDeclarator s naming 1 (l ∷ t ∷ b) d)
     unfolding group_behind
-    group_says naming l t ts lk tk = bind_says (starred s rec dec naming ts) _ ts (λ a d. IsDeclarator s naming 0 (t ∷ a) d) _ (starred_says naming t ts tk) (λ a d u h. expect_says p.RightParen _ u _ (λ r v rk.
+    group_says naming l t ts lk tk = bind_says (pointer_declarator s rec dec naming ts) _ ts (λ a d. IsDeclarator s naming 0 (t ∷ a) d) _ (starred_says naming t ts tk) (λ a d u h. expect_says p.RightParen _ u _ (λ r v rk.
         ok_says d v _ (IsDeclarator.group l t a r d lk tk h rk)))
 
     nameless_says : (naming : Naming) (r ts : List Token) → IsEnd r ts → Says (cond (may_be_nameless naming) (Ok (nameless, ts)) (Err r)) ts (λ a d. IsDeclarator s naming 1 a d)

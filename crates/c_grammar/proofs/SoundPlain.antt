@@ -12,8 +12,8 @@ use Rattle.c_grammar.specs.declared.classes.TypeWord.{TypeWord}
 use Rattle.c_grammar.specs.declared.classes.TypeWord.TheVariants as t
 use Rattle.c_grammar.specs.declared.classes.Specifier.{Specifier}
 use Rattle.c_grammar.specs.declared.classes.Specifier.TheVariants as c
-use Rattle.c_grammar.specs.declared.word_set.Base.{Base}
-use Rattle.c_grammar.specs.declared.word_set.Base.TheVariants as b
+use Rattle.c_grammar.specs.declared.word_set.BaseWord.{BaseWord}
+use Rattle.c_grammar.specs.declared.word_set.BaseWord.TheVariants as b
 use Rattle.c_grammar.specs.declared.word_set.Sign.{Sign}
 use Rattle.c_grammar.specs.declared.word_set.Sign.TheVariants as g
 use Rattle.c_grammar.specs.declared.word_set.WordSet.{WordSet}
@@ -22,7 +22,7 @@ use Rattle.c_grammar.specs.WordSets.{no_words, with_word, basic_by, basic_of}
 use Rattle.c_grammar.specs.Tokens.{Scope, spelling, is_type, is_name, behind, place}
 use Rattle.c_grammar.specs.Grammar.{AreConsts, AreWords, IsPlain}
 use Rattle.c_grammar.specs.Parser.{Parser, consts}
-use Rattle.c_grammar.specs.ParseExpr.{settle, word_by, named_type, tagged, tag, specifier_by, specifier_from, plain}
+use Rattle.c_grammar.specs.ParseExpr.{settle, word_by, named_type, tag_type, tag, specifier_by, specifier_from, plain}
 use Rattle.c_grammar.proofs.Outcomes.{no_true, name_is}
 use Rattle.c_grammar.proofs.Says.{Says, ok_says, refused_says, bind_says, if_says, token_says, done_says, consts_says, weaker}
 
@@ -80,7 +80,7 @@ same_some e = cc
 abbrev Spells : WordSet → Type 0
 Spells v = (y : BasicType) × (basic_of v ≡ Some y)
 
-base_spells : (base : Base) (sign : Option Sign) (int : Bool) → (y : BasicType) × (basic_by (Some base) sign int ≡ Some y)
+base_spells : (base : BaseWord) (sign : Option Sign) (int : Bool) → (y : BasicType) × (basic_by (Some base) sign int ≡ Some y)
 base_spells b.Void sign int = (bt.Void, refl)
 base_spells b.Char None int = (bt.Char, refl)
 base_spells b.Char (Some g.Signed) int = (bt.SignedChar, refl)
@@ -92,12 +92,12 @@ base_spells b.Long None int = (bt.Long, refl)
 base_spells b.Long (Some g.Signed) int = (bt.Long, refl)
 base_spells b.Long (Some g.Unsigned) int = (bt.UnsignedLong, refl)
 
-sign_spells : (base : Option Base) (sign : Sign) (int : Bool) → (y : BasicType) × (basic_by base (Some sign) int ≡ Some y)
+sign_spells : (base : Option BaseWord) (sign : Sign) (int : Bool) → (y : BasicType) × (basic_by base (Some sign) int ≡ Some y)
 sign_spells (Some base) sign int = base_spells base (Some sign) int
 sign_spells None g.Signed int = (bt.Signed, refl)
 sign_spells None g.Unsigned int = (bt.Unsigned, refl)
 
-int_spells : (base : Option Base) (sign : Option Sign) → (y : BasicType) × (basic_by base sign true ≡ Some y)
+int_spells : (base : Option BaseWord) (sign : Option Sign) → (y : BasicType) × (basic_by base sign true ≡ Some y)
 int_spells (Some base) sign = base_spells base sign true
 int_spells None (Some sign) = sign_spells None sign true
 int_spells None None = (bt.Int, refl)
@@ -176,11 +176,11 @@ pub data IsTail (s : Scope) (u : Token) : List Token → TypeNode → Type 0 whe
   struct : (v : Token) (a : List Token) → u.kind ≡ k.Word w.Struct → v.kind ≡ k.Name → AreConsts a → IsTail s u (v ∷ a) (y.Struct v.at (Some (spelling s v)) None)
   enum : (v : Token) (a : List Token) → u.kind ≡ k.Word w.Enum → v.kind ≡ k.Name → AreConsts a → IsTail s u (v ∷ a) (y.Enum v.at (Some (spelling s v)) None)
 
-pub tag_says : (s : Scope) (class : Specifier) (ts : List Token) (T : List Token → TypeNode → Type 0) → ((v : Token) (a : List Token) → v.kind ≡ k.Name → AreConsts a → T (v ∷ a) (tagged class v.at (spelling s v))) → Says (tag s class ts) ts T
+pub tag_says : (s : Scope) (class : Specifier) (ts : List Token) (T : List Token → TypeNode → Type 0) → ((v : Token) (a : List Token) → v.kind ≡ k.Name → AreConsts a → T (v ∷ a) (tag_type class v.at (spelling s v))) → Says (tag s class ts) ts T
 unfolding tag
 tag_says s class [] T h = refused_says [] T
 tag_says s class (v ∷ r) T h = if_says (is_name v.kind) _ _ (v ∷ r) T
-    (λ yes. token_says _ v r T (bind_says (consts (length r) r) _ r (λ a q. AreConsts a) _ (consts_says (length r) r) (λ a q z g. done_says (tagged class v.at (spelling s v)) a z (λ a ty. T (v ∷ a) ty) (h v a (name_is v.kind yes) g))))
+    (λ yes. token_says _ v r T (bind_says (consts (length r) r) _ r (λ a q. AreConsts a) _ (consts_says (length r) r) (λ a q z g. done_says (tag_type class v.at (spelling s v)) a z (λ a ty. T (v ∷ a) ty) (h v a (name_is v.kind yes) g))))
     (λ other. refused_says (v ∷ r) T)
 
 is_plain : (s : Scope) {a : List Token} {ty : TypeNode} → From (IsTail s) no_words a ty → IsPlain s a ty

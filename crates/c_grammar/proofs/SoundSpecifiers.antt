@@ -16,12 +16,12 @@ use Rattle.c_grammar.specs.declared.shapes.Naming.{Naming}
 use Rattle.c_grammar.specs.declared.shapes.Naming.TheVariants as nm
 use Rattle.c_grammar.specs.WordSets.{no_words}
 use Rattle.c_grammar.specs.Tokens.{Scope, spelling, is_type, is_mark, is_name, kind_at, behind}
-use Rattle.c_grammar.specs.Types.{declared, bare}
+use Rattle.c_grammar.specs.Types.{declaration_of, bare}
 use Rattle.c_grammar.specs.Grammar.{AreConsts, IsPlain, IsExpr, IsDeclarator}
 use Rattle.c_grammar.specs.Specifiers.{IsTag, IsDeclared, AreDeclared, IsConstant, AreConstants, IsSpecifier, AreMembers, IsMember}
 use Rattle.c_grammar.specs.Parser.{Parser, consts}
-use Rattle.c_grammar.specs.ParseExpr.{tagged, specifier_from, expr, declarator}
-use Rattle.c_grammar.specs.ParseSpecifiers.{named_by, declaration, braced_from, valued, constant, declared_from, member, members_from, braces, tag_or_body, specifier}
+use Rattle.c_grammar.specs.ParseExpr.{tag_type, specifier_from, expr, declarator}
+use Rattle.c_grammar.specs.ParseSpecifiers.{named_by, declaration, braced_from, constant_value, constant, declared_from, member, members_from, braces, tag_or_body, specifier}
 use Rattle.c_grammar.proofs.Outcomes.{mark_is, name_is}
 use Rattle.c_grammar.proofs.Says.{Says, ok_says, refused_says, bind_says, if_says, token_says, done_says, expect_says, consts_says, after_says, weaker}
 use Rattle.c_grammar.proofs.SoundPlain.{From, IsTail, specifier_says}
@@ -30,7 +30,7 @@ use Rattle.c_grammar.proofs.SoundExpr.{four_wanted, sound_expr, sound_declarator
 -- ---- declarators with their type
 
 named_says : (s : Scope) (naming : Naming) (ty : TypeNode) (a : List Token) (o : Option Named) (shapes : List Shape) (r : List Token) → IsDeclarator s naming 0 a (record { name = o; shapes = shapes }) → Says (named_by ty o shapes r) r (λ b z. IsDeclared s naming ty (a ++ b) z)
-named_says s naming ty a (Some u) shapes r h = done_says (declared ty u shapes) a r (λ a z. IsDeclared s naming ty a z) (IsDeclared.of a u shapes h)
+named_says s naming ty a (Some u) shapes r h = done_says (declaration_of ty u shapes) a r (λ a z. IsDeclared s naming ty a z) (IsDeclared.of a u shapes h)
 named_says s naming ty a None shapes r h = refused_says r _
 
 pub declaration_says : (s : Scope) (n : ℕ) (naming : Naming) (ty : TypeNode) (ts : List Token) → Says (declaration s n naming ty ts) ts (λ a d. IsDeclared s naming ty a d)
@@ -71,11 +71,11 @@ braced_says item R L h one last more (suc j) found ts = bind_says (item ts) _ ts
 
 -- ---- enumeration constants
 
-valued_says : (s : Scope) (n : ℕ) (t : Token) (ts : List Token) → t.kind ≡ k.Name → is_type s t ≡ false → Says (valued s n t.at (spelling s t) ts) ts (λ b x. IsConstant s (t ∷ b) x)
+valued_says : (s : Scope) (n : ℕ) (t : Token) (ts : List Token) → t.kind ≡ k.Name → is_type s t ≡ false → Says (constant_value s n t.at (spelling s t) ts) ts (λ b x. IsConstant s (t ∷ b) x)
 valued_says s n t [] kind listed = ok_says (record { at = t.at; name = spelling s t; value = None }) [] _ (IsConstant.plain t kind listed)
 valued_says s n t (u ∷ r) kind listed = if_says (is_mark p.Assign u.kind) _ _ (u ∷ r) _
     (λ yes. token_says _ u r _ (bind_says (expr s n 4 r) _ r (λ a x. IsExpr s 4 a x) _ (sound_expr s n 4 r four_wanted) (λ a x v h.
-    done_says (record { at = t.at; name = spelling s t; value = Some x }) a v (λ b z. IsConstant s (t ∷ u ∷ b) z) (IsConstant.valued t u a x kind listed (mark_is p.Assign u.kind yes) h))))
+    done_says (record { at = t.at; name = spelling s t; value = Some x }) a v (λ b z. IsConstant s (t ∷ u ∷ b) z) (IsConstant.constant_value t u a x kind listed (mark_is p.Assign u.kind yes) h))))
     (λ other. ok_says (record { at = t.at; name = spelling s t; value = None }) (u ∷ r) _ (IsConstant.plain t kind listed))
 
 constant_says : (s : Scope) (n : ℕ) (ts : List Token) → Says (constant s n ts) ts (λ a x. IsConstant s a x)
@@ -133,7 +133,7 @@ module _ (s : Scope) (n : ℕ) (spec : Parser TypeNode) (sound : (ts : List Toke
   -- behind the word
   on_says : (class : Specifier) (u : Token) (ts : List Token)
       → ((b : List Token) (at : ℕ) (name : Option (List ℕ)) (ts : List Token) → IsTag s u b at name → Says (braces s n spec class at name ts) ts (λ e ty. IsBraced s u (b ++ e) ty))
-      → ((v : Token) (a : List Token) → v.kind ≡ k.Name → AreConsts a → IsTail s u (v ∷ a) (tagged class v.at (spelling s v)))
+      → ((v : Token) (a : List Token) → v.kind ≡ k.Name → AreConsts a → IsTail s u (v ∷ a) (tag_type class v.at (spelling s v)))
       → Says (tag_or_body s n spec class u.at ts) ts (λ b ty. IsBraced s u b ty)
   unfolding tag_or_body
   on_says class u [] h g = h [] u.at None [] IsTag.none
@@ -141,7 +141,7 @@ module _ (s : Scope) (n : ℕ) (spec : Parser TypeNode) (sound : (ts : List Toke
       (λ yes. token_says _ v r _ (if_says (is_mark p.LeftBrace (kind_at r)) _ _ r _
       (λ brace. h (v ∷ []) v.at (Some (spelling s v)) r (IsTag.some v (name_is v.kind yes)))
       (λ other. bind_says (consts (length r) r) _ r (λ a q. AreConsts a) _ (consts_says (length r) r) (λ a x z o.
-      done_says (tagged class v.at (spelling s v)) a z (λ a ty. IsBraced s u (v ∷ a) ty) (IsBraced.alone (v ∷ a) (tagged class v.at (spelling s v)) (g v a (name_is v.kind yes) o))))))
+      done_says (tag_type class v.at (spelling s v)) a z (λ a ty. IsBraced s u (v ∷ a) ty) (IsBraced.alone (v ∷ a) (tag_type class v.at (spelling s v)) (g v a (name_is v.kind yes) o))))))
       (λ other. h [] u.at None (v ∷ r) IsTag.none)
 
 pub sound_specifier : (s : Scope) (n : ℕ) (ts : List Token) → Says (specifier s n ts) ts (λ a ty. IsSpecifier s a ty)

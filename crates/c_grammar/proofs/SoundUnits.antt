@@ -15,19 +15,19 @@ use Rattle.c_tree.specs.declared.declarations.Init as i
 use Rattle.c_tree.specs.declared.declarations.FunctionEnd.TheVariants as f
 use Rattle.c_tree.specs.declared.declarations.External.{External}
 use Rattle.c_tree.specs.declared.declarations.External.TheVariants as x
-use Rattle.c_tree.specs.declared.declarations.Unit.{Unit as Tree}
+use Rattle.c_tree.specs.declared.declarations.TranslationUnit.{TranslationUnit}
 use Rattle.c_grammar.specs.declared.shapes.Shape.{Shape}
 use Rattle.c_grammar.specs.declared.shapes.Named.{Named}
 use Rattle.c_grammar.specs.declared.shapes.Declarator.{Declarator}
 use Rattle.c_grammar.specs.declared.shapes.Naming.TheVariants as nm
 use Rattle.c_grammar.specs.Classes.{opening_of}
 use Rattle.c_grammar.specs.Tokens.{Scope, is_mark, kind_at, behind}
-use Rattle.c_grammar.specs.Types.{declared, bare}
+use Rattle.c_grammar.specs.Types.{declaration_of, bare}
 use Rattle.c_grammar.specs.Grammar.{IsExpr, IsDeclarator}
 use Rattle.c_grammar.specs.Specifiers.{IsDeclared, IsSpecifier}
 use Rattle.c_grammar.specs.Statements.{AreItems}
 use Rattle.c_grammar.specs.Units.{IsInit, AreInits, IsStorage, end_by, external_by, IsObject, AreObjects, with_type, AreTypedefs, IsExternal, AreExternals}
-use Rattle.c_grammar.specs.Parser.{Outcome, IsEnd, Parser, and_then, ◌>>=◌, pure, expect}
+use Rattle.c_grammar.specs.Parser.{ParseOutcome, IsEnd, Parser, and_then, ◌>>=◌, pure, expect}
 use Rattle.c_grammar.specs.ParseExpr.{expr, declarator}
 use Rattle.c_grammar.specs.ParseSpecifiers.{declaration, braced_from, specifier}
 use Rattle.c_grammar.specs.ParseStatements.{items_from, stmt}
@@ -88,11 +88,11 @@ data IsBehind (s : Scope) (storage : Option Storage) (ty : TypeNode) : List Toke
 module _ (s : Scope) (n : ℕ) (storage : Option Storage) where
   object_says : (ty : TypeNode) (u : Named) (shapes : List Shape) (a r : List Token) → IsDeclarator s nm.Required 0 a (record { name = Some u; shapes = shapes }) → Says (object_by s n storage ty u shapes r) r (λ b v. IsObject s storage ty (a ++ b) v)
   unfolding object_by
-  object_says ty u shapes a [] h = done_says (external_by shapes (declared ty u shapes) storage None) a [] (λ a v. IsObject s storage ty a v) (IsObject.plain a u shapes h)
+  object_says ty u shapes a [] h = done_says (external_by shapes (declaration_of ty u shapes) storage None) a [] (λ a v. IsObject s storage ty a v) (IsObject.plain a u shapes h)
   object_says ty u shapes a (t ∷ r) h = if_says (is_mark p.Assign t.kind) _ _ (t ∷ r) _
       (λ yes. token_says _ t r _ (bind_says (init s n r) _ r (λ b v. IsInit s b v) _ (sound_init s n r) (λ b v z g.
-      done_says (external_by shapes (declared ty u shapes) storage (Some v)) b z (λ b w'. IsObject s storage ty (a ++ t ∷ b) w') (IsObject.given a t b u shapes v h (mark_is p.Assign t.kind yes) g))))
-      (λ other. done_says (external_by shapes (declared ty u shapes) storage None) a (t ∷ r) (λ a v. IsObject s storage ty a v) (IsObject.plain a u shapes h))
+      done_says (external_by shapes (declaration_of ty u shapes) storage (Some v)) b z (λ b w'. IsObject s storage ty (a ++ t ∷ b) w') (IsObject.given a t b u shapes v h (mark_is p.Assign t.kind yes) g))))
+      (λ other. done_says (external_by shapes (declaration_of ty u shapes) storage None) a (t ∷ r) (λ a v. IsObject s storage ty a v) (IsObject.plain a u shapes h))
 
   named_says : (ty : TypeNode) (o' : Option Named) (shapes : List Shape) (a r : List Token) → IsDeclarator s nm.Required 0 a (record { name = o'; shapes = shapes }) → Says (object_named s n storage ty o' shapes r) r (λ b v. IsObject s storage ty (a ++ b) v)
   named_says ty (Some u) shapes a r h = object_says ty u shapes a r h
@@ -129,7 +129,7 @@ module _ (s : Scope) (n : ℕ) (storage : Option Storage) where
   unfolding objects_named
   first_says ty d (Some u) a [] h = rest_says ty u d.shapes a [] h
   first_says ty d (Some u) a (l ∷ r) h = if_says (is_mark p.LeftBrace l.kind) _ _ (l ∷ r) _
-      (λ yes. token_says _ l r _ (body_says ty (declared ty u d.shapes) a l r (IsDeclared.of a u d.shapes h) (mark_is p.LeftBrace l.kind yes)))
+      (λ yes. token_says _ l r _ (body_says ty (declaration_of ty u d.shapes) a l r (IsDeclared.of a u d.shapes h) (mark_is p.LeftBrace l.kind yes)))
       (λ other. rest_says ty u d.shapes a (l ∷ r) h)
   first_says ty d None a r h = refused_says r _
 
@@ -169,7 +169,7 @@ external_says : (s : Scope) (n : ℕ) (t : Token) (ts : List Token) → Says (ex
 unfolding external
 external_says s n t ts = by_says s n t.kind t ts refl
 
-split : (o' : Outcome (List External × Scope)) (go : List External × Scope → List Token → Result (List External) (List Token)) (ys : List External) → externals_behind o' go ≡ Ok ys → (q : (List External × Scope) × List Token) × (o' ≡ Ok q) × (go q.0 q.1 ≡ Ok ys)
+split : (o' : ParseOutcome (List External × Scope)) (go : List External × Scope → List Token → Result (List External) (List Token)) (ys : List External) → externals_behind o' go ≡ Ok ys → (q : (List External × Scope) × List Token) × (o' ≡ Ok q) × (go q.0 q.1 ≡ Ok ys)
 split (Ok q) go ys e = (q, refl, e)
 split (Err r) go ys e = cc
 
@@ -190,7 +190,7 @@ externals_sound (suc j) s found ys (t ∷ ts) le e =
     (q.0.0.0 ++ o'.0, o'.1 ∙ append_assoc found q.0.0.0 o'.0, subst (λ z. AreExternals s z (q.0.0.0 ++ o'.0)) (sym h.1) (AreExternals.more h.0 q.0.1 q.0.0.0 o'.0 q.0.0.1 h.2 o'.2))
 
 -- the same of a refusal
-stops_split : (o' : Outcome (List External × Scope)) (go : List External × Scope → List Token → Result (List External) (List Token)) (ts r : List Token) → ((q : List Token) → o' ≡ Err q → IsEnd q ts)
+stops_split : (o' : ParseOutcome (List External × Scope)) (go : List External × Scope → List Token → Result (List External) (List Token)) (ts r : List Token) → ((q : List Token) → o' ≡ Err q → IsEnd q ts)
     → ((q : (List External × Scope) × List Token) → o' ≡ Ok q → go q.0 q.1 ≡ Err r → IsEnd r ts) → externals_behind o' go ≡ Err r → IsEnd r ts
 stops_split (Ok q) go ts r f g e = g q refl e
 stops_split (Err z) go ts r f g e = subst (λ w. IsEnd w ts) (same_end e) (f z refl)
@@ -213,17 +213,17 @@ unit_end : (size : ℕ) (o' : Result (List External) (List Token)) (tokens r : L
 unit_end size (Ok vs) tokens r f e = cc
 unit_end size (Err z) tokens r f e = subst (λ w. IsEnd w tokens) (same_end e) (f z refl)
   where
-    same_end : {z r : List Token} → ◌≡◌ {A = Result Tree (List Token)} (Err z) (Err r) → z ≡ r
+    same_end : {z r : List Token} → ◌≡◌ {A = Result TranslationUnit (List Token)} (Err z) (Err r) → z ≡ r
     same_end e = cc
 
 -- The tokens from the refused one on are the last of them.
 pub refused_end : (text : List ℕ) (tokens r : List Token) → unit text tokens ≡ Err r → IsEnd r tokens
 refused_end text tokens r e = unit_end (length text) (externals_from (length tokens) (record { text = text; types = [] }) [] tokens) tokens r (λ q. externals_end (length tokens) (record { text = text; types = [] }) [] tokens q) e
 
-same_tree : {t u : Tree} → ◌≡◌ {A = Result Tree (List Token)} (Ok t) (Ok u) → t ≡ u
+same_tree : {t u : TranslationUnit} → ◌≡◌ {A = Result TranslationUnit (List Token)} (Ok t) (Ok u) → t ≡ u
 same_tree e = cc
 
-unit_sound : (text : List ℕ) (tokens : List Token) (tree : Tree) (o' : Result (List External) (List Token)) → externals_from (length tokens) (record { text = text; types = [] }) [] tokens ≡ o' → unit_of (length text) o' ≡ Ok tree → units.Reads text tokens tree
+unit_sound : (text : List ℕ) (tokens : List Token) (tree : TranslationUnit) (o' : Result (List External) (List Token)) → externals_from (length tokens) (record { text = text; types = [] }) [] tokens ≡ o' → unit_of (length text) o' ≡ Ok tree → units.Reads text tokens tree
 unit_sound text tokens tree (Ok vs) e g =
     let h = externals_sound (length tokens) (record { text = text; types = [] }) [] vs tokens (omega arith) e in
     let made : units.Reads text tokens (record { externals = vs; length = length text }) = record { externals = subst (λ z. AreExternals (record { text = text; types = [] }) tokens z) (sym h.1) h.2; length = refl } in
@@ -231,9 +231,9 @@ unit_sound text tokens tree (Ok vs) e g =
 unit_sound text tokens tree (Err r) e g = cc
 
 -- The unit that is read is that of the tokens.
-pub sound : (text : List ℕ) (tokens : List Token) (tree : Tree) → unit text tokens ≡ Ok tree → units.Reads text tokens tree
+pub sound : (text : List ℕ) (tokens : List Token) (tree : TranslationUnit) → unit text tokens ≡ Ok tree → units.Reads text tokens tree
 sound text tokens tree e = unit_sound text tokens tree (externals_from (length tokens) (record { text = text; types = [] }) [] tokens) refl e
 
 -- A token list has at most one reading.
-pub one_reading : (text : List ℕ) (tokens : List Token) (t u : Tree) → units.Reads text tokens t → units.Reads text tokens u → t ≡ u
+pub one_reading : (text : List ℕ) (tokens : List Token) (t u : TranslationUnit) → units.Reads text tokens t → units.Reads text tokens u → t ≡ u
 one_reading text tokens t u h g = same_tree (sym (complete text tokens t h) ∙ complete text tokens u g)

@@ -35,9 +35,9 @@ infix_mark p.ShiftRightAssign = i.Assign a.ShiftRight
 infix_mark p.AmpersandAssign = i.Assign a.And
 infix_mark p.CaretAssign = i.Assign a.Xor
 infix_mark p.BarAssign = i.Assign a.Or
-infix_mark p.Question = i.Choose
-infix_mark p.OrOr = i.Binary b.Either
-infix_mark p.AndAnd = i.Binary b.Both
+infix_mark p.Question = i.Conditional
+infix_mark p.OrOr = i.Binary b.LogicalOr
+infix_mark p.AndAnd = i.Binary b.LogicalAnd
 infix_mark p.Bar = i.Binary b.Or
 infix_mark p.Caret = i.Binary b.Xor
 infix_mark p.Ampersand = i.Binary b.And
@@ -73,7 +73,7 @@ prefix_mark p.LeftParen = f.Bracket
 prefix_mark p.Increment = f.Step u.Increment
 prefix_mark p.Decrement = f.Step u.Decrement
 prefix_mark p.Ampersand = f.Unary u.Address
-prefix_mark p.Star = f.Unary u.Target
+prefix_mark p.Star = f.Unary u.Dereference
 prefix_mark p.Plus = f.Unary u.Plus
 prefix_mark p.Minus = f.Unary u.Minus
 prefix_mark p.Tilde = f.Unary u.Invert
@@ -128,8 +128,8 @@ opening_of _ = o.Other
 
 -- the level of an operator between two operands, from 6 to 15 (C99 6.5.5 to 6.5.14)
 abbrev pub level_of : BinaryOp → ℕ
-level_of b.Either = 6
-level_of b.Both = 7
+level_of b.LogicalOr = 6
+level_of b.LogicalAnd = 7
 level_of b.Or = 8
 level_of b.Xor = 9
 level_of b.And = 10
@@ -153,7 +153,7 @@ level_of b.Remainder = 15
 abbrev pub binds : Infix → ℕ
 binds i.Comma = 1
 binds (i.Assign op) = 3
-binds i.Choose = 5
+binds i.Conditional = 5
 binds (i.Binary op) = level_of op
 binds i.Index = 18
 binds i.Field = 18
@@ -165,13 +165,13 @@ binds i.Nothing = 0
 -- the level that an operator demands of its left operand: a unary expression before an assignment
 abbrev pub demands : Infix → ℕ
 demands (i.Assign op) = 17
-demands i.Choose = 6
+demands i.Conditional = 6
 demands i = binds i
 
 -- the level of the expression that an operator makes
 abbrev pub makes : Infix → ℕ
 makes (i.Assign op) = 2
-makes i.Choose = 4
+makes i.Conditional = 4
 makes i = binds i
 
 -- whether an expression begins with such a token, which is the name of a type or not

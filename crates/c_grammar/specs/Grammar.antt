@@ -27,7 +27,7 @@ use Rattle.c_grammar.specs.declared.shapes.Naming.TheVariants as nm
 use Rattle.c_grammar.specs.Classes.{infix_of, prefix_of, specifier_of, level_of}
 use Rattle.c_grammar.specs.WordSets.{no_words, with_word, basic_of}
 use Rattle.c_grammar.specs.Tokens.{Scope, spelling, is_type, place}
-use Rattle.c_grammar.specs.Types.{takes_name, may_be_nameless, nameless, with_shape, shaped, parameter_of, without_void, comma_of}
+use Rattle.c_grammar.specs.Types.{takes_name, may_be_nameless, nameless, with_shape, with_shapes, parameter_of, without_void, comma_of}
 
 -- any number of `const`
 pub data AreConsts : List Token → Type 0 where
@@ -67,7 +67,7 @@ mutual
         → IsExpr s 18 a x → l.kind ≡ k.Mark p.LeftBracket → IsWhole s b z → r.kind ≡ k.Mark p.RightBracket → IsExpr s m (a ++ (l ∷ b ++ r ∷ [])) (e.Index (place a) x z)
     field : {m : ℕ} (a : List Token) (t n : Token) (x : Expr) → m ≤ 18 → IsExpr s 18 a x → t.kind ≡ k.Mark p.Dot → n.kind ≡ k.Name → IsExpr s m (a ++ t ∷ n ∷ []) (e.Field (place a) x (spelling s n))
     arrow : {m : ℕ} (a : List Token) (t n : Token) (x : Expr) → m ≤ 18 → IsExpr s 18 a x → t.kind ≡ k.Mark p.Arrow → n.kind ≡ k.Name → IsExpr s m (a ++ t ∷ n ∷ []) (e.Arrow (place a) x (spelling s n))
-    after : {m : ℕ} (a : List Token) (t : Token) (op : StepOp) (x : Expr) → m ≤ 18 → IsExpr s 18 a x → infix_of t.kind ≡ i.Step op → IsExpr s m (a ++ t ∷ []) (e.After (place a) op x)
+    after : {m : ℕ} (a : List Token) (t : Token) (op : StepOp) (x : Expr) → m ≤ 18 → IsExpr s 18 a x → infix_of t.kind ≡ i.Step op → IsExpr s m (a ++ t ∷ []) (e.Postfix (place a) op x)
     step : {m : ℕ} (t : Token) (a : List Token) (op : UnaryOp) (x : Expr) → m ≤ 17 → prefix_of t.kind ≡ f.Step op → IsExpr s 17 a x → IsExpr s m (t ∷ a) (e.Unary t.at op x)
     unary : {m : ℕ} (t : Token) (a : List Token) (op : UnaryOp) (x : Expr) → m ≤ 17 → prefix_of t.kind ≡ f.Unary op → IsExpr s 16 a x → IsExpr s m (t ∷ a) (e.Unary t.at op x)
     size_of : {m : ℕ} (t : Token) (a : List Token) (x : Expr) → m ≤ 17 → t.kind ≡ k.Word w.Sizeof → IsExpr s 17 a x → IsExpr s m (t ∷ a) (e.SizeOfValue t.at x)
@@ -78,7 +78,7 @@ mutual
     binary : {m : ℕ} (a : List Token) (t : Token) (b : List Token) (op : BinaryOp) (x z : Expr) → m ≤ level_of op → infix_of t.kind ≡ i.Binary op
         → IsExpr s (level_of op) a x → IsExpr s (suc (level_of op)) b z → IsExpr s m (a ++ t ∷ b) (e.Binary (place a) op x z)
     choose : {m : ℕ} (a : List Token) (t : Token) (b : List Token) (r : Token) (d : List Token) (x v z : Expr) → m ≤ 4
-        → IsExpr s 6 a x → t.kind ≡ k.Mark p.Question → IsWhole s b v → r.kind ≡ k.Mark p.Colon → IsExpr s 4 d z → IsExpr s m (a ++ (t ∷ b ++ r ∷ d)) (e.Choose (place a) x v z)
+        → IsExpr s 6 a x → t.kind ≡ k.Mark p.Question → IsWhole s b v → r.kind ≡ k.Mark p.Colon → IsExpr s 4 d z → IsExpr s m (a ++ (t ∷ b ++ r ∷ d)) (e.Conditional (place a) x v z)
     assign : {m : ℕ} (a : List Token) (t : Token) (b : List Token) (op : AssignOp) (x z : Expr) → m ≤ 2
         → IsExpr s 17 a x → infix_of t.kind ≡ i.Assign op → IsExpr s 2 b z → IsExpr s m (a ++ t ∷ b) (e.Assign (place a) op x z)
 
@@ -96,7 +96,7 @@ mutual
     some : (a : List Token) (xs : List Expr) → AreListed s a xs → AreArguments s a xs
 
   pub data IsTypeName (s : Scope) : List Token → TypeName → Type 0 where
-    type_name : (a b : List Token) (ty : TypeNode) (d : Declarator) → IsPlain s a ty → IsDeclarator s nm.Refused 0 b d → IsTypeName s (a ++ b) (record { at = place a; ty = shaped d.shapes ty })
+    type_name : (a b : List Token) (ty : TypeNode) (d : Declarator) → IsPlain s a ty → IsDeclarator s nm.Refused 0 b d → IsTypeName s (a ++ b) (record { at = place a; ty = with_shapes d.shapes ty })
 
   -- IsDeclarator s naming m ts d: at m = 1 the declarator begins with no star
   pub data IsDeclarator (s : Scope) : Naming → ℕ → List Token → Declarator → Type 0 where

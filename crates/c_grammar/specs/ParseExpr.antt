@@ -22,7 +22,7 @@ use Rattle.c_grammar.specs.declared.shapes.Naming.TheVariants as nm
 use Rattle.c_grammar.specs.Classes.{infix_of, prefix_of, specifier_of, level_of, binds, demands, makes}
 use Rattle.c_grammar.specs.WordSets.{no_words, with_word, basic_of}
 use Rattle.c_grammar.specs.Tokens.{Scope, place, is_mark, is_name, is_text, kind_at, spelling_at, behind, is_type_at, begins_type}
-use Rattle.c_grammar.specs.Types.{takes_name, may_be_nameless, nameless, with_shape, shaped, parameter_of, without_void, comma_of}
+use Rattle.c_grammar.specs.Types.{takes_name, may_be_nameless, nameless, with_shape, with_shapes, parameter_of, without_void, comma_of}
 use Rattle.c_grammar.specs.Parser.{Parser, and_then, ◌>>=◌, pure, expect, consts}
 
 -- ---- specifiers without braces
@@ -42,12 +42,12 @@ unfoldable pub named_type : Scope → Parser TypeNode
 named_type s ts = if is_type_at s ts then and_then (consts (length (behind ts)) (behind ts)) (λ _. pure (y.Named (spelling_at s ts))) else Err ts
 
 -- a tag behind its word
-abbrev pub tagged : Specifier → ℕ → List ℕ → TypeNode
-tagged c.Struct at name = y.Struct at (Some name) None
-tagged _ at name = y.Enum at (Some name) None
+abbrev pub tag_type : Specifier → ℕ → List ℕ → TypeNode
+tag_type c.Struct at name = y.Struct at (Some name) None
+tag_type _ at name = y.Enum at (Some name) None
 
 unfoldable pub tag : Scope → Specifier → Parser TypeNode
-tag s word ts = if is_name (kind_at ts) then and_then (consts (length (behind ts)) (behind ts)) (λ _. pure (tagged word (place ts) (spelling_at s ts))) else Err ts
+tag s word ts = if is_name (kind_at ts) then and_then (consts (length (behind ts)) (behind ts)) (λ _. pure (tag_type word (place ts) (spelling_at s ts))) else Err ts
 
 -- The words of a type, or what stands in their place: `on` reads it behind `struct` or `enum`.
 module _ (s : Scope) (on : Specifier → ℕ → Parser TypeNode) where
@@ -86,7 +86,7 @@ module _ (s : Scope) (expr : ℕ → Parser Expr) (declarator : Naming → Parse
   whole ts = and_then (listed_from (expr 2) (length ts) [] ts) (λ xs. pure (comma_of (place ts) xs))
 
   unfoldable pub type_name : Parser TypeName
-  type_name ts = and_then (plain s ts) (λ ty. declarator nm.Refused >>= λ d. pure (record { at = place ts; ty = shaped d.shapes ty }))
+  type_name ts = and_then (plain s ts) (λ ty. declarator nm.Refused >>= λ d. pure (record { at = place ts; ty = with_shapes d.shapes ty }))
 
   unfoldable pub parameter : Parser Parameter
   parameter ts = and_then (plain s ts) (λ ty. declarator nm.Optional >>= λ d. pure (parameter_of (place ts) ty d))
@@ -113,8 +113,8 @@ module _ (s : Scope) (expr : ℕ → Parser Expr) (declarator : Naming → Parse
   brackets_behind ts = and_then (whole ts) (λ x. expect p.RightParen >>= λ _. pure (x, 19))
 
   -- a cast stands where one is wanted, and not where a unary expression is
-  abbrev pub bracketed : ℕ → ℕ → Parser (Expr × ℕ)
-  bracketed least at ts = if begins_type s ts then (if nat_lt least 17 then cast_behind at ts else Err ts) else brackets_behind ts
+  abbrev pub bracket_operand : ℕ → ℕ → Parser (Expr × ℕ)
+  bracket_operand least at ts = if begins_type s ts then (if nat_lt least 17 then cast_behind at ts else Err ts) else brackets_behind ts
 
   -- behind `sizeof`
   unfoldable pub size_of_type : ℕ → Parser (Expr × ℕ)
@@ -131,7 +131,7 @@ module _ (s : Scope) (expr : ℕ → Parser Expr) (declarator : Naming → Parse
   operand_by least f.Number ts = Ok ((e.Number (place ts) (spelling_at s ts), 19), behind ts)
   operand_by least f.Character ts = Ok ((e.Character (place ts) (spelling_at s ts), 19), behind ts)
   operand_by least f.Text ts = and_then (texts_from s (length ts) [] ts) (λ xs. pure (e.Text (place ts) xs, 19))
-  operand_by least f.Bracket ts = bracketed least (place ts) (behind ts)
+  operand_by least f.Bracket ts = bracket_operand least (place ts) (behind ts)
   operand_by least (f.Step op) ts = and_then (expr 17 (behind ts)) (λ x. pure (e.Unary (place ts) op x, 17))
   operand_by least (f.Unary op) ts = and_then (expr 16 (behind ts)) (λ x. pure (e.Unary (place ts) op x, 17))
   operand_by least f.SizeOf ts = size_of (place ts) (behind ts)
@@ -150,9 +150,9 @@ module _ (s : Scope) (expr : ℕ → Parser Expr) (declarator : Naming → Parse
   step_by i.Index at left ts = and_then (whole ts) (λ z. expect p.RightBracket >>= λ _. pure (e.Index at left z))
   step_by i.Field at left ts = member (e.Field at left) ts
   step_by i.Arrow at left ts = member (e.Arrow at left) ts
-  step_by (i.Step op) at left ts = Ok (e.After at op left, ts)
+  step_by (i.Step op) at left ts = Ok (e.Postfix at op left, ts)
   step_by (i.Binary op) at left ts = and_then (expr (suc (level_of op)) ts) (λ z. pure (e.Binary at op left z))
-  step_by i.Choose at left ts = and_then (whole ts) (λ v. expect p.Colon >>= λ _. expr 4 >>= λ z. pure (e.Choose at left v z))
+  step_by i.Conditional at left ts = and_then (whole ts) (λ v. expect p.Colon >>= λ _. expr 4 >>= λ z. pure (e.Conditional at left v z))
   step_by (i.Assign op) at left ts = and_then (expr 2 ts) (λ z. pure (e.Assign at op left z))
   step_by _ at left ts = Err ts
 
@@ -185,12 +185,12 @@ module _ (s : Scope) (expr : ℕ → Parser Expr) (declarator : Naming → Parse
   core_named naming ts = if takes_name naming (is_type_at s ts) then Ok (record { name = Some (record { at = place ts; name = spelling_at s ts }); shapes = [] }, behind ts) else no_name naming ts
 
   -- behind a star
-  unfoldable pub starred : Naming → Parser Declarator
-  starred naming ts = and_then (consts (length ts) ts) (λ _. declarator naming >>= λ d. pure (with_shape d h.Pointer))
+  unfoldable pub pointer_declarator : Naming → Parser Declarator
+  pointer_declarator naming ts = and_then (consts (length ts) ts) (λ _. declarator naming >>= λ d. pure (with_shape d h.Pointer))
 
   -- behind the bracket and the star of a declarator in brackets
   unfoldable pub group_behind : Naming → Parser Declarator
-  group_behind naming ts = and_then (starred naming ts) (λ d. expect p.RightParen >>= λ _. pure d)
+  group_behind naming ts = and_then (pointer_declarator naming ts) (λ d. expect p.RightParen >>= λ _. pure d)
 
   -- at a bracket: one of a declarator, or of parameters, which follow a missing name
   abbrev pub core_bracket : Naming → Parser Declarator
@@ -203,7 +203,7 @@ module _ (s : Scope) (expr : ℕ → Parser Expr) (declarator : Naming → Parse
       else no_name naming ts
 
   abbrev pub shaping : Naming → Parser Declarator
-  shaping naming ts = if is_mark p.Star (kind_at ts) then starred naming (behind ts)
+  shaping naming ts = if is_mark p.Star (kind_at ts) then pointer_declarator naming (behind ts)
       else and_then (core naming ts) (λ d r. suffixes (length r) d r)
 
 -- The number bounds how deep the functions go: as many as there are tokens are enough.

@@ -13,13 +13,13 @@ use Rattle.c_grammar.specs.declared.shapes.Naming.{Naming}
 use Rattle.c_grammar.specs.declared.shapes.Naming.TheVariants as nm
 use Rattle.c_grammar.specs.WordSets.{no_words}
 use Rattle.c_grammar.specs.Tokens.{Scope, place, is_mark, is_name, kind_at, spelling_at, behind, is_type_at}
-use Rattle.c_grammar.specs.Types.{declared, bare}
+use Rattle.c_grammar.specs.Types.{declaration_of, bare}
 use Rattle.c_grammar.specs.Parser.{Parser, and_then, ◌>>=◌, pure, expect, consts}
-use Rattle.c_grammar.specs.ParseExpr.{specifier_from, tagged, expr, declarator}
+use Rattle.c_grammar.specs.ParseExpr.{specifier_from, tag_type, expr, declarator}
 
 -- a declarator that has a name
 abbrev pub named_by : TypeNode → Option Named → List Shape → Parser Declaration
-named_by ty (Some u) shapes ts = Ok (declared ty u shapes, ts)
+named_by ty (Some u) shapes ts = Ok (declaration_of ty u shapes, ts)
 named_by ty None shapes ts = Err ts
 
 unfoldable pub declaration : Scope → ℕ → Naming → TypeNode → Parser Declaration
@@ -33,12 +33,12 @@ braced_from item (suc j) found ts = and_then (item ts) (λ x r.
     else Ok (found ++ x ∷ [], r))
 
 module _ (s : Scope) (n : ℕ) where
-  abbrev pub valued : ℕ → List ℕ → Parser Constant
-  valued at name ts = if is_mark p.Assign (kind_at ts) then and_then (expr s n 4 (behind ts)) (λ x. pure (record { at = at; name = name; value = Some x }))
+  abbrev pub constant_value : ℕ → List ℕ → Parser Constant
+  constant_value at name ts = if is_mark p.Assign (kind_at ts) then and_then (expr s n 4 (behind ts)) (λ x. pure (record { at = at; name = name; value = Some x }))
       else Ok (record { at = at; name = name; value = None }, ts)
 
   unfoldable pub constant : Parser Constant
-  constant ts = if is_name (kind_at ts) then (if is_type_at s ts then Err ts else valued (place ts) (spelling_at s ts) (behind ts)) else Err ts
+  constant ts = if is_name (kind_at ts) then (if is_type_at s ts then Err ts else constant_value (place ts) (spelling_at s ts) (behind ts)) else Err ts
 
   -- the declarators of members
   unfoldable pub declared_from : ℕ → TypeNode → List Declaration → Parser (List Declaration)
@@ -66,7 +66,7 @@ module _ (s : Scope) (n : ℕ) where
 
     -- behind a tag
     abbrev pub behind_tag : Specifier → ℕ → List ℕ → Parser TypeNode
-    behind_tag word at name ts = if is_mark p.LeftBrace (kind_at ts) then braces word at (Some name) ts else and_then (consts (length ts) ts) (λ _. pure (tagged word at name))
+    behind_tag word at name ts = if is_mark p.LeftBrace (kind_at ts) then braces word at (Some name) ts else and_then (consts (length ts) ts) (λ _. pure (tag_type word at name))
 
     -- behind `struct` or `enum`
     unfoldable pub tag_or_body : Specifier → ℕ → Parser TypeNode

@@ -11,7 +11,7 @@ use Rattle.c_tree.specs.declared.declarations.Init as i
 use Rattle.c_tree.specs.declared.declarations.FunctionEnd.TheVariants as f
 use Rattle.c_tree.specs.declared.declarations.External.{External}
 use Rattle.c_tree.specs.declared.declarations.External.TheVariants as x
-use Rattle.c_tree.specs.declared.declarations.Unit.{Unit as Tree}
+use Rattle.c_tree.specs.declared.declarations.TranslationUnit.{TranslationUnit}
 use Rattle.c_grammar.specs.declared.classes.Opening.{Opening}
 use Rattle.c_grammar.specs.declared.classes.Opening.TheVariants as o
 use Rattle.c_grammar.specs.declared.shapes.Shape.{Shape}
@@ -20,9 +20,9 @@ use Rattle.c_grammar.specs.declared.shapes.Declarator.{Declarator}
 use Rattle.c_grammar.specs.declared.shapes.Naming.TheVariants as nm
 use Rattle.c_grammar.specs.Classes.{opening_of}
 use Rattle.c_grammar.specs.Tokens.{Scope, place, is_mark, kind_at, behind}
-use Rattle.c_grammar.specs.Types.{declared, bare}
+use Rattle.c_grammar.specs.Types.{declaration_of, bare}
 use Rattle.c_grammar.specs.Units.{external_by, with_type}
-use Rattle.c_grammar.specs.Parser.{Outcome, Parser, and_then, ◌>>=◌, pure, expect}
+use Rattle.c_grammar.specs.Parser.{ParseOutcome, Parser, and_then, ◌>>=◌, pure, expect}
 use Rattle.c_grammar.specs.ParseExpr.{expr, declarator}
 use Rattle.c_grammar.specs.ParseSpecifiers.{declaration, braced_from, specifier}
 use Rattle.c_grammar.specs.ParseStatements.{items_from, stmt}
@@ -55,8 +55,8 @@ typedefs s n ts = and_then (specifier s n ts) (λ ty r. and_then (typedefs_from 
 module _ (s : Scope) (n : ℕ) (storage : Option Storage) where
   -- behind a declarator
   unfoldable pub object_by : TypeNode → Named → List Shape → Parser External
-  object_by ty u shapes ts = if is_mark p.Assign (kind_at ts) then and_then (init s n (behind ts)) (λ v. pure (external_by shapes (declared ty u shapes) storage (Some v)))
-      else Ok (external_by shapes (declared ty u shapes) storage None, ts)
+  object_by ty u shapes ts = if is_mark p.Assign (kind_at ts) then and_then (init s n (behind ts)) (λ v. pure (external_by shapes (declaration_of ty u shapes) storage (Some v)))
+      else Ok (external_by shapes (declaration_of ty u shapes) storage None, ts)
 
   abbrev pub object_named : TypeNode → Option Named → List Shape → Parser External
   object_named ty (Some u) shapes ts = object_by ty u shapes ts
@@ -77,7 +77,7 @@ module _ (s : Scope) (n : ℕ) (storage : Option Storage) where
   body_behind d ts = and_then (items_from s n (stmt s n) (length ts) [] ts) (λ body. pure (x.Function d storage (f.Body body) ∷ []))
 
   unfoldable pub objects_named : TypeNode → Named → List Shape → Parser (List External)
-  objects_named ty u shapes ts = if is_mark p.LeftBrace (kind_at ts) then body_behind (declared ty u shapes) (behind ts)
+  objects_named ty u shapes ts = if is_mark p.LeftBrace (kind_at ts) then body_behind (declaration_of ty u shapes) (behind ts)
       else and_then (objects_behind ty u shapes ts) (λ vs. expect p.Semicolon >>= λ _. pure vs)
 
   abbrev pub objects_by : TypeNode → Declarator → Option Named → Parser (List External)
@@ -102,7 +102,7 @@ external_at s n o.Other ts = stored s n None ts
 unfoldable pub external : Scope → ℕ → Parser (List External × Scope)
 external s n ts = external_at s n (opening_of (kind_at ts)) ts
 
-abbrev pub externals_behind : Outcome (List External × Scope) → (List External × Scope → List Token → Result (List External) (List Token)) → Result (List External) (List Token)
+abbrev pub externals_behind : ParseOutcome (List External × Scope) → (List External × Scope → List Token → Result (List External) (List Token)) → Result (List External) (List Token)
 externals_behind (Ok q) f = f q.0 q.1
 externals_behind (Err r) f = Err r
 
@@ -112,9 +112,9 @@ externals_from (suc j) s found [] = Ok found
 externals_from (suc j) s found (t ∷ ts) = externals_behind (external s (length (t ∷ ts)) (t ∷ ts)) (λ q r. externals_from j q.1 (found ++ q.0) r)
 
 -- The unit that the tokens of the text spell, or the tokens from the refused one on.
-abbrev pub unit_of : ℕ → Result (List External) (List Token) → Result Tree (List Token)
+abbrev pub unit_of : ℕ → Result (List External) (List Token) → Result TranslationUnit (List Token)
 unit_of length (Ok vs) = Ok (record { externals = vs; length = length })
 unit_of length (Err r) = Err r
 
-abbrev pub unit : List ℕ → List Token → Result Tree (List Token)
+abbrev pub unit : List ℕ → List Token → Result TranslationUnit (List Token)
 unit text tokens = unit_of (length text) (externals_from (length tokens) (record { text = text; types = [] }) [] tokens)

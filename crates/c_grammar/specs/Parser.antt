@@ -7,17 +7,17 @@ use Rattle.c_lexer.specs.declared.token.Punct.{Punct}
 use Rattle.c_lexer.specs.declared.token.Token.{Token}
 use Rattle.c_grammar.specs.Tokens.{is_mark, is_word, kind_at, behind}
 
-abbrev pub Outcome : Type 0 → Type 0
-Outcome A = Result (A × List Token) (List Token)
+abbrev pub ParseOutcome : Type 0 → Type 0
+ParseOutcome A = Result (A × List Token) (List Token)
 
 -- these tokens are the last of those
 abbrev pub IsEnd : List Token → List Token → Type 0
 IsEnd rest ts = (front : List Token) × (ts ≡ front ++ rest)
 
 abbrev pub Parser : Type 0 → Type 0
-Parser A = List Token → Outcome A
+Parser A = List Token → ParseOutcome A
 
-abbrev pub and_then : {A B : Type 0} → Outcome A → (A → Parser B) → Outcome B
+abbrev pub and_then : {A B : Type 0} → ParseOutcome A → (A → Parser B) → ParseOutcome B
 and_then (Ok p) f = f p.0 p.1
 and_then (Err ts) f = Err ts
 

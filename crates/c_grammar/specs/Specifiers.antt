@@ -14,7 +14,7 @@ use Rattle.c_grammar.specs.declared.shapes.Named.{Named}
 use Rattle.c_grammar.specs.declared.shapes.Naming.{Naming}
 use Rattle.c_grammar.specs.declared.shapes.Naming.TheVariants as nm
 use Rattle.c_grammar.specs.Tokens.{Scope, spelling, is_type}
-use Rattle.c_grammar.specs.Types.{declared, bare}
+use Rattle.c_grammar.specs.Types.{declaration_of, bare}
 use Rattle.c_grammar.specs.Grammar.{AreConsts, IsPlain, IsExpr, IsDeclarator}
 
 -- the tag behind its word, if there is one: its place and name
@@ -24,7 +24,7 @@ pub data IsTag (s : Scope) (t : Token) : List Token → ℕ → Option (List ℕ
 
 -- a declarator with a name, behind the type
 pub data IsDeclared (s : Scope) (naming : Naming) (ty : TypeNode) : List Token → Declaration → Type 0 where
-  of : (a : List Token) (u : Named) (shapes : List Shape) → IsDeclarator s naming 0 a (record { name = Some u; shapes = shapes }) → IsDeclared s naming ty a (declared ty u shapes)
+  of : (a : List Token) (u : Named) (shapes : List Shape) → IsDeclarator s naming 0 a (record { name = Some u; shapes = shapes }) → IsDeclared s naming ty a (declaration_of ty u shapes)
 
 -- the declarators of members, with commas between: a body of the type stands under the first alone
 pub data AreDeclared (s : Scope) : TypeNode → List Token → List Declaration → Type 0 where
@@ -35,7 +35,7 @@ pub data AreDeclared (s : Scope) : TypeNode → List Token → List Declaration 
 -- an enumeration constant
 pub data IsConstant (s : Scope) : List Token → Constant → Type 0 where
   plain : (t : Token) → t.kind ≡ k.Name → is_type s t ≡ false → IsConstant s (t ∷ []) (record { at = t.at; name = spelling s t; value = None })
-  valued : (t u : Token) (a : List Token) (x : Expr) → t.kind ≡ k.Name → is_type s t ≡ false → u.kind ≡ k.Mark p.Assign → IsExpr s 4 a x → IsConstant s (t ∷ u ∷ a) (record { at = t.at; name = spelling s t; value = Some x })
+  constant_value : (t u : Token) (a : List Token) (x : Expr) → t.kind ≡ k.Name → is_type s t ≡ false → u.kind ≡ k.Mark p.Assign → IsExpr s 4 a x → IsConstant s (t ∷ u ∷ a) (record { at = t.at; name = spelling s t; value = Some x })
 
 -- constants with commas between, and perhaps one behind
 pub data AreConstants (s : Scope) : List Token → List Constant → Type 0 where

@@ -34,14 +34,14 @@ may_be_nameless nm.Optional = true
 may_be_nameless nm.Refused = true
 
 -- one shape round a type, and all of them: the first is the nearest to the name (C99 6.7.5)
-abbrev pub wrapped : Shape → TypeNode → TypeNode
-wrapped h.Pointer ty = y.Pointer ty
-wrapped (h.Array length) ty = y.Array ty length
-wrapped (h.Takes parameters) ty = y.Takes ty parameters
+abbrev pub with_one_shape : Shape → TypeNode → TypeNode
+with_one_shape h.Pointer ty = y.Pointer ty
+with_one_shape (h.Array length) ty = y.Array ty length
+with_one_shape (h.Takes parameters) ty = y.Takes ty parameters
 
-abbrev pub shaped : List Shape → TypeNode → TypeNode
-shaped [] ty = ty
-shaped (s ∷ ss) ty = wrapped s (shaped ss ty)
+abbrev pub with_shapes : List Shape → TypeNode → TypeNode
+with_shapes [] ty = ty
+with_shapes (s ∷ ss) ty = with_one_shape s (with_shapes ss ty)
 
 -- the type of the further declarators of a declaration: the body stands under the first alone
 abbrev pub bare : TypeNode → TypeNode
@@ -49,8 +49,8 @@ bare (y.Enum' at tag constants) = y.Enum at tag None
 bare (y.Struct' at tag members) = y.Struct at tag None
 bare ty = ty
 
-abbrev pub declared : TypeNode → Named → List Shape → Declaration
-declared ty n shapes = record { at = n.at; name = n.name; ty = shaped shapes ty }
+abbrev pub declaration_of : TypeNode → Named → List Shape → Declaration
+declaration_of ty n shapes = record { at = n.at; name = n.name; ty = with_shapes shapes ty }
 
 -- a parameter at its name, or at the place of its declaration
 abbrev pub parameter_by : ℕ → TypeNode → Option Named → Parameter
@@ -58,7 +58,7 @@ parameter_by at ty (Some n) = record { at = n.at; name = Some n.name; ty = ty }
 parameter_by at ty None = record { at = at; name = None; ty = ty }
 
 abbrev pub parameter_of : ℕ → TypeNode → Declarator → Parameter
-parameter_of at ty d = parameter_by at (shaped d.shapes ty) d.name
+parameter_of at ty d = parameter_by at (with_shapes d.shapes ty) d.name
 
 -- the lone parameter `void`, by its word and without a name, is none (C99 6.7.5.3)
 abbrev pub lone_void : Option (List ℕ) → TypeNode → List Parameter → List Parameter

@@ -16,13 +16,13 @@ use Rattle.c_tree.specs.declared.declarations.FunctionEnd.{FunctionEnd}
 use Rattle.c_tree.specs.declared.declarations.FunctionEnd.TheVariants as f
 use Rattle.c_tree.specs.declared.declarations.External.{External}
 use Rattle.c_tree.specs.declared.declarations.External.TheVariants as x
-use Rattle.c_tree.specs.declared.declarations.Unit.{Unit as Tree}
+use Rattle.c_tree.specs.declared.declarations.TranslationUnit.{TranslationUnit}
 use Rattle.c_grammar.specs.declared.shapes.Shape.{Shape}
 use Rattle.c_grammar.specs.declared.shapes.Shape.TheVariants as h
 use Rattle.c_grammar.specs.declared.shapes.Named.{Named}
 use Rattle.c_grammar.specs.declared.shapes.Naming.TheVariants as nm
 use Rattle.c_grammar.specs.Tokens.{Scope}
-use Rattle.c_grammar.specs.Types.{declared, bare}
+use Rattle.c_grammar.specs.Types.{declaration_of, bare}
 use Rattle.c_grammar.specs.Grammar.{IsExpr, IsDeclarator}
 use Rattle.c_grammar.specs.Specifiers.{IsDeclared, IsSpecifier}
 use Rattle.c_grammar.specs.Statements.{AreItems}
@@ -56,9 +56,9 @@ external_by _ d storage init = x.Object d storage init
 
 -- a declarator at file scope, and its initialiser
 pub data IsObject (s : Scope) (storage : Option Storage) (ty : TypeNode) : List Token → External → Type 0 where
-  plain : (a : List Token) (u : Named) (shapes : List Shape) → IsDeclarator s nm.Required 0 a (record { name = Some u; shapes = shapes }) → IsObject s storage ty a (external_by shapes (declared ty u shapes) storage None)
+  plain : (a : List Token) (u : Named) (shapes : List Shape) → IsDeclarator s nm.Required 0 a (record { name = Some u; shapes = shapes }) → IsObject s storage ty a (external_by shapes (declaration_of ty u shapes) storage None)
   given : (a : List Token) (t : Token) (b : List Token) (u : Named) (shapes : List Shape) (v : Init) → IsDeclarator s nm.Required 0 a (record { name = Some u; shapes = shapes }) → t.kind ≡ k.Mark p.Assign → IsInit s b v
-      → IsObject s storage ty (a ++ t ∷ b) (external_by shapes (declared ty u shapes) storage (Some v))
+      → IsObject s storage ty (a ++ t ∷ b) (external_by shapes (declaration_of ty u shapes) storage (Some v))
 
 pub data AreObjects (s : Scope) (storage : Option Storage) : TypeNode → List Token → List External → Type 0 where
   one : {ty : TypeNode} (a : List Token) (v : External) → IsObject s storage ty a v → AreObjects s storage ty a (v ∷ [])
@@ -90,6 +90,6 @@ pub data AreExternals : Scope → List Token → List External → Type 0 where
   more : {s : Scope} (a b : List Token) (vs us : List External) (z : Scope) → IsExternal s a vs z → AreExternals z b us → AreExternals s (a ++ b) (vs ++ us)
 
 -- The tokens of the text spell the unit: no name is one of a type at the start.
-pub record Reads (text : List ℕ) (tokens : List Token) (unit : Tree) : Type 0 where
+pub record Reads (text : List ℕ) (tokens : List Token) (unit : TranslationUnit) : Type 0 where
   pub externals : AreExternals (record { text = text; types = [] }) tokens unit.externals
   pub length : unit.length ≡ length text

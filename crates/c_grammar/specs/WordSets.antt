@@ -4,8 +4,8 @@ use Rattle.c_tree.specs.declared.types.BasicType.{BasicType}
 use Rattle.c_tree.specs.declared.types.BasicType.TheVariants as y
 use Rattle.c_grammar.specs.declared.classes.TypeWord.{TypeWord}
 use Rattle.c_grammar.specs.declared.classes.TypeWord.TheVariants as t
-use Rattle.c_grammar.specs.declared.word_set.Base.{Base}
-use Rattle.c_grammar.specs.declared.word_set.Base.TheVariants as b
+use Rattle.c_grammar.specs.declared.word_set.BaseWord.{BaseWord}
+use Rattle.c_grammar.specs.declared.word_set.BaseWord.TheVariants as b
 use Rattle.c_grammar.specs.declared.word_set.Sign.{Sign}
 use Rattle.c_grammar.specs.declared.word_set.Sign.TheVariants as s
 use Rattle.c_grammar.specs.declared.word_set.WordSet.{WordSet}
@@ -18,23 +18,23 @@ is_missing None = true
 is_missing (Some a) = false
 
 -- whether a base stands beside these others: `void` beside none, `char` beside a sign
-abbrev pub base_fits : Base → WordSet → Bool
+abbrev pub base_fits : BaseWord → WordSet → Bool
 base_fits b.Void x = is_missing x.sign && not x.int
 base_fits b.Char x = not x.int
 base_fits b.Short x = true
 base_fits b.Long x = true
 
-abbrev pub takes_int : Option Base → Bool
+abbrev pub takes_int : Option BaseWord → Bool
 takes_int (Some b.Void) = false
 takes_int (Some b.Char) = false
 takes_int _ = true
 
-abbrev pub takes_sign : Option Base → Bool
+abbrev pub takes_sign : Option BaseWord → Bool
 takes_sign (Some b.Void) = false
 takes_sign _ = true
 
 -- a word more: each stands once
-abbrev pub with_base : WordSet → Base → Option WordSet
+abbrev pub with_base : WordSet → BaseWord → Option WordSet
 with_base x base = if base_fits base x && is_missing x.base then Some (record x { base = Some base }) else None
 
 abbrev pub with_int : WordSet → Option WordSet
@@ -52,7 +52,7 @@ with_word x t.Int = with_int x
 with_word x t.Signed = with_sign x s.Signed
 with_word x t.Unsigned = with_sign x s.Unsigned
 
-abbrev pub basic_by : Option Base → Option Sign → Bool → Option BasicType
+abbrev pub basic_by : Option BaseWord → Option Sign → Bool → Option BasicType
 basic_by (Some b.Void) sign int = Some y.Void
 basic_by (Some b.Char) None int = Some y.Char
 basic_by (Some b.Char) (Some s.Signed) int = Some y.SignedChar

@@ -12,7 +12,7 @@ pub use classes::{
     specifier_of,
 };
 pub use shapes::{Declarator, Named, Naming, Shape};
-pub use word_set::{Base, Sign, WordSet};
+pub use word_set::{BaseWord, Sign, WordSet};
 
 #[cfg(test)]
 mod tests;

@@ -8,7 +8,7 @@ use c_tree::BasicType;
 
 /// The word of a set that is neither a sign nor `int`.
 #[derive(Clone, Copy, Debug, PartialEq, Eq)]
-pub enum Base {
+pub enum BaseWord {
     Void,
     Char,
     Short,
@@ -26,7 +26,7 @@ pub enum Sign {
 /// its words, so each set here but the empty one spells a type (C99 6.7.2).
 #[derive(Clone, Copy, Debug, PartialEq, Eq)]
 pub struct WordSet {
-    pub base: Option<Base>,
+    pub base: Option<BaseWord>,
     pub sign: Option<Sign>,
     pub int: bool,
 }
@@ -48,24 +48,24 @@ impl WordSet {
         ensures { result ≡ sets.with_word self word }
     {
         match word {
-            TypeWord::Void => self.with_base(Base::Void),
-            TypeWord::Char => self.with_base(Base::Char),
-            TypeWord::Short => self.with_base(Base::Short),
-            TypeWord::Long => self.with_base(Base::Long),
+            TypeWord::Void => self.with_base(BaseWord::Void),
+            TypeWord::Char => self.with_base(BaseWord::Char),
+            TypeWord::Short => self.with_base(BaseWord::Short),
+            TypeWord::Long => self.with_base(BaseWord::Long),
             TypeWord::Int => self.with_int(),
             TypeWord::Signed => self.with_sign(Sign::Signed),
             TypeWord::Unsigned => self.with_sign(Sign::Unsigned),
         }
     }
 
-    fn with_base(self, base: Base) -> Option<WordSet>
+    fn with_base(self, base: BaseWord) -> Option<WordSet>
         ensures { result ≡ sets.with_base self base }
     {
         let fits = match base {
-            Base::Void => self.sign.is_none() && !self.int,
-            Base::Char => !self.int,
-            Base::Short => true,
-            Base::Long => true,
+            BaseWord::Void => self.sign.is_none() && !self.int,
+            BaseWord::Char => !self.int,
+            BaseWord::Short => true,
+            BaseWord::Long => true,
         };
         if fits && self.base.is_none() {
             Some(WordSet {
@@ -81,8 +81,8 @@ impl WordSet {
         ensures { result ≡ sets.with_int self }
     {
         let fits = match self.base {
-            Some(Base::Void) => false,
-            Some(Base::Char) => false,
+            Some(BaseWord::Void) => false,
+            Some(BaseWord::Char) => false,
             _ => true,
         };
         if fits && !self.int {
@@ -96,7 +96,7 @@ impl WordSet {
         ensures { result ≡ sets.with_sign self sign }
     {
         let fits = match self.base {
-            Some(Base::Void) => false,
+            Some(BaseWord::Void) => false,
             _ => true,
         };
         if fits && self.sign.is_none() {
@@ -114,17 +114,17 @@ impl WordSet {
         ensures { result ≡ sets.basic_of self }
     {
         match self.base {
-            Some(Base::Void) => Some(BasicType::Void),
-            Some(Base::Char) => match self.sign {
+            Some(BaseWord::Void) => Some(BasicType::Void),
+            Some(BaseWord::Char) => match self.sign {
                 None => Some(BasicType::Char),
                 Some(Sign::Signed) => Some(BasicType::SignedChar),
                 Some(Sign::Unsigned) => Some(BasicType::UnsignedChar),
             },
-            Some(Base::Short) => match self.sign {
+            Some(BaseWord::Short) => match self.sign {
                 Some(Sign::Unsigned) => Some(BasicType::UnsignedShort),
                 _ => Some(BasicType::Short),
             },
-            Some(Base::Long) => match self.sign {
+            Some(BaseWord::Long) => match self.sign {
                 Some(Sign::Unsigned) => Some(BasicType::UnsignedLong),
                 _ => Some(BasicType::Long),
             },

@@ -3,7 +3,7 @@ use Rattle.std.proofs.Common.{◌≡◌, ℕ, zero, suc, true, cond, eqb, List, 
 use Rattle.std.specs.Prelude.{decimal}
 use Rattle.std.proofs.lemmas.Bool.{eqb-true, false≢true}
 use Rattle.c_mean.specs.Small.{Expression, Number, Complement, Sum, Difference, Product, IsExpression, IsTerm, IsFactor}
-use Rattle.c_mean.specs.SmallModel.{Making, Outcome, begins, behind, number, product_by, sum_by, products, term, sums, expression, make_number, brackets, factor}
+use Rattle.c_mean.specs.SmallModel.{Making, ScanOutcome, begins, behind, number, product_by, sum_by, products, term, sums, expression, make_number, brackets, factor}
 use Rattle.c_mean.proofs.SmallTools.{no_some, same_some, bind_some, pick}
 use Rattle.c_mean.proofs.SmallNumbers.{number_sound}
 use Rattle.c_mean.proofs.SmallChains.{Takes, Shrinks, chain_sound}
@@ -31,7 +31,7 @@ module _ {V B : Type 0} (making : Making V B) where
   abbrev pub MakesFactor : ℕ → List ℕ → V → Type 0
   MakesFactor d a v = (x : Expression) × IsFactor d a x × (made x ≡ v)
 
-  abbrev pub Sound : (ℕ → List ℕ → V → Type 0) → ℕ → (List ℕ → Outcome V) → Type 0
+  abbrev pub Sound : (ℕ → List ℕ → V → Type 0) → ℕ → (List ℕ → ScanOutcome V) → Type 0
   Sound R d p = (ts : List ℕ) (v : V × List ℕ) → p ts ≡ Some v → Takes ts v.1 (λ a. R d a v.0)
 
   more_product : (d : ℕ) (a : List ℕ) (x : V) (b : ℕ) (f : V → V → V) (c : List ℕ) (y : V) → MakesTerm d a x → product_by making b ≡ Some f → MakesFactor d c y → MakesTerm d (a ++ b ∷ c) (f x y)
@@ -58,7 +58,7 @@ module _ {V B : Type 0} (making : Making V B) where
       ))
       (λ other w. no_some w))
 
-  term_by_sound : (d : ℕ) (f : List ℕ → Outcome V) → Sound MakesFactor d f → Sound MakesTerm d (term making f)
+  term_by_sound : (d : ℕ) (f : List ℕ → ScanOutcome V) → Sound MakesFactor d f → Sound MakesTerm d (term making f)
   unfolding term
   term_by_sound d f sound ts p q =
       let s = bind_some (f ts) (products making f) p q in
@@ -66,7 +66,7 @@ module _ {V B : Type 0} (making : Making V B) where
       let g = chain_sound (product_by making) f (MakesTerm d) (MakesFactor d) (more_product d) sound s.0.0 a.0 s.0.1 p (a.2.0, IsTerm.factor a.0 a.2.0 a.2.1, a.2.2) s.2 in
       (a.0 ++ g.0, a.1 ∙ ap (λ r. a.0 ++ r) g.1 ∙ sym (append_assoc a.0 g.0 p.1), g.2)
 
-  expression_by_sound : (d : ℕ) (f : List ℕ → Outcome V) → Sound MakesFactor d f → Sound MakesExpression d (expression making f)
+  expression_by_sound : (d : ℕ) (f : List ℕ → ScanOutcome V) → Sound MakesFactor d f → Sound MakesExpression d (expression making f)
   unfolding expression
   expression_by_sound d f sound ts p q =
       let s = bind_some (term making f ts) (sums making f) p q in
@@ -80,7 +80,7 @@ module _ {V B : Type 0} (making : Making V B) where
       let g = number_sound ts s.0 s.1 in
       subst (λ (p : V × List ℕ). Takes ts p.1 (λ a. MakesFactor d a p.0)) (same_some s.2) (decimal s.0.0, g.0, (Number s.0.0, IsFactor.number s.0.0 g.1, refl))
 
-  brackets_sound : (d : ℕ) (f : List ℕ → Outcome V) → Sound MakesFactor d f → (ts : List ℕ) (p : V × List ℕ) → brackets making f ts ≡ Some p → Takes (40 ∷ ts) p.1 (λ a. MakesFactor (suc d) a p.0)
+  brackets_sound : (d : ℕ) (f : List ℕ → ScanOutcome V) → Sound MakesFactor d f → (ts : List ℕ) (p : V × List ℕ) → brackets making f ts ≡ Some p → Takes (40 ∷ ts) p.1 (λ a. MakesFactor (suc d) a p.0)
   unfolding brackets
   brackets_sound d f sound ts p q =
       let s = bind_some (expression making f ts) (λ x r. cond (begins 41 r) (Some (x, behind r)) None) p q in

@@ -1,6 +1,6 @@
 -- What an outcome says.
 use Rattle.std.proofs.Common.{◌≡◌, ℕ, Bool, true, false, cond, List, Option, Some, None, refl}
-use Rattle.c_mean.specs.SmallModel.{Outcome, and_then}
+use Rattle.c_mean.specs.SmallModel.{ScanOutcome, and_then}
 
 IsSome : {A : Type 0} → Option A → Type 0
 IsSome (Some x) = Unit {0}
@@ -12,7 +12,7 @@ no_some e = cc
 pub same_some : {A : Type 0} {x y : A} → ◌≡◌ {A = Option A} (Some x) (Some y) → x ≡ y
 same_some e = cc
 
-pub bind_some : {A B : Type 0} (o : Outcome A) (f : A → List ℕ → Outcome B) (z : B × List ℕ) → and_then o f ≡ Some z → (p : A × List ℕ) × (o ≡ Some p) × (f p.0 p.1 ≡ Some z)
+pub bind_some : {A B : Type 0} (o : ScanOutcome A) (f : A → List ℕ → ScanOutcome B) (z : B × List ℕ) → and_then o f ≡ Some z → (p : A × List ℕ) × (o ≡ Some p) × (f p.0 p.1 ≡ Some z)
 bind_some (Some p) f z e = (p, refl, e)
 bind_some None f z e = no_some e
 

@@ -7,7 +7,7 @@ use Rattle.std.proofs.lemmas.Bool.Decides.{Decides-eqb}
 use Rattle.std.proofs.lemmas.Slice.Eq.{starts_is}
 use Rattle.std.proofs.lemmas.List.Prefix.{front_rest}
 use Rattle.c_mean.specs.Small.{Expression, IsExpression, SmallUnit, ArePuts, IsSmall, most_nesting, most_text}
-use Rattle.c_mean.specs.SmallModel.{Making, Outcome, and_then, begins, digit, word, expression, factor, whole_expression, puts_by, puts, is_end, body}
+use Rattle.c_mean.specs.SmallModel.{Making, ScanOutcome, and_then, begins, digit, word, expression, factor, whole_expression, puts_by, puts, is_end, body}
 use Rattle.c_mean.proofs.SmallTools.{no_some, same_some, bind_some, pick}
 use Rattle.c_mean.proofs.SmallSound.{made, expression_sound}
 use Rattle.c_mean.proofs.SmallComplete.{expression_complete}
@@ -51,7 +51,7 @@ module _ {V B : Type 0} (making : Making V B) where
   IsPutsRead : List B → List ℕ → List B × List ℕ → Type 0
   IsPutsRead found ts p = (a : List ℕ) × (xs : List Expression) × (ts ≡ a ++ p.1) × ArePuts a xs × (p.0 ≡ found ++ map whole_of xs)
 
-  no_puts : (found : List B) (ts : List ℕ) (p : List B × List ℕ) → ◌≡◌ {A = Outcome (List B)} (Some (found, ts)) (Some p) → IsPutsRead found ts p
+  no_puts : (found : List B) (ts : List ℕ) (p : List B × List ℕ) → ◌≡◌ {A = ScanOutcome (List B)} (Some (found, ts)) (Some p) → IsPutsRead found ts p
   unfolding IsPutsRead
   no_puts found ts p q = subst (λ p. IsPutsRead found ts p) (same_some q) ([], [], refl, ArePuts.none, sym (append-nil found))
 
@@ -122,7 +122,7 @@ module _ {V B : Type 0} (making : Making V B) where
     ends : (end ≡ []) ⊎ (end ≡ 10 ∷ [])
     gives : p ≡ ((xs, whole_of tree), end)
 
-  close : List B → B → List ℕ → Outcome (List B × B)
+  close : List B → B → List ℕ → ScanOutcome (List B × B)
   close xs x d = and_then (word (codes ";}") d) (λ _ e. cond (is_end e) (Some ((xs, x), e)) None)
 
   close_sound : (xs : List B) (x : B) (d : List ℕ) (p : (List B × B) × List ℕ) → close xs x d ≡ Some p
@@ -193,18 +193,18 @@ module _ {V B : Type 0} (making : Making V B) where
   pub word_shrinks : (w ts : List ℕ) (p : Unit {0} × List ℕ) → word w ts ≡ Some p → length p.1 ≤ length ts
   word_shrinks w ts p q = let e = word_sound w ts p q in omega (arith, ap length e, length-append w p.1)
 
-  word_same : (o : Outcome (Unit {0})) (w ts : List ℕ) (f g : List ℕ → Outcome (List B)) → word w ts ≡ o → ((r : List ℕ) → length r ≤ length ts → f r ≡ g r) → and_then o (λ _ r. f r) ≡ and_then o (λ _ r. g r)
+  word_same : (o : ScanOutcome (Unit {0})) (w ts : List ℕ) (f g : List ℕ → ScanOutcome (List B)) → word w ts ≡ o → ((r : List ℕ) → length r ≤ length ts → f r ≡ g r) → and_then o (λ _ r. f r) ≡ and_then o (λ _ r. g r)
   word_same None w ts f g q e = refl
   word_same (Some p) w ts f g q e = e p.1 (word_shrinks w ts p q)
 
-  put_same : (o : Outcome B) (ts : List ℕ) (found : List B) (f g : List B → List ℕ → Outcome (List B)) → whole_expression making ts ≡ o → ((xs : List B) (r : List ℕ) → length r ≤ length ts → f xs r ≡ g xs r)
+  put_same : (o : ScanOutcome B) (ts : List ℕ) (found : List B) (f g : List B → List ℕ → ScanOutcome (List B)) → whole_expression making ts ≡ o → ((xs : List B) (r : List ℕ) → length r ≤ length ts → f xs r ≡ g xs r)
       → and_then o (λ x r. and_then (word (codes ");") r) (λ _. f (found ++ x ∷ []))) ≡ and_then o (λ x r. and_then (word (codes ");") r) (λ _. g (found ++ x ∷ [])))
   put_same None ts found f g q e = refl
   put_same (Some p) ts found f g q e =
       let le = whole_shrinks ts p q in
       word_same (word (codes ");") p.1) (codes ");") p.1 (f (found ++ p.0 ∷ [])) (g (found ++ p.0 ∷ [])) refl (λ r h. e (found ++ p.0 ∷ []) r (omega arith))
 
-  step_same : (found : List B) (ts : List ℕ) (f g : List B → List ℕ → Outcome (List B)) → ((xs : List B) (r : List ℕ) → length r ≤ length (drop 8 ts) → f xs r ≡ g xs r)
+  step_same : (found : List B) (ts : List ℕ) (f g : List B → List ℕ → ScanOutcome (List B)) → ((xs : List B) (r : List ℕ) → length r ≤ length (drop 8 ts) → f xs r ≡ g xs r)
       → cond (starts_with nat_eq ts (codes "putchar(")) (and_then (whole_expression making (drop 8 ts)) (λ x r. and_then (word (codes ");") r) (λ _. f (found ++ x ∷ [])))) (Some (found, ts))
       ≡ cond (starts_with nat_eq ts (codes "putchar(")) (and_then (whole_expression making (drop 8 ts)) (λ x r. and_then (word (codes ");") r) (λ _. g (found ++ x ∷ [])))) (Some (found, ts))
   step_same found ts f g e = ap (λ o. cond (starts_with nat_eq ts (codes "putchar(")) o (Some (found, ts))) (put_same (whole_expression making (drop 8 ts)) (drop 8 ts) found f g refl e)

@@ -3,7 +3,7 @@ use Rattle.std.proofs.Common.{◌≡◌, ◌≢◌, ℕ, ◌≤◌, ◌<◌, Lis
 use Rattle.c_lexer.specs.declared.token.Token.{Token}
 use Rattle.c_lexer.specs.Pieces.{Lexeme, lexemes}
 use Rattle.c_lexer.proofs.Once.{tokens_once, fault_once, tokens_or_fault}
-use Rattle.c_tree.specs.declared.declarations.Unit.{Unit as Tree}
+use Rattle.c_tree.specs.declared.declarations.TranslationUnit.{TranslationUnit}
 use Rattle.c_grammar.specs.Units.{Reads}
 use Rattle.c_grammar.specs.ParseUnits.{unit}
 use Rattle.c_grammar.proofs.SoundUnits.{one_reading}
@@ -27,20 +27,20 @@ same_tokens text a b is_a is_b = sym (tokens_of text a) ∙ (ap (λ toks. map to
 same_nesting : (text : List ℕ) (n m : ℕ) → HasNesting text n → HasNesting text m → n ≡ m
 same_nesting text n m a b = a.nesting ∙ (ap (λ toks. nesting_of toks.items) (tokens_once text a.tokens b.tokens a.are_tokens b.are_tokens) ∙ sym b.nesting)
 
-pub one_tree : (text : List ℕ) (x y : Tree) → IsRead text x → IsRead text y → x ≡ y
+pub one_tree : (text : List ℕ) (x y : TranslationUnit) → IsRead text x → IsRead text y → x ≡ y
 one_tree text x y a b = one_reading text b.tokens x y (subst (λ ts. Reads text ts x) (same_tokens text a.tokens b.tokens a.are_tokens b.are_tokens) a.reads) b.reads
 
 -- a nesting within the limit is none beyond it
 not_both : (text : List ℕ) (n m : ℕ) → HasNesting text n → n ≤ 256 → HasNesting text m → 256 < m → ⊥
 not_both text n m a within b beyond = let e : n ≡ m = same_nesting text n m a b in omega arith
 
-pub read_or_refused : (text : List ℕ) (x : Tree) (fault : ParseFault) → IsRead text x → IsNotRead text fault → fault ≡ NoMemory
+pub read_or_refused : (text : List ℕ) (x : TranslationUnit) (fault : ParseFault) → IsRead text x → IsNotRead text fault → fault ≡ NoMemory
 read_or_refused text x (Lex at) a f = absurd (tokens_or_fault text _ at a.are_tokens f)
 read_or_refused text x (Nesting counted) a f = absurd (not_both text a.nesting counted a.has_nesting a.within f.0 f.1)
 read_or_refused text x (Syntax at) a f = absurd (f.none x (subst (λ ts. Reads text ts x) (same_tokens text a.tokens f.tokens a.are_tokens f.are_tokens) a.reads))
 read_or_refused text x NoMemory a f = refl
 
-rest_of : Result Tree (List Token) → List Token
+rest_of : Result TranslationUnit (List Token) → List Token
 rest_of (Ok tree) = []
 rest_of (Err rest) = rest
 

@@ -2,7 +2,7 @@
 use Rattle.std.specs.Prelude.{◌≡◌, ℕ, ◌≤◌, ◌<◌, List, [], ◌∷◌, length, Result, Ok, Err}
 use Rattle.c_lexer.specs.declared.token.Token.{Token}
 use Rattle.c_lexer.specs.Pieces.{FaultAt}
-use Rattle.c_tree.specs.declared.declarations.Unit.{Unit as Tree}
+use Rattle.c_tree.specs.declared.declarations.TranslationUnit.{TranslationUnit}
 use Rattle.c_grammar.specs.Units.{Reads}
 use Rattle.c_grammar.specs.Parser.{IsEnd}
 use Rattle.c_grammar.specs.ParseUnits.{unit}
@@ -22,7 +22,7 @@ pub record IsRefused (text : List ℕ) (tokens : List Token) (at : ℕ) : Type 0
   pub place : at ≡ place_of (length text) rest
 
 -- what the tokens of a text give
-abbrev pub Gives : List ℕ → List Token → Result Tree ParseFault → Type 0
+abbrev pub Gives : List ℕ → List Token → Result TranslationUnit ParseFault → Type 0
 Gives text tokens (Ok tree) = unit text tokens ≡ Ok tree
 Gives text tokens (Err (Lex at)) = ⊥
 Gives text tokens (Err (Nesting counted)) = ⊥
@@ -30,7 +30,7 @@ Gives text tokens (Err (Syntax at)) = IsRefused text tokens at
 Gives text tokens (Err NoMemory) = Unit {0}
 
 -- The text is all tokens, of a nesting within the limit, and the unit is a reading of them (C99 6.9).
-pub record IsRead (text : List ℕ) (tree : Tree) : Type 0 where
+pub record IsRead (text : List ℕ) (tree : TranslationUnit) : Type 0 where
   pub tokens : List Token
   pub are_tokens : IsTokens text tokens
   pub nesting : ℕ
@@ -46,7 +46,7 @@ pub record HasNoReading (text : List ℕ) (at : ℕ) : Type 0 where
   pub nesting : ℕ
   pub has_nesting : HasNesting text nesting
   pub within : nesting ≤ 256
-  pub none : (tree : Tree) → Reads text tokens tree → ⊥
+  pub none : (tree : TranslationUnit) → Reads text tokens tree → ⊥
   pub refuses : IsRefused text tokens at
   pub ends : IsEnd refuses.rest tokens
 

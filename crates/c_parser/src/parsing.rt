@@ -8,9 +8,9 @@ use crate::fault::ParseFault;
 use crate::nesting::nesting_of;
 use crate::tokens::tokens;
 use crate::units::externals;
-use c_declarations::{Fault, Scope, Tokens};
+use c_expression_parser::{Fault, Scope, Tokens};
 use c_lexer::Token;
-use c_tree::Unit;
+use c_tree::TranslationUnit;
 use std::alloc::Global;
 
 /// The greatest nesting that is taken.
@@ -27,7 +27,7 @@ fn place_of(tokens: &Tokens<'_>, length: u32) -> u32
 }
 
 /// The unit that the tokens of the text spell.
-fn unit_of(alloc: Global, text: &[u8], tokens: &[Token]) -> Result<Unit, ParseFault>
+fn unit_of(alloc: Global, text: &[u8], tokens: &[Token]) -> Result<TranslationUnit, ParseFault>
     requires { length text.now ≤ 4194304 }
     ensures { Gives text.now tokens.now result }
 {
@@ -35,7 +35,7 @@ fn unit_of(alloc: Global, text: &[u8], tokens: &[Token]) -> Result<Unit, ParseFa
     let mut scope = Scope::new(alloc, text);
     let mut cursor = Tokens::new(tokens);
     match externals(alloc, &mut scope, &mut cursor) {
-        Ok(externals) => Ok(Unit { externals, length }),
+        Ok(externals) => Ok(TranslationUnit { externals, length }),
         Err(Fault::NoMemory) => Err(ParseFault::NoMemory),
         Err(Fault::Refused) => {
             let at = place_of(&cursor, length);
@@ -52,7 +52,7 @@ fn unit_of(alloc: Global, text: &[u8], tokens: &[Token]) -> Result<Unit, ParseFa
 /// [`ParseFault::Nesting`] where it has none and its nesting exceeds 256, with the nesting;
 /// [`ParseFault::Syntax`] where neither holds and its tokens have no reading, with the offset of the
 /// token at which the reading stops, or the text's length; and [`ParseFault::NoMemory`].
-pub fn parse(alloc: Global, text: &[u8]) -> Result<Unit, ParseFault>
+pub fn parse(alloc: Global, text: &[u8]) -> Result<TranslationUnit, ParseFault>
     requires { length text.now ≤ 4194304 }
     ensures read { IfOk result (IsRead text.now) }
     ensures fault { IfErr result (IsNotRead text.now) }

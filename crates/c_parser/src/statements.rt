@@ -6,9 +6,9 @@ ghost use Rattle.c_grammar.specs.Statements.{locals_of};
 ghost use Rattle.c_grammar.specs.ParseExpr.{listed_from};
 ghost use Rattle.c_grammar.specs.ParseStatements as model;
 ghost use Rattle.c_parser.specs.Blocks.{returned, value, ends_section};
-ghost use Rattle.c_declarations.specs.Answers.{Answers};
+ghost use Rattle.c_expression_parser.specs.Answers.{Answers};
 
-use c_declarations::{Base, Fault, Scope, Tokens, declaration, expr, plain, whole};
+use c_expression_parser::{SpecifierType, Fault, Scope, Tokens, declaration, expr, plain, whole};
 use c_grammar::{Head, Naming, head_of};
 use c_lexer::{Keyword, Punct};
 use c_tree::{Box, Expr, ForFirst, Label, Local, Section, Seq, Stmt, TypeNode};
@@ -45,7 +45,7 @@ fn locals(
     scope: &Scope<'_>,
     tokens: &mut Tokens<'_>,
     depth: usize,
-    base: Base,
+    base: SpecifierType,
 ) -> Result<Seq<Local>, Fault>
     requires { bare base ≡ base }
     ensures { Answers (listed_from (model.local scope.now depth base) (length tokens.old) [] tokens.old) result tokens.new }

@@ -4,12 +4,12 @@ ghost use Rattle.std.specs.Prelude.{◌≡◌, [], length, IfOk};
 ghost use Rattle.c_grammar.specs.ParseSpecifiers.{braced_from};
 ghost use Rattle.c_grammar.specs.Types as types;
 ghost use Rattle.c_grammar.specs.ParseUnits as model;
-ghost use Rattle.c_declarations.specs.Answers.{Answers, AnswersIn, AnswersUnit};
+ghost use Rattle.c_expression_parser.specs.Answers.{Answers, AnswersIn, AnswersUnit};
 ghost use Rattle.c_parser.specs.Objects.{external_of, is_function};
 
 use crate::statements::items;
-use c_declarations::{
-    Base, Fault, Scope, Tokens, append, declaration, declarator, expr, shaped, specifier,
+use c_expression_parser::{
+    SpecifierType, Fault, Scope, Tokens, append, declaration, declarator, expr, with_shapes, specifier,
 };
 use c_grammar::{Declarator, Named, Naming, Opening, Shape, opening_of};
 use c_lexer::Punct;
@@ -69,7 +69,7 @@ fn typedefs_listed(
     scope: &mut Scope<'_>,
     tokens: &mut Tokens<'_>,
     depth: usize,
-    base: Base,
+    base: SpecifierType,
 ) -> Result<Seq<External>, Fault>
     ensures { AnswersIn (model.typedefs_from scope.old depth (length tokens.old) base [] tokens.old) result scope.new tokens.new }
 {
@@ -126,10 +126,10 @@ impl Declared {
 
     /// What it declares.
     fn into_declaration(self, alloc: Global) -> Result<Declaration, AllocError>
-        ensures { IfOk result (λ d. d ≡ types.declared self.ty self.named self.shapes) }
+        ensures { IfOk result (λ d. d ≡ types.declaration_of self.ty self.named self.shapes) }
     {
         let Declared { ty, named, shapes } = self;
-        let ty = shaped(alloc, shapes, ty)?;
+        let ty = with_shapes(alloc, shapes, ty)?;
         Ok(Declaration {
             at: named.at,
             name: named.name,
@@ -144,7 +144,7 @@ impl Declared {
         storage: Option<Storage>,
         init: Option<Init>,
     ) -> Result<External, AllocError>
-        ensures { IfOk result (λ x. x ≡ external_of (is_function self.shapes) (types.declared self.ty self.named self.shapes) storage init) }
+        ensures { IfOk result (λ x. x ≡ external_of (is_function self.shapes) (types.declaration_of self.ty self.named self.shapes) storage init) }
     {
         let is_function = self.is_function();
         let declaration = self.into_declaration(alloc)?;
@@ -174,7 +174,7 @@ fn object(
     tokens: &mut Tokens<'_>,
     depth: usize,
     storage: Option<Storage>,
-    declared: Declared,
+    declaration_of: Declared,
 ) -> Result<External, Fault>
     ensures { Answers (model.object_by scope.now depth storage declared.ty declared.named declared.shapes tokens.old) result tokens.new }
 {
@@ -193,7 +193,7 @@ fn objects(
     tokens: &mut Tokens<'_>,
     depth: usize,
     storage: Option<Storage>,
-    base: Base,
+    base: SpecifierType,
     found: Seq<External>,
 ) -> Result<Seq<External>, Fault>
     ensures { Answers (model.objects_from scope.now depth storage (length tokens.old) base found tokens.old) result tokens.new }
@@ -213,12 +213,12 @@ fn objects(
         };
         let bare = ty.bare()?;
         let ty_here = ty.into_type();
-        let declared = Declared {
+        let declaration_of = Declared {
             ty: ty_here,
             named,
             shapes,
         };
-        found.push(object(alloc, scope, tokens, depth, storage, declared)?)?;
+        found.push(object(alloc, scope, tokens, depth, storage, declaration_of)?)?;
         ty = bare;
         if !tokens.sees(Punct::Comma) {
             return Ok(found);
@@ -235,14 +235,14 @@ fn objects_behind(
     tokens: &mut Tokens<'_>,
     depth: usize,
     storage: Option<Storage>,
-    declared: Declared,
-    bare: Base,
+    declaration_of: Declared,
+    bare: SpecifierType,
 ) -> Result<Seq<External>, Fault>
     requires { types.bare declared.ty ≡ bare }
     ensures { Answers (model.objects_behind scope.now depth storage declared.ty declared.named declared.shapes tokens.old) result tokens.new }
 {
     let mut found = Seq::new(alloc);
-    found.push(object(alloc, scope, tokens, depth, storage, declared)?)?;
+    found.push(object(alloc, scope, tokens, depth, storage, declaration_of)?)?;
     if !tokens.sees(Punct::Comma) {
         return Ok(found);
     }
@@ -278,8 +278,8 @@ fn objects_named(
     tokens: &mut Tokens<'_>,
     depth: usize,
     storage: Option<Storage>,
-    declared: Declared,
-    bare: Base,
+    declaration_of: Declared,
+    bare: SpecifierType,
 ) -> Result<Seq<External>, Fault>
     requires { types.bare declared.ty ≡ bare }
     ensures { Answers (model.objects_named scope.now depth storage declared.ty declared.named declared.shapes tokens.old) result tokens.new }
@@ -289,7 +289,7 @@ fn objects_named(
         let declaration = declared.into_declaration(alloc)?;
         return body_behind(alloc, scope, tokens, depth, storage, declaration);
     }
-    let found = objects_behind(alloc, scope, tokens, depth, storage, declared, bare)?;
+    let found = objects_behind(alloc, scope, tokens, depth, storage, declaration_of, bare)?;
     tokens.expect(Punct::Semicolon)?;
     Ok(found)
 }
@@ -301,7 +301,7 @@ fn behind_type(
     tokens: &mut Tokens<'_>,
     depth: usize,
     storage: Option<Storage>,
-    base: Base,
+    base: SpecifierType,
 ) -> Result<Seq<External>, Fault>
     ensures { Answers (model.behind_type scope.now depth storage base tokens.old) result tokens.new }
 {
@@ -318,8 +318,8 @@ fn behind_type(
     };
     let bare = base.bare()?;
     let ty = base.into_type();
-    let declared = Declared { ty, named, shapes };
-    objects_named(alloc, scope, tokens, depth, storage, declared, bare)
+    let declaration_of = Declared { ty, named, shapes };
+    objects_named(alloc, scope, tokens, depth, storage, declaration_of, bare)
 }
 
 /// Reads a declaration at file scope behind its storage word.

@@ -75,9 +75,9 @@ pub count-Assign : (at : ℕ) (op : AssignOp) (v z : e.Expr) → expr_count (e.A
 unfolding opens
 count-Assign at op v z = refl
 
-pub count-Choose : (at : ℕ) (u v z : e.Expr) → expr_count (e.Choose at u v z) ≡ suc (expr_count u + (expr_count v + (expr_count z + 0)))
+pub count-Conditional : (at : ℕ) (u v z : e.Expr) → expr_count (e.Conditional at u v z) ≡ suc (expr_count u + (expr_count v + (expr_count z + 0)))
 unfolding opens
-count-Choose at u v z = refl
+count-Conditional at u v z = refl
 
 pub count-SizeOfValue : (at : ℕ) (v : e.Expr) → expr_count (e.SizeOfValue at v) ≡ suc (expr_count v + 0)
 unfolding opens
@@ -95,9 +95,9 @@ pub count-Arrow : (at : ℕ) (v : e.Expr) (name : List ℕ) → expr_count (e.Ar
 unfolding opens
 count-Arrow at v name = refl
 
-pub count-After : (at : ℕ) (op : StepOp) (v : e.Expr) → expr_count (e.After at op v) ≡ suc (expr_count v + 0)
+pub count-Postfix : (at : ℕ) (op : StepOp) (v : e.Expr) → expr_count (e.Postfix at op v) ≡ suc (expr_count v + 0)
 unfolding opens
-count-After at op v = refl
+count-Postfix at op v = refl
 
 pub count-Cast : (at : ℕ) (ty : TypeName) (v : e.Expr) → expr_count (e.Cast at ty v) ≡ suc (type_count ty.ty + (expr_count v + 0))
 unfolding opens

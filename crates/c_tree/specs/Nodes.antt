@@ -20,7 +20,7 @@ use Rattle.c_tree.specs.declared.declarations.FunctionEnd.{FunctionEnd}
 use Rattle.c_tree.specs.declared.declarations.FunctionEnd.TheVariants as g
 use Rattle.c_tree.specs.declared.declarations.External.{External}
 use Rattle.c_tree.specs.declared.declarations.External.TheVariants as x
-use Rattle.c_tree.specs.declared.declarations.Unit.{Unit as CUnit}
+use Rattle.c_tree.specs.declared.declarations.TranslationUnit.{TranslationUnit}
 
 -- A node: the text of its line, and its children in source order.
 mutual
@@ -57,7 +57,7 @@ unfoldable mutual
   expr_node (e.Unary' at op _ (k.more_of-Expr x k.end_of-Expr)) = node (codes "unary " ++ unary_word op) (lone (expr_node x))
   expr_node (e.Binary' at op _ (k.more_of-Expr x k.end_of-Expr) _ (k.more_of-Expr y k.end_of-Expr)) = node (codes "binary " ++ binary_word op) (both (expr_node x) (expr_node y))
   expr_node (e.Assign' at op _ (k.more_of-Expr x k.end_of-Expr) _ (k.more_of-Expr y k.end_of-Expr)) = node (codes "assign " ++ assign_word op) (both (expr_node x) (expr_node y))
-  expr_node (e.Choose' at _ (k.more_of-Expr x k.end_of-Expr) _ (k.more_of-Expr y k.end_of-Expr) _ (k.more_of-Expr z k.end_of-Expr)) =
+  expr_node (e.Conditional' at _ (k.more_of-Expr x k.end_of-Expr) _ (k.more_of-Expr y k.end_of-Expr) _ (k.more_of-Expr z k.end_of-Expr)) =
       node (codes "choose") (more (expr_node x) (both (expr_node y) (expr_node z)))
   expr_node (e.Cast' at _ (k.more_of-TypeName place ty k.end_of-TypeName) _ (k.more_of-Expr x k.end_of-Expr)) = node (codes "cast") (both (type_node ty) (expr_node x))
   expr_node (e.SizeOfValue' at _ (k.more_of-Expr x k.end_of-Expr)) = node (codes "sizeof") (lone (expr_node x))
@@ -65,7 +65,7 @@ unfoldable mutual
   expr_node (e.Index' at _ (k.more_of-Expr x k.end_of-Expr) _ (k.more_of-Expr y k.end_of-Expr)) = node (codes "index") (both (expr_node x) (expr_node y))
   expr_node (e.Field' at _ (k.more_of-Expr x k.end_of-Expr) name) = node (codes "field " ++ name) (lone (expr_node x))
   expr_node (e.Arrow' at _ (k.more_of-Expr x k.end_of-Expr) name) = node (codes "arrow " ++ name) (lone (expr_node x))
-  expr_node (e.After' at op _ (k.more_of-Expr x k.end_of-Expr)) = node (codes "after " ++ step_word op) (lone (expr_node x))
+  expr_node (e.Postfix' at op _ (k.more_of-Expr x k.end_of-Expr)) = node (codes "after " ++ step_word op) (lone (expr_node x))
   expr_node (e.Comma' at _ operands) = node (codes "comma") (expr_row operands)
 
   pub expr_row : {n : _} → k.Row_of-Expr n → Nodes
@@ -222,7 +222,7 @@ abbrev mutual
   nodes_text indent none = []
   nodes_text indent (more n ns) = node_text indent n ++ nodes_text indent ns
 
-abbrev pub text_of : CUnit → List ℕ
+abbrev pub text_of : TranslationUnit → List ℕ
 text_of unit = nodes_text [] (nodes_of external_node unit.externals)
 
 -- the line of a node, and what stands under it
@@ -244,5 +244,5 @@ abbrev mutual
   nodes_count none = 0
   nodes_count (more n ns) = node_count n + nodes_count ns
 
-abbrev pub unit_nodes : CUnit → ℕ
+abbrev pub unit_nodes : TranslationUnit → ℕ
 unit_nodes unit = nodes_count (nodes_of external_node unit.externals)

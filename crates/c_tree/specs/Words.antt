@@ -18,7 +18,7 @@ abbrev pub unary_word : UnaryOp → List ℕ
 unary_word u.Increment = codes "++"
 unary_word u.Decrement = codes "--"
 unary_word u.Address = codes "&"
-unary_word u.Target = codes "*"
+unary_word u.Dereference = codes "*"
 unary_word u.Plus = codes "+"
 unary_word u.Minus = codes "-"
 unary_word u.Invert = codes "~"
@@ -31,8 +31,8 @@ step_word s.Decrement = codes "--"
 
 -- C99 6.5.5 to 6.5.14
 abbrev pub binary_word : BinaryOp → List ℕ
-binary_word b.Either = codes "||"
-binary_word b.Both = codes "&&"
+binary_word b.LogicalOr = codes "||"
+binary_word b.LogicalAnd = codes "&&"
 binary_word b.Or = codes "|"
 binary_word b.Xor = codes "^"
 binary_word b.And = codes "&"

@@ -48,7 +48,7 @@ pub enum Init {
 
 /// A unit: its externals in order, and the length of its text in bytes (C99 6.9).
 #[derive(Drop)]
-pub struct Unit {
+pub struct TranslationUnit {
     pub externals: Seq<External>,
     pub length: u32,
 }

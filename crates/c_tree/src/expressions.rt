@@ -8,7 +8,7 @@ pub enum UnaryOp {
     Increment,
     Decrement,
     Address,
-    Target,
+    Dereference,
     Plus,
     Minus,
     Invert,
@@ -25,8 +25,8 @@ pub enum StepOp {
 /// The operators between two operands (C99 6.5.5 to 6.5.14), from the weakest level on.
 #[derive(Clone, Copy, Debug, PartialEq, Eq)]
 pub enum BinaryOp {
-    Either,
-    Both,
+    LogicalOr,
+    LogicalAnd,
     Or,
     Xor,
     And,
@@ -105,7 +105,7 @@ pub enum Expr {
         left: Box<Expr>,
         right: Box<Expr>,
     },
-    Choose {
+    Conditional {
         at: u32,
         condition: Box<Expr>,
         holds: Box<Expr>,
@@ -139,7 +139,7 @@ pub enum Expr {
         operand: Box<Expr>,
         name: Name,
     },
-    After {
+    Postfix {
         at: u32,
         op: StepOp,
         operand: Box<Expr>,

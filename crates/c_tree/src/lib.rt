@@ -16,7 +16,7 @@ pub mod types;
 mod words;
 
 pub use boxed::Box;
-pub use declarations::{External, FunctionEnd, Init, Storage, Unit};
+pub use declarations::{External, FunctionEnd, Init, Storage, TranslationUnit};
 pub use expressions::{AssignOp, BinaryOp, Expr, StepOp, UnaryOp};
 pub use name::Name;
 pub use print_units::tree_text;

@@ -78,14 +78,14 @@ fn expr_line(alloc: Global, out: &mut Vec<u8>, indent: &[u8], e: &Expr) -> Resul
         Expr::Unary { op, .. } => put_line(out, indent, "unary ", unary_word(*op).as_bytes()),
         Expr::Binary { op, .. } => put_line(out, indent, "binary ", binary_word(*op).as_bytes()),
         Expr::Assign { op, .. } => put_line(out, indent, "assign ", assign_word(*op).as_bytes()),
-        Expr::Choose { .. } => put_line(out, indent, "choose", b""),
+        Expr::Conditional { .. } => put_line(out, indent, "choose", b""),
         Expr::Cast { .. } => put_line(out, indent, "cast", b""),
         Expr::SizeOfValue { .. } => put_line(out, indent, "sizeof", b""),
         Expr::SizeOfType { .. } => put_line(out, indent, "sizeof", b""),
         Expr::Index { .. } => put_line(out, indent, "index", b""),
         Expr::Field { name, .. } => put_line(out, indent, "field ", name.as_slice()),
         Expr::Arrow { name, .. } => put_line(out, indent, "arrow ", name.as_slice()),
-        Expr::After { op, .. } => put_line(out, indent, "after ", step_word(*op).as_bytes()),
+        Expr::Postfix { op, .. } => put_line(out, indent, "after ", step_word(*op).as_bytes()),
         Expr::Comma { .. } => put_line(out, indent, "comma", b""),
     }
 }
@@ -114,7 +114,7 @@ fn put_operands(alloc: Global, out: &mut Vec<u8>, indent: &[u8], e: &Expr) -> Re
         Expr::SizeOfValue { operand, .. } => put_expr(alloc, out, indent, operand),
         Expr::Field { operand, .. } => put_expr(alloc, out, indent, operand),
         Expr::Arrow { operand, .. } => put_expr(alloc, out, indent, operand),
-        Expr::After { operand, .. } => put_expr(alloc, out, indent, operand),
+        Expr::Postfix { operand, .. } => put_expr(alloc, out, indent, operand),
         Expr::Binary { left, right, .. } => {
             put_expr(alloc, out, indent, left)?;
             put_expr(alloc, out, indent, right)
@@ -127,7 +127,7 @@ fn put_operands(alloc: Global, out: &mut Vec<u8>, indent: &[u8], e: &Expr) -> Re
             put_expr(alloc, out, indent, left)?;
             put_expr(alloc, out, indent, right)
         }
-        Expr::Choose {
+        Expr::Conditional {
             condition,
             holds,
             fails,

@@ -7,7 +7,7 @@ use crate::print::{below, put_expr, put_line, put_line_of_three, put_type, put_v
 use crate::words::storage_text;
 use crate::{
     Box, Declaration, Expr, External, ForFirst, FunctionEnd, Init, Label, Local, Section, Stmt,
-    Unit,
+    TranslationUnit,
 };
 use std::alloc::{AllocError, Global};
 
@@ -369,7 +369,7 @@ fn put_external(
 /// The text of a unit's tree: a line for each node in source order, with two blanks for each level
 /// above it. A line is the node's word, and where the node has a text a blank and the text. It fails
 /// only where memory is short.
-pub fn tree_text(alloc: Global, unit: &Unit) -> Result<Vec<u8>, AllocError>
+pub fn tree_text(alloc: Global, unit: &TranslationUnit) -> Result<Vec<u8>, AllocError>
     ensures { IfOk result (λ text. text.items ≡ text_of unit.now) }
 {
     let mut out = Vec::new(alloc);

@@ -2,7 +2,7 @@
 
 use crate::{
     BasicType, Box, Constant, Declaration, Expr, External, ForFirst, FunctionEnd, Init, Label,
-    Name, Parameter, Section, Seq, StepOp, Stmt, Storage, TypeNode, Unit, tree_text,
+    Name, Parameter, Section, Seq, StepOp, Stmt, Storage, TypeNode, TranslationUnit, tree_text,
 };
 use std::alloc::{AllocError, Global};
 use std::test::Fail;
@@ -38,7 +38,7 @@ fn unit_of(
     function: &str,
     returned: BasicType,
     body: Vec<Stmt>,
-) -> Result<Unit, AllocError> {
+) -> Result<TranslationUnit, AllocError> {
     let declaration = Declaration {
         at: 4,
         name: name(alloc, function)?,
@@ -49,7 +49,7 @@ fn unit_of(
         storage: None,
         end: FunctionEnd::Body(Seq::from_vec(body)),
     };
-    Ok(Unit {
+    Ok(TranslationUnit {
         externals: Seq::from_vec(vec![in alloc; external]?),
         length: 25,
     })
@@ -76,7 +76,7 @@ fn tree_lines(rt: HostRuntime) -> Result<(), Fail> {
 fn step(alloc: Global) -> Result<Stmt, AllocError> {
     let operand = Box::new(alloc, variable(alloc, "x")?)?;
     let op = StepOp::Increment;
-    Ok(Stmt::Expression(Expr::After { at: 0, op, operand }))
+    Ok(Stmt::Expression(Expr::Postfix { at: 0, op, operand }))
 }
 
 /// `case 1:`
@@ -191,7 +191,7 @@ fn storage_and_missing_names(rt: HostRuntime) -> Result<(), Fail> {
             members: None,
         },
     })?;
-    let unit = Unit {
+    let unit = TranslationUnit {
         externals,
         length: 0,
     };

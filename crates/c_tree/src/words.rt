@@ -14,7 +14,7 @@ pub fn unary_word(op: UnaryOp) -> &'static str
         UnaryOp::Increment => "++",
         UnaryOp::Decrement => "--",
         UnaryOp::Address => "&",
-        UnaryOp::Target => "*",
+        UnaryOp::Dereference => "*",
         UnaryOp::Plus => "+",
         UnaryOp::Minus => "-",
         UnaryOp::Invert => "~",
@@ -37,8 +37,8 @@ pub fn binary_word(op: BinaryOp) -> &'static str
     ensures { result.now ≡ words.binary_word op }
 {
     match op {
-        BinaryOp::Either => "||",
-        BinaryOp::Both => "&&",
+        BinaryOp::LogicalOr => "||",
+        BinaryOp::LogicalAnd => "&&",
         BinaryOp::Or => "|",
         BinaryOp::Xor => "^",
         BinaryOp::And => "&",

@@ -1,7 +1,7 @@
 -- What is printed of the text that was read of a file.
 use Rattle.std.proofs.Common.{◌≡◌, ℕ, ◌≤◌, List, inl, inr, length, take, ap, subst, arith, length-take, Option, Some, None, IfSome}
 use Rattle.bk_io.specs.Shelf.{Shelf, file_of}
-use Rattle.c_tree.specs.declared.declarations.Unit.{Unit as Tree}
+use Rattle.c_tree.specs.declared.declarations.TranslationUnit.{TranslationUnit}
 use Rattle.c_parser.specs.declared.fault.ParseFault.TheVariants as fault
 use Rattle.c_parser.proofs.OneAnswer.{read_or_refused}
 use Rattle.msc_cli.specs.declared.outcome.Outcome.{Outcome}
@@ -15,7 +15,7 @@ use Rattle.msc_cli.specs.PrintTree.{Spells, SpellsNone, Prints}
 short : (file text : List ℕ) → text ≡ take 4194305 file → 4194305 ≤ length file → length text ≤ 4194304 → ⊥
 short file text front long within = omega (arith, within, ap length front, length-take 4194305 file, long)
 
-spells_file : (file text : List ℕ) (tree : Tree) → IsFront 4194305 file text → Spells text tree → Spells file tree
+spells_file : (file text : List ℕ) (tree : TranslationUnit) → IsFront 4194305 file text → Spells text tree → Spells file tree
 spells_file file text tree front s = elim front [
   | inl w ↦ subst (λ t. Spells t tree) w.0 s
   | inr w ↦ absurd (short file text w.0 w.1 s.0)
@@ -35,7 +35,7 @@ none_file file text answer front n = elim front [
 ]
 
 -- what holds of the text holds of the file, where it is told
-spells_told : (told : Option Shelf) (name text : List ℕ) (tree : Tree) → IfSome told (λ shelf. IsFront 4194305 (file_of shelf name) text) → Spells text tree → IfSome (text_of told name) (λ t. Spells t tree)
+spells_told : (told : Option Shelf) (name text : List ℕ) (tree : TranslationUnit) → IfSome told (λ shelf. IsFront 4194305 (file_of shelf name) text) → Spells text tree → IfSome (text_of told name) (λ t. Spells t tree)
 spells_told None name text tree front s = tt
 spells_told (Some shelf) name text tree front s = spells_file (file_of shelf name) text tree front s
 
@@ -54,7 +54,7 @@ prints_told told name text NoMemory old new front p = p
 prints_told told name text _ old new front p = absurd p
 
 -- a text that spells a tree is not refused
-pub not_refused : (text : List ℕ) (tree : Tree) (answer : Outcome) → Spells text tree → SpellsNone text answer → ⊥
+pub not_refused : (text : List ℕ) (tree : TranslationUnit) (answer : Outcome) → Spells text tree → SpellsNone text answer → ⊥
 not_refused text tree (Limit Text counted) s n = omega (arith, s.0, n.0)
 not_refused text tree (Refused (Lex at)) s n = let e : fault.Lex at ≡ fault.NoMemory = read_or_refused text tree (fault.Lex at) s.1 n.1 in cc
 not_refused text tree (Limit Nesting counted) s n = let e : fault.Nesting counted ≡ fault.NoMemory = read_or_refused text tree (fault.Nesting counted) s.1 (n.1, n.2) in cc

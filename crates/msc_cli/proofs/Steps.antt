@@ -4,7 +4,7 @@ use Rattle.std.specs.Int.{w32, int_wrap}
 use Rattle.std.proofs.lemmas.Bool.{le-ltb}
 use Rattle.std.proofs.lemmas.Int.{to_z_pos}
 use Rattle.c_mean.specs.Small.{complement}
-use Rattle.c_mean.specs.SmallModel.{Outcome, begins, behind, values, factor, term, expression, products, sums, brackets, number, make_number}
+use Rattle.c_mean.specs.SmallModel.{ScanOutcome, begins, behind, values, factor, term, expression, products, sums, brackets, number, make_number}
 use Rattle.msc_cli.specs.Answers.{Answers, AnswersNumber}
 use Rattle.c_mean.proofs.SmallComplete.{products_times, sums_plus, sums_minus}
 use Rattle.c_mean.proofs.SmallSound.{factor_shrinks, term_shrinks}
@@ -67,7 +67,7 @@ turned_is (negsuc n) f = to_z_pos w32 (4294967295 - (4294967296 - suc n)) (omega
 -- ---- factors
 
 -- the code's answer is the value of the model's number
-number_by : (o : Outcome ℕ) (r : Option ℤ) (new : List ℕ) → AnswersNumber o r new → Answers (make_number values o) r new
+number_by : (o : ScanOutcome ℕ) (r : Option ℤ) (new : List ℕ) → AnswersNumber o r new → Answers (make_number values o) r new
 number_by o (Some z) new h = rw h.2 (ap (λ v. Some (v, new)) (sym h.1))
 number_by o None new h = rw h refl
 

@@ -1,7 +1,7 @@
 //! Laws of the image format, of runs, and of trees.
 
 ghost use Rattle.std.specs.Prelude.{◌≡◌, List, ℕ, None};
-ghost use Rattle.c_tree.specs.declared.declarations.Unit.{Unit as Tree};
+ghost use Rattle.c_tree.specs.declared.declarations.TranslationUnit.{TranslationUnit};
 ghost use Rattle.alpha_isa.specs.Program.{Program};
 ghost use Rattle.alpha_isa.specs.ImageFormat.{IsImage};
 ghost use Rattle.msc_cli.specs.ImageFault.{image_fault};
@@ -30,5 +30,5 @@ pub fn a_run_is_the_program()
 
 /// A text that spells a tree is refused by `print` for no cause.
 pub fn a_tree_is_not_refused()
-    ensures { (text : List ℕ) (tree : Tree) (answer : Answer) → Spells text tree → SpellsNone text answer → ⊥ }
+    ensures { (text : List ℕ) (tree : TranslationUnit) (answer : Answer) → Spells text tree → SpellsNone text answer → ⊥ }
 {}

@@ -11,7 +11,7 @@ use crate::outcome::{Outcome, SourceFault, Which};
 use crate::output::put_all;
 use bk_io::outside::{FileFault, Files, Sink};
 use c_parser::{ParseFault, parse};
-use c_tree::{Unit, tree_text};
+use c_tree::{TranslationUnit, tree_text};
 use std::alloc::Global;
 
 /// How many bytes of a C file are read: one more than a text may have.
@@ -67,7 +67,7 @@ fn print_text<O: Sink>(alloc: Global, text: &[u8], out: &mut O) -> Outcome
 }
 
 /// Writes the text of a tree.
-fn write_tree<O: Sink>(alloc: Global, unit: &Unit, out: &mut O) -> Outcome
+fn write_tree<O: Sink>(alloc: Global, unit: &TranslationUnit, out: &mut O) -> Outcome
     ensures answer { WritesTree unit.now result (O.taken out.old) (O.taken out.new) }
     ensures write { result ≡ Outcome.WriteFault → Rose (O.faults out.old) (O.faults out.new) }
 {

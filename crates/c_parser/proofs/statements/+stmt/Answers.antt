@@ -1,7 +1,7 @@
 use Rattle.std.proofs.Common.{rules, arith, ◌<◌}
 use Rattle.std.proofs.lemmas.Grind.{common_steps}
 use Rattle.c_grammar.specs.ParseStatements.{items_from, stmts_from, section, sections_from, alternative, choice, while, until, for, switch, return, value, stmt}
-use Rattle.c_declarations.proofs.Turns.{one_more, no_more}
+use Rattle.c_expression_parser.proofs.Turns.{one_more, no_more}
 use Rattle.c_parser.proofs.Open.{stmt_open}
 use Rattle.c_parser.proofs.statements.+stmt.Goals as goal
 

@@ -2,7 +2,7 @@ use Rattle.std.proofs.Common.{rules, arith, ◌<◌}
 use Rattle.std.proofs.lemmas.Grind.{common_steps}
 use Rattle.c_grammar.specs.ParseSpecifiers.{braced_from}
 use Rattle.c_grammar.specs.ParseUnits.{init_list, init_value, init}
-use Rattle.c_declarations.proofs.Turns.{one_more, no_more}
+use Rattle.c_expression_parser.proofs.Turns.{one_more, no_more}
 use Rattle.c_parser.proofs.Open.{init_open}
 use Rattle.c_parser.proofs.units.+init.Goals as goal
 

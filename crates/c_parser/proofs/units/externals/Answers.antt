@@ -1,7 +1,7 @@
 use Rattle.std.proofs.Common.{rules, arith, ◌-◌, length}
 use Rattle.std.proofs.lemmas.Grind.{common_steps}
 use Rattle.c_grammar.specs.ParseUnits.{externals_from}
-use Rattle.c_declarations.proofs.Turns.{one_more, no_more}
+use Rattle.c_expression_parser.proofs.Turns.{one_more, no_more}
 use Rattle.c_parser.proofs.Externals.{externals_none}
 use Rattle.c_parser.proofs.units.externals.Goals as goal
 

@@ -32,10 +32,10 @@ unfolding opens
 put_operands-returns-in_ok-put_expr-in-Index t c =
     two _ _ _ _ _ _ _ _ (both_is expr_node expr_node _ _ _ _ c.deref-in-Index.ensures c.deref-in-Index-2.ensures ∙ sym (ap (λ e. children_of (expr_node e)) c.in-Index.is)) c.in_ok-put_expr-in-Index.ensures c.put_expr-in-Index-2.ensures
 
-pub put_operands-returns-in_ok-put_expr-in-Choose-2 : goal.put_operands-returns-in_ok-put_expr-in-Choose-2
+pub put_operands-returns-in_ok-put_expr-in-Conditional-2 : goal.put_operands-returns-in_ok-put_expr-in-Conditional-2
 unfolding opens
-put_operands-returns-in_ok-put_expr-in-Choose-2 t c =
-    three _ _ _ _ _ _ _ _ _ _ (more_is expr_node _ _ _ _ c.deref-in-Choose.ensures (both_is expr_node expr_node _ _ _ _ c.deref-in-Choose-2.ensures c.deref-in-Choose-3.ensures) ∙ sym (ap (λ e. children_of (expr_node e)) c.in-Choose.is)) c.in_ok-put_expr-in-Choose.ensures c.in_ok-put_expr-in-Choose-2.ensures c.put_expr-in-Choose-3.ensures
+put_operands-returns-in_ok-put_expr-in-Conditional-2 t c =
+    three _ _ _ _ _ _ _ _ _ _ (more_is expr_node _ _ _ _ c.deref-in-Conditional.ensures (both_is expr_node expr_node _ _ _ _ c.deref-in-Conditional-2.ensures c.deref-in-Conditional-3.ensures) ∙ sym (ap (λ e. children_of (expr_node e)) c.in-Conditional.is)) c.in_ok-put_expr-in-Conditional.ensures c.in_ok-put_expr-in-Conditional-2.ensures c.put_expr-in-Conditional-3.ensures
 
 pub put_operands-returns-in_ok-put_type-in-Cast : goal.put_operands-returns-in_ok-put_type-in-Cast
 unfolding opens

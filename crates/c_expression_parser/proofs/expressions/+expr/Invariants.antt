@@ -1,0 +1,105 @@
+use Rattle.std.proofs.Common.{◌≡◌, [], ◌+◌, ◌-◌, ◌*◌, length}
+use Rattle.c_grammar.specs.ParseExpr as model
+use Rattle.c_expression_parser.proofs.expressions.+expr.Given as goal
+
+abbrev pub decreases-listed : goal.decreases-listed
+decreases-listed l = 10 * l.depth + 1
+
+abbrev pub decreases-whole : goal.decreases-whole
+decreases-whole l = 10 * l.depth + 2
+
+abbrev pub decreases-type_name : goal.decreases-type_name
+decreases-type_name l = 10 * l.depth + 1
+
+abbrev pub decreases-parameter : goal.decreases-parameter
+decreases-parameter l = 10 * l.depth + 1
+
+abbrev pub decreases-parameters_listed : goal.decreases-parameters_listed
+decreases-parameters_listed l = 10 * l.depth + 2
+
+abbrev pub decreases-parameters : goal.decreases-parameters
+decreases-parameters l = 10 * l.depth + 3
+
+abbrev pub decreases-arguments : goal.decreases-arguments
+decreases-arguments l = 10 * l.depth + 2
+
+abbrev pub decreases-named : goal.decreases-named
+decreases-named l = 10 * l.depth + 3
+
+abbrev pub decreases-cast_behind : goal.decreases-cast_behind
+decreases-cast_behind l = 10 * l.depth + 2
+
+abbrev pub decreases-brackets_behind : goal.decreases-brackets_behind
+decreases-brackets_behind l = 10 * l.depth + 3
+
+abbrev pub decreases-size_of_type : goal.decreases-size_of_type
+decreases-size_of_type l = 10 * l.depth + 2
+
+abbrev pub decreases-size_of_value : goal.decreases-size_of_value
+decreases-size_of_value l = 10 * l.depth + 1
+
+abbrev pub decreases-size_of : goal.decreases-size_of
+decreases-size_of l = 10 * l.depth + 3
+
+abbrev pub decreases-assignment : goal.decreases-assignment
+decreases-assignment l = 10 * l.depth + 1
+
+abbrev pub decreases-binary : goal.decreases-binary
+decreases-binary l = 10 * l.depth + 1
+
+abbrev pub decreases-bracket_operand : goal.decreases-bracket_operand
+decreases-bracket_operand l = 10 * l.depth + 4
+
+abbrev pub decreases-index : goal.decreases-index
+decreases-index l = 10 * l.depth + 3
+
+abbrev pub decreases-name_or_call : goal.decreases-name_or_call
+decreases-name_or_call l = 10 * l.depth + 4
+
+abbrev pub decreases-unary : goal.decreases-unary
+decreases-unary l = 10 * l.depth + 1
+
+abbrev pub decreases-operand : goal.decreases-operand
+decreases-operand l = 10 * l.depth + 5
+
+abbrev pub decreases-step : goal.decreases-step
+decreases-step l = 10 * l.depth + 4
+
+abbrev pub decreases-choice : goal.decreases-choice
+decreases-choice l = 10 * l.depth + 3
+
+abbrev pub decreases-climb : goal.decreases-climb
+decreases-climb l = 10 * l.depth + 5
+
+abbrev pub decreases-expr : goal.decreases-expr
+decreases-expr l = 10 * l.depth
+
+abbrev pub decreases-length_of : goal.decreases-length_of
+decreases-length_of l = 10 * l.depth + 1
+
+abbrev pub decreases-suffixes : goal.decreases-suffixes
+decreases-suffixes l = 10 * l.depth + 4
+
+abbrev pub decreases-group_behind : goal.decreases-group_behind
+decreases-group_behind l = 10 * l.depth + 2
+
+abbrev pub decreases-core : goal.decreases-core
+decreases-core l = 10 * l.depth + 3
+
+abbrev pub decreases-pointer_declarator : goal.decreases-pointer_declarator
+decreases-pointer_declarator l = 10 * l.depth + 1
+
+abbrev pub decreases-declarator : goal.decreases-declarator
+decreases-declarator l = 10 * l.depth
+
+abbrev pub invariant-listed-loop-turn : goal.invariant-listed-loop-turn
+invariant-listed-loop-turn l = model.listed_from (model.expr l.scope l.depth 2) (length l.fn.tokens) [] l.fn.tokens ≡ model.listed_from (model.expr l.scope l.depth 2) (l._turn-end - l._turn) l.found l.tokens
+
+abbrev pub invariant-parameters_listed-loop-turn : goal.invariant-parameters_listed-loop-turn
+invariant-parameters_listed-loop-turn l = model.listed_from (model.parameter l.scope (model.expr l.scope l.depth) (model.declarator l.scope l.depth)) (length l.fn.tokens) [] l.fn.tokens ≡ model.listed_from (model.parameter l.scope (model.expr l.scope l.depth) (model.declarator l.scope l.depth)) (l._turn-end - l._turn) l.found l.tokens
+
+abbrev pub invariant-climb-loop-turn : goal.invariant-climb-loop-turn
+invariant-climb-loop-turn l = model.climb l.scope (model.expr l.scope l.depth) (model.declarator l.scope l.depth) l.at l.least (length l.fn.tokens) l.fn.first.1 l.fn.first.0 l.fn.tokens ≡ model.climb l.scope (model.expr l.scope l.depth) (model.declarator l.scope l.depth) l.at l.least (l._turn-end - l._turn) l.level l.left l.tokens
+
+abbrev pub invariant-suffixes-loop-turn : goal.invariant-suffixes-loop-turn
+invariant-suffixes-loop-turn l = model.suffixes l.scope (model.expr l.scope l.depth) (model.declarator l.scope l.depth) (length l.fn.tokens) l.fn.found l.fn.tokens ≡ model.suffixes l.scope (model.expr l.scope l.depth) (model.declarator l.scope l.depth) (l._turn-end - l._turn) l.found l.tokens

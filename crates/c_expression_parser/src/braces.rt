@@ -1,0 +1,252 @@
+//! Specifiers with braces, and declarations.
+
+ghost use Rattle.std.specs.Prelude.{◌≡◌, ◌++◌, [], length, IfOk};
+ghost use Rattle.c_grammar.specs.ParseSpecifiers as model;
+ghost use Rattle.c_expression_parser.specs.Answers.{Answers};
+
+use crate::base::SpecifierType;
+use crate::cursor::{Fault, Tokens};
+use crate::expressions::{declarator, expr};
+use crate::scope::Scope;
+use crate::shapes::with_shapes;
+use crate::specifiers::{Words, named_type, read_words};
+use c_grammar::{Declarator, Naming, Specifier};
+use c_lexer::Punct;
+use c_tree::{Constant, Declaration, Name, Seq, TypeNode};
+use std::alloc::{AllocError, Global};
+
+/// One list and another behind it.
+pub fn append<T: Drop>(found: Seq<T>, more: Seq<T>) -> Result<Seq<T>, AllocError>
+    ensures { IfOk result (λ all. all ≡ found ++ more) }
+{
+    let mut all = Seq::into_vec(found);
+    let mut rest = Seq::into_vec(more);
+    all.append(&mut rest)?;
+    Ok(Seq::from_vec(all))
+}
+
+/// Reads a declarator that has a name, behind its type.
+pub fn declaration(
+    alloc: Global,
+    scope: &Scope<'_>,
+    tokens: &mut Tokens<'_>,
+    depth: usize,
+    naming: Naming,
+    ty: TypeNode,
+) -> Result<Declaration, Fault>
+    ensures { Answers (model.declaration scope.now depth naming ty tokens.old) result tokens.new }
+{
+    let Declarator { name, shapes } = declarator(alloc, scope, tokens, depth, naming)?;
+    let Some(named) = name else {
+        return Err(Fault::Refused);
+    };
+    let ty = with_shapes(alloc, shapes, ty)?;
+    Ok(Declaration {
+        at: named.at,
+        name: named.name,
+        ty,
+    })
+}
+
+/// Reads an enumeration constant.
+fn constant(
+    alloc: Global,
+    scope: &Scope<'_>,
+    tokens: &mut Tokens<'_>,
+    depth: usize,
+) -> Result<Constant, Fault>
+    ensures { Answers (model.constant scope.now depth tokens.old) result tokens.new }
+{
+    if !tokens.sees_name() {
+        return Err(Fault::Refused);
+    }
+    if scope.is_type_at(tokens) {
+        return Err(Fault::Refused);
+    }
+    let at = tokens.place();
+    let name = scope.name_at(alloc, tokens)?;
+    tokens.take();
+    if !tokens.sees(Punct::Assign) {
+        return Ok(Constant {
+            at,
+            name,
+            value: None,
+        });
+    }
+    tokens.take();
+    let value = expr(alloc, scope, tokens, depth, 4)?;
+    Ok(Constant {
+        at,
+        name,
+        value: Some(value),
+    })
+}
+
+/// Reads enumeration constants with commas between them, one or more, and perhaps a comma behind.
+fn constants(
+    alloc: Global,
+    scope: &Scope<'_>,
+    tokens: &mut Tokens<'_>,
+    depth: usize,
+) -> Result<Seq<Constant>, Fault>
+    ensures { Answers (model.braced_from (model.constant scope.now depth) (length tokens.old) [] tokens.old) result tokens.new }
+{
+    let mut found = Seq::new(alloc);
+    for _turn in 0..tokens.left() {
+        found.push(constant(alloc, scope, tokens, depth)?)?;
+        if !tokens.sees(Punct::Comma) {
+            return Ok(found);
+        }
+        tokens.take();
+        if tokens.sees(Punct::RightBrace) {
+            return Ok(found);
+        }
+    }
+    Err(Fault::Refused)
+}
+
+/// Reads the declarators of members behind their type.
+fn declaration_of(
+    alloc: Global,
+    scope: &Scope<'_>,
+    tokens: &mut Tokens<'_>,
+    depth: usize,
+    base: SpecifierType,
+) -> Result<Seq<Declaration>, Fault>
+    ensures { Answers (model.declared_from scope.now depth (length tokens.old) base [] tokens.old) result tokens.new }
+{
+    let mut found = Seq::new(alloc);
+    let mut ty = base;
+    for _turn in 0..tokens.left() {
+        let bare = ty.bare()?;
+        let first = ty.into_type();
+        found.push(declaration(alloc, scope, tokens, depth, Naming::Member, first)?)?;
+        ty = bare;
+        if !tokens.sees(Punct::Comma) {
+            return Ok(found);
+        }
+        tokens.take();
+    }
+    Err(Fault::Refused)
+}
+
+/// Reads one declaration of members.
+#[cycle(specifier)]
+fn member(
+    alloc: Global,
+    scope: &Scope<'_>,
+    tokens: &mut Tokens<'_>,
+    depth: usize,
+) -> Result<Seq<Declaration>, Fault>
+    ensures { Answers (model.member scope.now depth (model.specifier scope.now depth) tokens.old) result tokens.new }
+{
+    let base = specifier(alloc, scope, tokens, depth)?;
+    let found = declaration_of(alloc, scope, tokens, depth, base)?;
+    tokens.expect(Punct::Semicolon)?;
+    Ok(found)
+}
+
+/// Reads the declarations of members, one or more, up to the brace that closes them.
+#[cycle(specifier)]
+fn members(
+    alloc: Global,
+    scope: &Scope<'_>,
+    tokens: &mut Tokens<'_>,
+    depth: usize,
+) -> Result<Seq<Declaration>, Fault>
+    ensures { Answers (model.members_from scope.now depth (model.specifier scope.now depth) (length tokens.old) [] tokens.old) result tokens.new }
+{
+    let mut found = Seq::new(alloc);
+    for _turn in 0..tokens.left() {
+        found = append(found, member(alloc, scope, tokens, depth)?)?;
+        if tokens.sees(Punct::RightBrace) {
+            return Ok(found);
+        }
+    }
+    Err(Fault::Refused)
+}
+
+/// Reads the braces of a `struct` or an `enum`.
+#[cycle(specifier)]
+fn braces(
+    alloc: Global,
+    scope: &Scope<'_>,
+    tokens: &mut Tokens<'_>,
+    depth: usize,
+    word: Specifier,
+    at: u32,
+    tag: Option<Name>,
+) -> Result<SpecifierType, Fault>
+    ensures { Answers (model.braces scope.now depth (model.specifier scope.now depth) word at tag tokens.old) result tokens.new }
+{
+    tokens.expect(Punct::LeftBrace)?;
+    match word {
+        Specifier::Struct => {
+            let found = members(alloc, scope, tokens, depth)?;
+            tokens.expect(Punct::RightBrace)?;
+            tokens.consts();
+            Ok(SpecifierType::structure(at, tag, Some(found)))
+        }
+        _ => {
+            let found = constants(alloc, scope, tokens, depth)?;
+            tokens.expect(Punct::RightBrace)?;
+            tokens.consts();
+            Ok(SpecifierType::enumeration(at, tag, Some(found)))
+        }
+    }
+}
+
+/// Reads what stands behind `struct` or `enum`, whose place is given.
+#[cycle(specifier)]
+fn tag_or_body(
+    alloc: Global,
+    scope: &Scope<'_>,
+    tokens: &mut Tokens<'_>,
+    depth: usize,
+    word: Specifier,
+    at: u32,
+) -> Result<SpecifierType, Fault>
+    ensures { Answers (model.tag_or_body scope.now depth (model.specifier scope.now depth) word at tokens.old) result tokens.new }
+{
+    if !tokens.sees_name() {
+        return braces(alloc, scope, tokens, depth, word, at, None);
+    }
+    let place = tokens.place();
+    let name = scope.name_at(alloc, tokens)?;
+    tokens.take();
+    if tokens.sees(Punct::LeftBrace) {
+        return braces(alloc, scope, tokens, depth, word, place, Some(name));
+    }
+    tokens.consts();
+    Ok(SpecifierType::tag_type(word, place, name))
+}
+
+/// Reads a specifier. The depth bounds how deep it goes: as much as there are tokens is enough.
+#[cycle(specifier)]
+pub fn specifier(
+    alloc: Global,
+    scope: &Scope<'_>,
+    tokens: &mut Tokens<'_>,
+    depth: usize,
+) -> Result<SpecifierType, Fault>
+    ensures { Answers (model.specifier scope.now depth tokens.old) result tokens.new }
+{
+    if depth == 0 {
+        return Err(Fault::Refused);
+    }
+    match read_words(tokens) {
+        Words::Basic(basic) => Ok(SpecifierType::basic(basic)),
+        Words::Other(Specifier::Struct) => {
+            let at = tokens.place();
+            tokens.take();
+            tag_or_body(alloc, scope, tokens, depth - 1, Specifier::Struct, at)
+        }
+        Words::Other(Specifier::Enum) => {
+            let at = tokens.place();
+            tokens.take();
+            tag_or_body(alloc, scope, tokens, depth - 1, Specifier::Enum, at)
+        }
+        Words::Other(Specifier::Name) => named_type(alloc, scope, tokens),
+        Words::Other(_) => Err(Fault::Refused),
+    }
+}

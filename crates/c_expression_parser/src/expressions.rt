@@ -1,0 +1,670 @@
+//! Expressions, by precedence climbing, and the type names and declarators that stand in them.
+
+ghost use Rattle.std.specs.Prelude.{◌≡◌, [], length};
+ghost use Rattle.c_tree.specs.declared.expressions.Expr as trees;
+ghost use Rattle.c_grammar.specs.Parser.{and_then, pure};
+ghost use Rattle.c_grammar.specs.ParseExpr as model;
+ghost use Rattle.c_grammar.specs.declared.classes.Infix.TheVariants as roles;
+ghost use Rattle.c_grammar.specs.declared.classes.Prefix.TheVariants as fronts;
+ghost use Rattle.c_expression_parser.specs.Answers.{Answers};
+
+use crate::cursor::{Fault, Tokens};
+use crate::levels::{binds, demands, level_of, makes};
+use crate::parts::{member, named_core, no_name, texts};
+use crate::scope::Scope;
+use crate::shapes::{comma_of, may_be_nameless, parameter_of, with_shapes, with_shape, without_void};
+use crate::specifiers::plain;
+use c_grammar::{Declarator, Infix, Naming, Prefix, Shape, infix_of, prefix_of};
+use c_lexer::Punct;
+use c_tree::{AssignOp, BinaryOp, Box, Expr, Name, Parameter, Seq, TypeName, UnaryOp};
+use std::alloc::Global;
+
+/// Reads assignments with commas between them, one or more.
+#[cycle(expr)]
+fn listed(
+    alloc: Global,
+    scope: &Scope<'_>,
+    tokens: &mut Tokens<'_>,
+    depth: usize,
+) -> Result<Seq<Expr>, Fault>
+    ensures { Answers (model.listed_from (model.expr scope.now depth 2) (length tokens.old) [] tokens.old) result tokens.new }
+{
+    let mut found = Seq::new(alloc);
+    for _turn in 0..tokens.left() {
+        found.push(expr(alloc, scope, tokens, depth, 2)?)?;
+        if !tokens.sees(Punct::Comma) {
+            return Ok(found);
+        }
+        tokens.take();
+    }
+    Err(Fault::Refused)
+}
+
+/// Reads an expression with its commas.
+#[cycle(expr)]
+pub fn whole(
+    alloc: Global,
+    scope: &Scope<'_>,
+    tokens: &mut Tokens<'_>,
+    depth: usize,
+) -> Result<Expr, Fault>
+    ensures { Answers (model.whole scope.now (model.expr scope.now depth) (model.declarator scope.now depth) tokens.old) result tokens.new }
+{
+    let at = tokens.place();
+    let operands = listed(alloc, scope, tokens, depth)?;
+    Ok(comma_of(at, operands))
+}
+
+/// Reads a type name.
+#[cycle(expr)]
+fn type_name(
+    alloc: Global,
+    scope: &Scope<'_>,
+    tokens: &mut Tokens<'_>,
+    depth: usize,
+) -> Result<TypeName, Fault>
+    ensures { Answers (model.type_name scope.now (model.expr scope.now depth) (model.declarator scope.now depth) tokens.old) result tokens.new }
+{
+    let at = tokens.place();
+    let ty = plain(alloc, scope, tokens)?.into_type();
+    let found = declarator(alloc, scope, tokens, depth, Naming::Refused)?;
+    let ty = with_shapes(alloc, found.shapes, ty)?;
+    Ok(TypeName { at, ty })
+}
+
+/// Reads a parameter.
+#[cycle(expr)]
+fn parameter(
+    alloc: Global,
+    scope: &Scope<'_>,
+    tokens: &mut Tokens<'_>,
+    depth: usize,
+) -> Result<Parameter, Fault>
+    ensures { Answers (model.parameter scope.now (model.expr scope.now depth) (model.declarator scope.now depth) tokens.old) result tokens.new }
+{
+    let at = tokens.place();
+    let ty = plain(alloc, scope, tokens)?.into_type();
+    let found = declarator(alloc, scope, tokens, depth, Naming::Optional)?;
+    Ok(parameter_of(alloc, at, ty, found)?)
+}
+
+/// Reads parameters with commas between them, one or more.
+#[cycle(expr)]
+fn parameters_listed(
+    alloc: Global,
+    scope: &Scope<'_>,
+    tokens: &mut Tokens<'_>,
+    depth: usize,
+) -> Result<Seq<Parameter>, Fault>
+    ensures { Answers (model.listed_from (model.parameter scope.now (model.expr scope.now depth) (model.declarator scope.now depth)) (length tokens.old) [] tokens.old) result tokens.new }
+{
+    let mut found = Seq::new(alloc);
+    for _turn in 0..tokens.left() {
+        found.push(parameter(alloc, scope, tokens, depth)?)?;
+        if !tokens.sees(Punct::Comma) {
+            return Ok(found);
+        }
+        tokens.take();
+    }
+    Err(Fault::Refused)
+}
+
+/// Reads parameters behind their bracket, up to the one that closes it.
+#[cycle(expr)]
+fn parameters(
+    alloc: Global,
+    scope: &Scope<'_>,
+    tokens: &mut Tokens<'_>,
+    depth: usize,
+) -> Result<Seq<Parameter>, Fault>
+    ensures { Answers (model.parameters scope.now (model.expr scope.now depth) (model.declarator scope.now depth) tokens.old) result tokens.new }
+{
+    if tokens.sees(Punct::RightParen) {
+        tokens.take();
+        return Ok(Seq::new(alloc));
+    }
+    let found = parameters_listed(alloc, scope, tokens, depth)?;
+    tokens.expect(Punct::RightParen)?;
+    Ok(found)
+}
+
+/// Reads the arguments of a call behind the bracket, up to the one that closes it.
+#[cycle(expr)]
+fn arguments(
+    alloc: Global,
+    scope: &Scope<'_>,
+    tokens: &mut Tokens<'_>,
+    depth: usize,
+) -> Result<Seq<Expr>, Fault>
+    ensures { Answers (model.arguments scope.now (model.expr scope.now depth) (model.declarator scope.now depth) tokens.old) result tokens.new }
+{
+    if tokens.sees(Punct::RightParen) {
+        tokens.take();
+        return Ok(Seq::new(alloc));
+    }
+    let found = listed(alloc, scope, tokens, depth)?;
+    tokens.expect(Punct::RightParen)?;
+    Ok(found)
+}
+
+/// Reads what stands behind a name that is no type.
+#[cycle(expr)]
+fn named(
+    alloc: Global,
+    scope: &Scope<'_>,
+    tokens: &mut Tokens<'_>,
+    depth: usize,
+    at: u32,
+    name: Name,
+) -> Result<(Expr, u8), Fault>
+    ensures { Answers (model.named scope.now (model.expr scope.now depth) (model.declarator scope.now depth) at name tokens.old) result tokens.new }
+{
+    if !tokens.sees(Punct::LeftParen) {
+        return Ok((Expr::Name { at, name }, 19));
+    }
+    tokens.take();
+    let arguments = arguments(alloc, scope, tokens, depth)?;
+    Ok((
+        Expr::Call {
+            at,
+            name,
+            arguments,
+        },
+        19,
+    ))
+}
+
+/// Reads a cast behind its first bracket.
+#[cycle(expr)]
+fn cast_behind(
+    alloc: Global,
+    scope: &Scope<'_>,
+    tokens: &mut Tokens<'_>,
+    depth: usize,
+    at: u32,
+) -> Result<(Expr, u8), Fault>
+    ensures { Answers (model.cast_behind scope.now (model.expr scope.now depth) (model.declarator scope.now depth) at tokens.old) result tokens.new }
+{
+    let to = Box::new(alloc, type_name(alloc, scope, tokens, depth)?)?;
+    tokens.expect(Punct::RightParen)?;
+    let operand = Box::new(alloc, expr(alloc, scope, tokens, depth, 16)?)?;
+    Ok((Expr::Cast { at, to, operand }, 16))
+}
+
+/// Reads an expression in brackets, behind the first.
+#[cycle(expr)]
+fn brackets_behind(
+    alloc: Global,
+    scope: &Scope<'_>,
+    tokens: &mut Tokens<'_>,
+    depth: usize,
+) -> Result<(Expr, u8), Fault>
+    ensures { Answers (model.brackets_behind scope.now (model.expr scope.now depth) (model.declarator scope.now depth) tokens.old) result tokens.new }
+{
+    let found = whole(alloc, scope, tokens, depth)?;
+    tokens.expect(Punct::RightParen)?;
+    Ok((found, 19))
+}
+
+/// Reads the type of a `sizeof`, behind the bracket.
+#[cycle(expr)]
+fn size_of_type(
+    alloc: Global,
+    scope: &Scope<'_>,
+    tokens: &mut Tokens<'_>,
+    depth: usize,
+    at: u32,
+) -> Result<(Expr, u8), Fault>
+    ensures { Answers (model.size_of_type scope.now (model.expr scope.now depth) (model.declarator scope.now depth) at tokens.old) result tokens.new }
+{
+    let operand = Box::new(alloc, type_name(alloc, scope, tokens, depth)?)?;
+    tokens.expect(Punct::RightParen)?;
+    Ok((Expr::SizeOfType { at, operand }, 17))
+}
+
+/// Reads the operand of a `sizeof`, which is no type in brackets.
+#[cycle(expr)]
+fn size_of_value(
+    alloc: Global,
+    scope: &Scope<'_>,
+    tokens: &mut Tokens<'_>,
+    depth: usize,
+    at: u32,
+) -> Result<(Expr, u8), Fault>
+    ensures { Answers (model.size_of_value scope.now (model.expr scope.now depth) (model.declarator scope.now depth) at tokens.old) result tokens.new }
+{
+    let operand = Box::new(alloc, expr(alloc, scope, tokens, depth, 17)?)?;
+    Ok((Expr::SizeOfValue { at, operand }, 17))
+}
+
+/// Reads what stands behind `sizeof`.
+#[cycle(expr)]
+fn size_of(
+    alloc: Global,
+    scope: &Scope<'_>,
+    tokens: &mut Tokens<'_>,
+    depth: usize,
+    at: u32,
+) -> Result<(Expr, u8), Fault>
+    ensures { Answers (model.size_of scope.now (model.expr scope.now depth) (model.declarator scope.now depth) at tokens.old) result tokens.new }
+{
+    if tokens.sees(Punct::LeftParen) && scope.begins_type(&tokens.behind()) {
+        tokens.take();
+        size_of_type(alloc, scope, tokens, depth, at)
+    } else {
+        size_of_value(alloc, scope, tokens, depth, at)
+    }
+}
+
+/// Reads a name that is no type, or a call of it.
+#[cycle(expr)]
+fn name_or_call(
+    alloc: Global,
+    scope: &Scope<'_>,
+    tokens: &mut Tokens<'_>,
+    depth: usize,
+) -> Result<(Expr, u8), Fault>
+    ensures { Answers (model.operand_by scope.now (model.expr scope.now depth) (model.declarator scope.now depth) 0 fronts.Name tokens.old) result tokens.new }
+{
+    let at = tokens.place();
+    if scope.is_type_at(tokens) {
+        return Err(Fault::Refused);
+    }
+    let name = scope.name_at(alloc, tokens)?;
+    tokens.take();
+    named(alloc, scope, tokens, depth, at, name)
+}
+
+/// Reads what stands behind a bracket: a cast, or an expression and the bracket that closes it. A cast
+/// stands only where an expression of the level `least` may be one.
+#[cycle(expr)]
+fn bracket_operand(
+    alloc: Global,
+    scope: &Scope<'_>,
+    tokens: &mut Tokens<'_>,
+    depth: usize,
+    at: u32,
+    least: u8,
+) -> Result<(Expr, u8), Fault>
+    ensures { Answers (model.bracket_operand scope.now (model.expr scope.now depth) (model.declarator scope.now depth) least at tokens.old) result tokens.new }
+{
+    if !scope.begins_type(tokens) {
+        return brackets_behind(alloc, scope, tokens, depth);
+    }
+    if least >= 17 {
+        return Err(Fault::Refused);
+    }
+    cast_behind(alloc, scope, tokens, depth, at)
+}
+
+/// Reads the operand behind an operator, which is of the level `least` or above.
+#[cycle(expr)]
+fn unary(
+    alloc: Global,
+    scope: &Scope<'_>,
+    tokens: &mut Tokens<'_>,
+    depth: usize,
+    least: u8,
+    at: u32,
+    op: UnaryOp,
+) -> Result<(Expr, u8), Fault>
+    ensures { Answers (and_then (model.expr scope.now depth least tokens.old) (λ x. pure (trees.Unary at op x, 17))) result tokens.new }
+{
+    let operand = Box::new(alloc, expr(alloc, scope, tokens, depth, least)?)?;
+    Ok((Expr::Unary { at, op, operand }, 17))
+}
+
+/// Reads the front of an expression, up to the operators behind it, and says its level. A cast stands
+/// only where an expression of the level `least` may be one.
+#[cycle(expr)]
+fn operand(
+    alloc: Global,
+    scope: &Scope<'_>,
+    tokens: &mut Tokens<'_>,
+    depth: usize,
+    least: u8,
+) -> Result<(Expr, u8), Fault>
+    ensures { Answers (model.operand scope.now (model.expr scope.now depth) (model.declarator scope.now depth) least tokens.old) result tokens.new }
+{
+    let at = tokens.place();
+    match prefix_of(tokens.peek()) {
+        Prefix::Name => name_or_call(alloc, scope, tokens, depth),
+        Prefix::Number => {
+            let spelling = scope.name_at(alloc, tokens)?;
+            tokens.take();
+            Ok((Expr::Number { at, spelling }, 19))
+        }
+        Prefix::Character => {
+            let spelling = scope.name_at(alloc, tokens)?;
+            tokens.take();
+            Ok((Expr::Character { at, spelling }, 19))
+        }
+        Prefix::Text => {
+            let spellings = texts(alloc, scope, tokens)?;
+            Ok((Expr::Text { at, spellings }, 19))
+        }
+        Prefix::Bracket => {
+            tokens.take();
+            bracket_operand(alloc, scope, tokens, depth, at, least)
+        }
+        Prefix::Step(op) => {
+            tokens.take();
+            unary(alloc, scope, tokens, depth, 17, at, op)
+        }
+        Prefix::Unary(op) => {
+            tokens.take();
+            unary(alloc, scope, tokens, depth, 16, at, op)
+        }
+        Prefix::SizeOf => {
+            tokens.take();
+            size_of(alloc, scope, tokens, depth, at)
+        }
+        Prefix::Nothing => Err(Fault::Refused),
+    }
+}
+
+/// Reads what stands behind an operator, whose left operand is given with its place.
+#[cycle(expr)]
+fn step(
+    alloc: Global,
+    scope: &Scope<'_>,
+    tokens: &mut Tokens<'_>,
+    depth: usize,
+    kind: Infix,
+    at: u32,
+    left: Expr,
+) -> Result<Expr, Fault>
+    ensures { Answers (model.step_by scope.now (model.expr scope.now depth) (model.declarator scope.now depth) kind at left tokens.old) result tokens.new }
+{
+    let left = Box::new(alloc, left)?;
+    match kind {
+        Infix::Index => index(alloc, scope, tokens, depth, at, left),
+        Infix::Field => {
+            let name = member(alloc, scope, tokens)?;
+            Ok(Expr::Field {
+                at,
+                operand: left,
+                name,
+            })
+        }
+        Infix::Arrow => {
+            let name = member(alloc, scope, tokens)?;
+            Ok(Expr::Arrow {
+                at,
+                operand: left,
+                name,
+            })
+        }
+        Infix::Step(op) => Ok(Expr::Postfix {
+            at,
+            op,
+            operand: left,
+        }),
+        Infix::Binary(op) => binary(alloc, scope, tokens, depth, at, op, left),
+        Infix::Conditional => choice(alloc, scope, tokens, depth, at, left),
+        Infix::Assign(op) => assignment(alloc, scope, tokens, depth, at, op, left),
+        _ => Err(Fault::Refused),
+    }
+}
+
+/// Reads an index behind its bracket, up to the one that closes it.
+#[cycle(expr)]
+fn index(
+    alloc: Global,
+    scope: &Scope<'_>,
+    tokens: &mut Tokens<'_>,
+    depth: usize,
+    at: u32,
+    left: Box<Expr>,
+) -> Result<Expr, Fault>
+    ensures { Answers (model.step_by scope.now (model.expr scope.now depth) (model.declarator scope.now depth) roles.Index at left tokens.old) result tokens.new }
+{
+    let right = Box::new(alloc, whole(alloc, scope, tokens, depth)?)?;
+    tokens.expect(Punct::RightBracket)?;
+    Ok(Expr::Index { at, left, right })
+}
+
+/// Reads the right operand behind an operator between two, which groups to the left.
+#[cycle(expr)]
+fn binary(
+    alloc: Global,
+    scope: &Scope<'_>,
+    tokens: &mut Tokens<'_>,
+    depth: usize,
+    at: u32,
+    op: BinaryOp,
+    left: Box<Expr>,
+) -> Result<Expr, Fault>
+    ensures { Answers (model.step_by scope.now (model.expr scope.now depth) (model.declarator scope.now depth) (roles.Binary op) at left tokens.old) result tokens.new }
+{
+    let right = expr(alloc, scope, tokens, depth, level_of(op) + 1)?;
+    let right = Box::new(alloc, right)?;
+    Ok(Expr::Binary {
+        at,
+        op,
+        left,
+        right,
+    })
+}
+
+/// Reads the right operand behind an assignment, which groups to the right.
+#[cycle(expr)]
+fn assignment(
+    alloc: Global,
+    scope: &Scope<'_>,
+    tokens: &mut Tokens<'_>,
+    depth: usize,
+    at: u32,
+    op: AssignOp,
+    left: Box<Expr>,
+) -> Result<Expr, Fault>
+    ensures { Answers (model.step_by scope.now (model.expr scope.now depth) (model.declarator scope.now depth) (roles.Assign op) at left tokens.old) result tokens.new }
+{
+    let right = Box::new(alloc, expr(alloc, scope, tokens, depth, 2)?)?;
+    Ok(Expr::Assign {
+        at,
+        op,
+        left,
+        right,
+    })
+}
+
+/// Reads the two branches of a choice, behind `?`.
+#[cycle(expr)]
+fn choice(
+    alloc: Global,
+    scope: &Scope<'_>,
+    tokens: &mut Tokens<'_>,
+    depth: usize,
+    at: u32,
+    condition: Box<Expr>,
+) -> Result<Expr, Fault>
+    ensures { Answers (model.step_by scope.now (model.expr scope.now depth) (model.declarator scope.now depth) roles.Conditional at condition tokens.old) result tokens.new }
+{
+    let holds = Box::new(alloc, whole(alloc, scope, tokens, depth)?)?;
+    tokens.expect(Punct::Colon)?;
+    let fails = Box::new(alloc, expr(alloc, scope, tokens, depth, 4)?)?;
+    Ok(Expr::Conditional {
+        at,
+        condition,
+        holds,
+        fails,
+    })
+}
+
+/// Reads the operators behind an expression of this level, down to the least that is wanted.
+#[cycle(expr)]
+fn climb(
+    alloc: Global,
+    scope: &Scope<'_>,
+    tokens: &mut Tokens<'_>,
+    depth: usize,
+    at: u32,
+    least: u8,
+    first: (Expr, u8),
+) -> Result<Expr, Fault>
+    ensures { Answers (model.climb scope.now (model.expr scope.now depth) (model.declarator scope.now depth) at least (length tokens.old) first.1 first.0 tokens.old) result tokens.new }
+{
+    let (mut left, mut level) = first;
+    for _turn in 0..tokens.left() {
+        let kind = infix_of(tokens.peek());
+        if binds(kind) < least {
+            return Ok(left);
+        }
+        if level < demands(kind) {
+            return Err(Fault::Refused);
+        }
+        tokens.take();
+        left = step(alloc, scope, tokens, depth, kind, at, left)?;
+        level = makes(kind);
+    }
+    Ok(left)
+}
+
+/// Reads an expression of the level `least` or above. The depth bounds how deep it goes: as much as
+/// there are tokens is enough.
+#[cycle(expr)]
+pub fn expr(
+    alloc: Global,
+    scope: &Scope<'_>,
+    tokens: &mut Tokens<'_>,
+    depth: usize,
+    least: u8,
+) -> Result<Expr, Fault>
+    ensures { Answers (model.expr scope.now depth least tokens.old) result tokens.new }
+{
+    if depth == 0 {
+        return Err(Fault::Refused);
+    }
+    let at = tokens.place();
+    let first = operand(alloc, scope, tokens, depth - 1, least)?;
+    climb(alloc, scope, tokens, depth - 1, at, least, first)
+}
+
+/// Reads the length of an array behind its bracket, up to the one that closes it.
+#[cycle(expr)]
+fn length_of(
+    alloc: Global,
+    scope: &Scope<'_>,
+    tokens: &mut Tokens<'_>,
+    depth: usize,
+    found: Declarator,
+) -> Result<Declarator, Fault>
+    ensures { Answers (model.length_of scope.now (model.expr scope.now depth) (model.declarator scope.now depth) found tokens.old) result tokens.new }
+{
+    if tokens.sees(Punct::RightBracket) {
+        tokens.take();
+        return Ok(with_shape(found, Shape::Array(None))?);
+    }
+    let length = expr(alloc, scope, tokens, depth, 4)?;
+    tokens.expect(Punct::RightBracket)?;
+    Ok(with_shape(found, Shape::Array(Some(length)))?)
+}
+
+/// Reads the brackets behind a declarator.
+#[cycle(expr)]
+fn suffixes(
+    alloc: Global,
+    scope: &Scope<'_>,
+    tokens: &mut Tokens<'_>,
+    depth: usize,
+    mut found: Declarator,
+) -> Result<Declarator, Fault>
+    ensures { Answers (model.suffixes scope.now (model.expr scope.now depth) (model.declarator scope.now depth) (length tokens.old) found tokens.old) result tokens.new }
+{
+    for _turn in 0..tokens.left() {
+        if tokens.sees(Punct::LeftBracket) {
+            tokens.take();
+            found = length_of(alloc, scope, tokens, depth, found)?;
+        } else if tokens.sees(Punct::LeftParen) {
+            tokens.take();
+            let parameters = parameters(alloc, scope, tokens, depth)?;
+            found = with_shape(found, Shape::Takes(without_void(alloc, parameters)))?;
+        } else {
+            return Ok(found);
+        }
+    }
+    Ok(found)
+}
+
+/// Reads a declarator in brackets, behind the first one and its star.
+#[cycle(expr)]
+fn group_behind(
+    alloc: Global,
+    scope: &Scope<'_>,
+    tokens: &mut Tokens<'_>,
+    depth: usize,
+    naming: Naming,
+) -> Result<Declarator, Fault>
+    ensures { Answers (model.group_behind scope.now (model.expr scope.now depth) (model.declarator scope.now depth) naming tokens.old) result tokens.new }
+{
+    let found = pointer_declarator(alloc, scope, tokens, depth, naming)?;
+    tokens.expect(Punct::RightParen)?;
+    Ok(found)
+}
+
+/// Reads a declarator without its stars and the brackets behind it.
+#[cycle(expr)]
+fn core(
+    alloc: Global,
+    scope: &Scope<'_>,
+    tokens: &mut Tokens<'_>,
+    depth: usize,
+    naming: Naming,
+) -> Result<Declarator, Fault>
+    ensures { Answers (model.core scope.now (model.expr scope.now depth) (model.declarator scope.now depth) naming tokens.old) result tokens.new }
+{
+    if tokens.sees_name() {
+        return named_core(alloc, scope, tokens, naming);
+    }
+    if !tokens.sees(Punct::LeftParen) {
+        return no_name(alloc, tokens, naming);
+    }
+    if tokens.behind().sees(Punct::Star) {
+        tokens.take();
+        tokens.take();
+        return group_behind(alloc, scope, tokens, depth, naming);
+    }
+    if !may_be_nameless(naming) {
+        tokens.take();
+    }
+    no_name(alloc, tokens, naming)
+}
+
+/// Reads a pointer's declarator behind the star.
+#[cycle(expr)]
+fn pointer_declarator(
+    alloc: Global,
+    scope: &Scope<'_>,
+    tokens: &mut Tokens<'_>,
+    depth: usize,
+    naming: Naming,
+) -> Result<Declarator, Fault>
+    ensures { Answers (model.pointer_declarator scope.now (model.expr scope.now depth) (model.declarator scope.now depth) naming tokens.old) result tokens.new }
+{
+    tokens.consts();
+    let found = declarator(alloc, scope, tokens, depth, naming)?;
+    Ok(with_shape(found, Shape::Pointer)?)
+}
+
+/// Reads a declarator.
+#[cycle(expr)]
+pub fn declarator(
+    alloc: Global,
+    scope: &Scope<'_>,
+    tokens: &mut Tokens<'_>,
+    depth: usize,
+    naming: Naming,
+) -> Result<Declarator, Fault>
+    ensures { Answers (model.declarator scope.now depth naming tokens.old) result tokens.new }
+{
+    if depth == 0 {
+        return Err(Fault::Refused);
+    }
+    if tokens.sees(Punct::Star) {
+        tokens.take();
+        return pointer_declarator(alloc, scope, tokens, depth - 1, naming);
+    }
+    let found = core(alloc, scope, tokens, depth - 1, naming)?;
+    suffixes(alloc, scope, tokens, depth - 1, found)
+}

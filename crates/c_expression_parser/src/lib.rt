@@ -1,0 +1,27 @@
+//! The parser's lower half: expressions, specifiers, declarators and the declarations that they make (C99
+//! 6.5 and 6.7).
+//!
+//! Each function reads what the function of that name in the grammar's model reads (the crate `c_grammar`),
+//! from the tokens at a cursor. After a refusal the cursor stands at the token that goes on with no reading.
+#![tactic(auto)]
+
+mod base;
+mod braces;
+mod cursor;
+mod expressions;
+mod levels;
+mod names;
+mod parts;
+mod scope;
+mod shapes;
+mod specifiers;
+#[cfg(test)]
+mod tests;
+
+pub use base::SpecifierType;
+pub use braces::{append, declaration, specifier};
+pub use cursor::{Fault, Tokens};
+pub use expressions::{declarator, expr, whole};
+pub use scope::Scope;
+pub use shapes::with_shapes;
+pub use specifiers::plain;

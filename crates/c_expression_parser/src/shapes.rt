@@ -1,0 +1,128 @@
+//! What declarators make of types.
+
+ghost use Rattle.std.specs.Prelude.{◌≡◌, [], IfOk, if◌then◌else◌, List};
+ghost use Rattle.c_tree.specs.declared.types.Parameter.{Parameter as Declared};
+ghost use Rattle.c_grammar.specs.Types as types;
+
+use c_grammar::{Declarator, Naming, Shape};
+use c_tree::{BasicType, Box, Expr, Name, Parameter, Seq, TypeNode};
+use std::alloc::{AllocError, Global};
+
+/// Whether a declarator may have this name, which is one of a type or not.
+pub fn takes_name(naming: Naming, is_type: bool) -> bool
+    ensures { result ≡ types.takes_name naming is_type }
+{
+    match naming {
+        Naming::Required => !is_type,
+        Naming::Member => true,
+        Naming::Optional => !is_type,
+        Naming::Refused => false,
+    }
+}
+
+/// Whether a declarator may have no name.
+pub fn may_be_nameless(naming: Naming) -> bool
+    ensures { result ≡ types.may_be_nameless naming }
+{
+    match naming {
+        Naming::Required | Naming::Member => false,
+        Naming::Optional | Naming::Refused => true,
+    }
+}
+
+/// The declarator with one shape more, behind the others.
+pub fn with_shape(mut found: Declarator, shape: Shape) -> Result<Declarator, AllocError>
+    ensures { IfOk result (λ d. d ≡ types.with_shape found shape) }
+{
+    found.shapes.push(shape)?;
+    Ok(found)
+}
+
+/// One shape round a type (C99 6.7.5).
+fn with_one_shape(alloc: Global, shape: Shape, ty: TypeNode) -> Result<TypeNode, AllocError>
+    ensures { IfOk result (λ t. t ≡ types.with_one_shape shape ty) }
+{
+    let inner = Box::new(alloc, ty)?;
+    match shape {
+        Shape::Pointer => Ok(TypeNode::Pointer(inner)),
+        Shape::Array(None) => Ok(TypeNode::Array {
+            element: inner,
+            length: None,
+        }),
+        Shape::Array(Some(length)) => Ok(TypeNode::Array {
+            element: inner,
+            length: Some(Box::new(alloc, length)?),
+        }),
+        Shape::Takes(parameters) => Ok(TypeNode::Takes {
+            result: inner,
+            parameters,
+        }),
+    }
+}
+
+/// All shapes of a declarator round a type: the first is the nearest to the name.
+pub fn with_shapes(alloc: Global, shapes: Seq<Shape>, ty: TypeNode) -> Result<TypeNode, AllocError>
+    ensures { IfOk result (λ t. t ≡ types.with_shapes shapes ty) }
+{
+    let mut left = Seq::into_vec(shapes);
+    let mut ty = ty;
+    while let Some(shape) = left.pop() {
+        ty = with_one_shape(alloc, shape, ty)?;
+    }
+    Ok(ty)
+}
+
+/// A parameter, at its name or at the place of its declaration.
+pub fn parameter_of(
+    alloc: Global,
+    at: u32,
+    ty: TypeNode,
+    found: Declarator,
+) -> Result<Parameter, AllocError>
+    ensures { IfOk result (λ p. p ≡ types.parameter_of at ty found) }
+{
+    let Declarator { name, shapes } = found;
+    let ty = with_shapes(alloc, shapes, ty)?;
+    match name {
+        None => Ok(Parameter { at, name: None, ty }),
+        Some(named) => Ok(Parameter {
+            at: named.at,
+            name: Some(named.name),
+            ty,
+        }),
+    }
+}
+
+/// Whether a lone parameter of this name and type is none.
+fn is_lone_void(name: &Option<Name>, ty: &TypeNode) -> bool
+    ensures { (ps : List Declared) → types.lone_void name.now ty.now ps ≡ (if result then [] else ps) }
+{
+    match name {
+        Some(_) => false,
+        None => match ty {
+            TypeNode::Basic(BasicType::Void) => true,
+            _ => false,
+        },
+    }
+}
+
+/// The parameters, of which the lone `void` is none (C99 6.7.5.3).
+pub fn without_void(alloc: Global, parameters: Seq<Parameter>) -> Seq<Parameter>
+    ensures { result ≡ types.without_void parameters }
+{
+    let is_none = match parameters.as_slice() {
+        [lone] => is_lone_void(&lone.name, &lone.ty),
+        _ => false,
+    };
+    if is_none { Seq::new(alloc) } else { parameters }
+}
+
+/// Operands with commas between them: a lone one is itself.
+pub fn comma_of(at: u32, operands: Seq<Expr>) -> Expr
+    ensures { result ≡ types.comma_of at operands }
+{
+    if operands.len() != 1 {
+        return Expr::Comma { at, operands };
+    }
+    Seq::into_vec(operands).pop().unwrap()
+}
