@@ -1,8 +1,8 @@
-pub mod Answered
+pub mod Accesses
+pub mod Changes
 pub mod Faults
-pub mod Lasting
 pub mod LoadsBack
-pub mod Meanings
-pub mod Table
-pub mod Written
+pub mod Representation
+pub mod RowLaws
+pub mod RowValues
 pub mod Worlds

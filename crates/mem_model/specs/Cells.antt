@@ -65,9 +65,9 @@ is_empty Empty = true
 is_empty _ = false
 
 -- what a load of the cells answers
-unfoldable pub read_of : (pointer : Bool) → List Cell → Result Value MemFault
-read_of pointer cells = if list_any is_empty cells then Err Never else ok_or (value_of pointer cells) PartPointer
+unfoldable pub value_or_fault : (pointer : Bool) → List Cell → Result Value MemFault
+value_or_fault pointer cells = if list_any is_empty cells then Err Never else ok_or (value_of pointer cells) PartPointer
 
 -- the list with a row of cells in it from a place on
-abbrev pub written : List Cell → ℕ → List Cell → List Cell
-written cells at row = take at cells ++ (row ++ drop (at + length row) cells)
+abbrev pub with_row : List Cell → ℕ → List Cell → List Cell
+with_row cells at row = take at cells ++ (row ++ drop (at + length row) cells)

@@ -1,15 +1,15 @@
 -- The laws of the memory and of the world of runs.
-use Rattle.std.specs.Prelude.{◌≡◌, ℕ, ◌+◌, ◌*◌, ◌%◌, ◌^◌, ◌<◌, ◌≤◌, ◌⊎◌, ◌≢◌, pos, ◌+ℤ◌, Bool, true, false, List, [], ◌∷◌, ◌++◌, length, Some, Ok, Err, slice_set}
+use Rattle.std.specs.Prelude.{◌≡◌, ℕ, ◌+◌, ◌*◌, ◌%◌, ◌^◌, ◌<◌, ◌≤◌, ◌⊎◌, ◌≢◌, ℤ, pos, ◌+ℤ◌, Bool, true, false, List, [], ◌∷◌, ◌++◌, length, Some, Ok, Err, slice_set}
 use Rattle.mem_model.specs.declared.value.Ptr.{Ptr}
 use Rattle.mem_model.specs.declared.value.Value.{Value}
 use Rattle.mem_model.specs.declared.value.Value.TheVariants.{Word, Address}
 use Rattle.mem_model.specs.declared.value.MemFault.TheVariants.{PartPointer}
-use Rattle.mem_model.specs.Memory.{Memory, place_of, cells_at, object_at, fresh, ended, load_at, store_at, copy_at, init_at, IsWidth, IsStorable}
+use Rattle.mem_model.specs.Memory.{Memory, place_of, row_at, object_at, fresh_object, ended_object, load_at, store_at, copy_at, init_at, IsWidth, IsStorable}
 use Rattle.mem_model.specs.World.{Meter, Rooms, take_turn, enter_call, leave_call, with_turns, Ending, EndsAs}
 
 -- the pointer so many bytes further
-abbrev pub moved : Ptr → ℕ → Ptr
-moved p k = record { object = p.object; offset = p.offset +ℤ pos k }
+abbrev pub ptr_plus : Ptr → ℤ → Ptr
+ptr_plus p k = record { object = p.object; offset = p.offset +ℤ k }
 
 -- a range of so many bytes shares none with another one
 abbrev pub Apart : Ptr → (size : ℕ) → Ptr → (other : ℕ) → Type 0
@@ -41,7 +41,7 @@ LoadsNull = (m new : Memory) (p : Ptr) → store_at m p 8 (Word 0) ≡ Ok new �
 abbrev pub PartsAreNoNumber : Type 0
 PartsAreNoNumber =
     (m new : Memory) (p q : Ptr) (k width : ℕ) → store_at m p 8 (Address q) ≡ Ok new → IsWidth width → k + width ≤ 8 → k % width ≡ 0 →
-    load_at new (moved p k) width false ≡ Err PartPointer
+    load_at new (ptr_plus p (pos k)) width false ≡ Err PartPointer
 
 -- what lies apart from a store, a copy's target or an initialisation is loaded as before
 abbrev pub StoreKeepsLoads : Type 0
@@ -62,13 +62,13 @@ InitKeepsLoads =
 -- a copy gives the target the cells of the source, whatever they hold
 abbrev pub CopyGivesCells : Type 0
 CopyGivesCells =
-    (m new : Memory) (to from : Ptr) (size align : ℕ) → copy_at m to from size align ≡ Ok new → cells_at new to size ≡ cells_at m from size
+    (m new : Memory) (to from : Ptr) (size align : ℕ) → copy_at m to from size align ≡ Ok new → row_at new to size ≡ row_at m from size
 
 -- so a load within the target reads what one within the source read
 abbrev pub CopyGivesLoads : Type 0
 CopyGivesLoads =
     (m new : Memory) (to from : Ptr) (size align k width : ℕ) (pointer : Bool) → copy_at m to from size align ≡ Ok new → 0 < width → k + width ≤ size →
-    (place_of to.offset + k) % width ≡ 0 → (place_of from.offset + k) % width ≡ 0 → load_at new (moved to k) width pointer ≡ load_at m (moved from k) width pointer
+    (place_of to.offset + k) % width ≡ 0 → (place_of from.offset + k) % width ≡ 0 → load_at new (ptr_plus to (pos k)) width pointer ≡ load_at m (ptr_plus from (pos k)) width pointer
 
 -- what each call leaves as it was
 abbrev pub StoreChanges : Type 0
@@ -82,14 +82,14 @@ InitChanges = (m new : Memory) (p : Ptr) (values : List Value) → init_at m p v
 
 -- an object that ends leaves the others
 pub record EndChanges (m : Memory) (id : ℕ) : Type 0 where
-  pub count : length (slice_set m id (ended (object_at m id))) ≡ length m
-  pub here : id < length m → object_at (slice_set m id (ended (object_at m id))) id ≡ ended (object_at m id)
-  pub others : (k : ℕ) → k ≢ id → object_at (slice_set m id (ended (object_at m id))) k ≡ object_at m k
+  pub count : length (slice_set m id (ended_object (object_at m id))) ≡ length m
+  pub here : id < length m → object_at (slice_set m id (ended_object (object_at m id))) id ≡ ended_object (object_at m id)
+  pub others : (k : ℕ) → k ≢ id → object_at (slice_set m id (ended_object (object_at m id))) k ≡ object_at m k
 
 -- a new object has the next number, and leaves the others
 pub record MakeChanges (m : Memory) (size : ℕ) (writable : Bool) : Type 0 where
-  pub here : object_at (m ++ fresh size writable ∷ []) (length m) ≡ fresh size writable
-  pub others : (k : ℕ) → k < length m → object_at (m ++ fresh size writable ∷ []) k ≡ object_at m k
+  pub here : object_at (m ++ fresh_object size writable ∷ []) (length m) ≡ fresh_object size writable
+  pub others : (k : ℕ) → k < length m → object_at (m ++ fresh_object size writable ∷ []) k ≡ object_at m k
 
 -- an ending is its own, and an ending of an ending is an ending
 abbrev pub EndsAsItself : Type 0

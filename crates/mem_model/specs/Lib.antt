@@ -1,5 +1,5 @@
 pub mod Cells
-pub mod Kept
+pub mod model
 pub mod Laws
 pub mod Memory
 pub mod World

@@ -10,7 +10,7 @@ use Rattle.mem_model.specs.declared.value.Cell.TheVariants.{Empty, Byte}
 use Rattle.mem_model.specs.declared.value.MemFault.{MemFault}
 use Rattle.mem_model.specs.declared.value.MemFault.TheVariants.{NoObject, Outside, Misaligned, ReadOnly}
 use Rattle.mem_model.specs.declared.memory.Object.{Object}
-use Rattle.mem_model.specs.Cells.{read_of, cells_of, written}
+use Rattle.mem_model.specs.Cells.{value_or_fault, cells_of, with_row}
 
 -- all objects ever made, by their numbers. An object is whether it lives, whether it may be written, and its
 -- cells, whose count is its size
@@ -26,12 +26,12 @@ abbrev pub object_at : Memory → ℕ → Object
 object_at m id = slice_index_or m id no_object
 
 -- an object at its making
-abbrev pub fresh : (size : ℕ) → (writable : Bool) → Object
-fresh size writable = record { live = true; writable = writable; cells = replicate size Empty }
+abbrev pub fresh_object : (size : ℕ) → (writable : Bool) → Object
+fresh_object size writable = record { live = true; writable = writable; cells = replicate size Empty }
 
 -- an object that has ended: what it held is gone
-abbrev pub ended : Object → Object
-ended x = record { live = false; writable = x.writable; cells = [] }
+abbrev pub ended_object : Object → Object
+ended_object x = record { live = false; writable = x.writable; cells = [] }
 
 -- the place that an offset names, where it is not below 0
 abbrev pub place_of : ℤ → ℕ
@@ -75,24 +75,24 @@ unless None answer = answer
 unless (Some fault) answer = Err fault
 
 -- the cells of an object from a pointer on
-abbrev pub cells_at : Memory → Ptr → (size : ℕ) → List Cell
-cells_at m p size = take size (drop (place_of p.offset) (object_at m p.object).cells)
+abbrev pub row_at : Memory → Ptr → (size : ℕ) → List Cell
+row_at m p size = take size (drop (place_of p.offset) (object_at m p.object).cells)
 
 -- the memory with a row of cells in an object from a pointer on
-abbrev pub with_cells : Memory → Ptr → List Cell → Memory
-with_cells m p row = slice_set m p.object (record (object_at m p.object) { cells = written (object_at m p.object).cells (place_of p.offset) row })
+abbrev pub put_row : Memory → Ptr → List Cell → Memory
+put_row m p row = slice_set m p.object (record (object_at m p.object) { cells = with_row (object_at m p.object).cells (place_of p.offset) row })
 
 -- a load of so many bytes, as a number or as a pointer
 unfoldable pub load_at : Memory → Ptr → (width : ℕ) → (pointer : Bool) → Result Value MemFault
 load_at m p width pointer =
     unless (first_fault ((is_gone m p, NoObject) ∷ (is_outside m p width, Outside) ∷ (is_misaligned p width, Misaligned) ∷ []))
-    (read_of pointer (cells_at m p width))
+    (value_or_fault pointer (row_at m p width))
 
 -- a store of a value
 unfoldable pub store_at : Memory → Ptr → (width : ℕ) → Value → Result Memory MemFault
 store_at m p width v =
     unless (first_fault ((is_gone m p, NoObject) ∷ (is_outside m p width, Outside) ∷ (is_misaligned p width, Misaligned) ∷ (is_read_only m p, ReadOnly) ∷ []))
-    (Ok (with_cells m p (cells_of width v)))
+    (Ok (put_row m p (cells_of width v)))
 
 -- a copy of so many cells, as they are
 unfoldable pub copy_at : Memory → (to from : Ptr) → (size align : ℕ) → Result Memory MemFault
@@ -103,7 +103,7 @@ copy_at m to from size align =
     ∷ (is_misaligned to align || is_misaligned from align, Misaligned)
     ∷ (is_read_only m to, ReadOnly)
     ∷ []))
-    (Ok (with_cells m to (cells_at m from size)))
+    (Ok (put_row m to (row_at m from size)))
 
 -- the byte of a value that is one
 abbrev pub byte_of : Value → Cell
@@ -114,7 +114,7 @@ byte_of _ = Empty
 unfoldable pub init_at : Memory → Ptr → List Value → Result Memory MemFault
 init_at m p values =
     unless (first_fault ((is_gone m p, NoObject) ∷ (is_outside m p (length values), Outside) ∷ []))
-    (Ok (with_cells m p (map byte_of values)))
+    (Ok (put_row m p (map byte_of values)))
 
 -- the widths of an access
 abbrev pub IsWidth : ℕ → Type 0

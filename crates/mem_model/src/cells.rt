@@ -5,10 +5,10 @@
 //! table has room for every slot from the start, so no write takes memory, but it is only as long as the
 //! last slot that was used. So the room of an object of bytes is never touched.
 
-ghost use Rattle.std.specs.Prelude.{◌≡◌, ◌≢◌, ℕ, ◌+◌, ◌/◌, ◌<◌, ◌≤◌, [], length, vec_len, vec_capacity, slice_index_or, IfOk, IsTrue, slice_get, slice_set, replicate};
-ghost use Rattle.mem_model.specs.Kept.{pointer_at, homes_of, cells_kept};
+ghost use Rattle.std.specs.Prelude.{◌≡◌, ◌≢◌, ℕ, ◌+◌, ◌<◌, ◌≤◌, [], length, vec_len, vec_capacity, IfOk, slice_get, slice_set, replicate};
+ghost use Rattle.std.specs.Bool.{OnTrue, OnFalse};
+ghost use Rattle.mem_model.specs.model.Representation.{pointer_at, homes_of, cells_kept, IsOtherHome};
 ghost use Rattle.mem_model.specs.declared.value.Cell.TheVariants.{Empty, Part};
-ghost use Rattle.mem_model.specs.declared.cells.Mark.TheVariants.{Unwritten, Home};
 
 use crate::value::{Cell, Ptr};
 use std::alloc::{AllocError, Global};
@@ -49,7 +49,7 @@ impl Model for Cells {
 
     ghost Value = { List Cell };
 
-    ghost use Rattle.mem_model.specs.Kept.{cells_kept, homes_of};
+    ghost use Rattle.mem_model.specs.model.Representation.{cells_kept, homes_of};
 
     ghost view = { λ c. cells_kept c.marks.items c.pointers.items };
 
@@ -79,7 +79,8 @@ fn put_pointer(pointers: &mut Vec<Ptr>, slot: usize, pointer: Ptr)
 /// Whether no other cell of the group of `at` holds a part at home.
 fn is_home_free(marks: &[Mark], at: usize) -> bool
     requires { at < length marks.now }
-    ensures { IsTrue result → (k : ℕ) → k < length marks.now → k / 8 ≡ at / 8 → k ≢ at → slice_index_or marks.now k Unwritten ≢ Home }
+    ensures free { OnTrue result ((k : ℕ) → IsOtherHome marks.now at k → ⊥) }
+    ensures taken { OnFalse result ((k : ℕ) × IsOtherHome marks.now at k) }
 {
     let first = at - at % PARTS;
     let last = marks.len().min(first + PARTS);

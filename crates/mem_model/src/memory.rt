@@ -1,10 +1,10 @@
 //! The memory: objects by their numbers, and the accesses to them.
 
 ghost use Rattle.std.specs.Prelude.{◌≡◌, ◌≢◌, ◌⊎◌, ◌+◌, ◌<◌, [], ◌∷◌, ◌++◌, length, IfOk, OnOk, OnErr, IfErr, IfSome, IsSome, ◌↔◌, IsTrue, slice_set, ◌≤◌, ◌^◌, ◌||◌, All, true, false};
-ghost use Rattle.mem_model.specs.Memory.{fresh, ended, object_at, is_within, is_gone, is_outside, is_misaligned, is_read_only, overlaps, place_of, cells_at, with_cells, load_at, store_at, copy_at, init_at, IsByte, IsWidth, IsStorable};
+ghost use Rattle.mem_model.specs.Memory.{fresh_object, ended_object, object_at, is_within, is_gone, is_outside, is_misaligned, is_read_only, overlaps, place_of, row_at, put_row, load_at, store_at, copy_at, init_at, IsByte, IsWidth, IsStorable};
 
 use crate::cells::Cells;
-use crate::rows::{copy_from, copy_within, read, write_bytes, write_value};
+use crate::rows::{copy_from, copy_within, load_value, write_bytes, write_value};
 use crate::value::{MemFault, Ptr, Value};
 use std::alloc::{AllocError, Global};
 use std::marker::Model;
@@ -96,7 +96,7 @@ impl Mem {
     /// made before it.
     pub fn alloc_object(&mut self, size: u64, writable: bool) -> Result<u64, AllocError>
         ensures number { IfOk result (λ id. id ≡ length self.old) }
-        ensures ok { OnOk result (self.new ≡ self.old ++ fresh size writable ∷ []) }
+        ensures ok { OnOk result (self.new ≡ self.old ++ fresh_object size writable ∷ []) }
         ensures err { OnErr result (self.new ≡ self.old) }
     {
         let cells = Cells::new(self.alloc, size as usize)?;
@@ -123,7 +123,7 @@ impl Mem {
     /// Ends an object, which gives its cells back. Takes no memory.
     pub fn end_object(&mut self, id: u64)
         requires { IsTrue (object_at self.old id).live }
-        ensures { self.new ≡ slice_set self.old id (ended (object_at self.old id)) }
+        ensures { self.new ≡ slice_set self.old id (ended_object (object_at self.old id)) }
     {
         let none = Cells::none(self.alloc);
         let object = &mut self.objects[id as usize];
@@ -181,7 +181,7 @@ impl Mem {
             return Err(MemFault::Misaligned);
         }
         let object = &self.objects[p.object as usize];
-        read(&object.cells, place(p), width as usize, pointer)
+        load_value(&object.cells, place(p), width as usize, pointer)
     }
 
     /// Stores a number, of which the low bytes of the width are kept, or a pointer (C99 6.5.16).
@@ -280,7 +280,7 @@ impl Mem {
         requires within { (is_outside self.old to size || is_outside self.old from size || overlaps to from size) ≡ false }
         requires end_to { 0 < size → place_of to.offset + size < 2 ^ 64 }
         requires end_from { 0 < size → place_of from.offset + size < 2 ^ 64 }
-        ensures { self.new ≡ with_cells self.old to (cells_at self.old from size) }
+        ensures { self.new ≡ put_row self.old to (row_at self.old from size) }
     {
         if size == 0 {
             return;
@@ -301,7 +301,7 @@ impl Mem {
         requires source { is_outside self.old from size ≡ false }
         requires same { to.object ≡ from.object }
         requires apart { (place_of to.offset + size ≤ place_of from.offset) ⊎ (place_of from.offset + size ≤ place_of to.offset) }
-        ensures { self.new ≡ with_cells self.old to (cells_at self.old from size) }
+        ensures { self.new ≡ put_row self.old to (row_at self.old from size) }
     {
         let object = &mut self.objects[to.object as usize];
         copy_within(&mut object.cells, place(to), place(from), size as usize);
@@ -317,7 +317,7 @@ impl Mem {
         requires other { to.object ≢ from.object }
         requires end_to { place_of to.offset + size < 2 ^ 64 }
         requires end_from { place_of from.offset + size < 2 ^ 64 }
-        ensures { self.new ≡ with_cells self.old to (cells_at self.old from size) }
+        ensures { self.new ≡ put_row self.old to (row_at self.old from size) }
     {
         let none = Cells::none(self.alloc);
         let target = &mut self.objects[to.object as usize];

@@ -2,7 +2,7 @@
 
 ghost use Rattle.std.specs.Prelude.{◌≡◌, ℕ, ◌+◌, ◌<◌, ◌≤◌, ◌⊎◌, length, take, drop, replicate, map, All, IfSome, true, ◌^◌, ◌*◌};
 ghost use Rattle.std.specs.List.{list_any};
-ghost use Rattle.mem_model.specs.Cells.{bytes_of, cells_of, parts_of, number_of, cell_eq, cells_eq, pointer_of, value_of, is_empty, read_of, written};
+ghost use Rattle.mem_model.specs.Cells.{bytes_of, cells_of, parts_of, number_of, cell_eq, cells_eq, pointer_of, value_of, is_empty, value_or_fault, with_row};
 ghost use Rattle.mem_model.specs.Memory.{byte_of, IsByte, IsStorable};
 ghost use Rattle.mem_model.specs.declared.value.Cell.TheVariants.{Empty};
 
@@ -135,12 +135,12 @@ fn value_at(cells: &Cells, at: usize, width: usize, pointer: bool) -> Option<Val
 }
 
 /// What a load of so many cells answers.
-pub fn read(cells: &Cells, at: usize, width: usize, pointer: bool) -> Result<Value, MemFault>
+pub fn load_value(cells: &Cells, at: usize, width: usize, pointer: bool) -> Result<Value, MemFault>
     requires within { at + width ≤ length cells.now }
     requires narrow { width ≤ 8 }
     requires whole { pointer ≡ true → width ≡ 8 }
     requires fits { at + width < 2 ^ 64 }
-    ensures { result ≡ read_of pointer (take width (drop at cells.now)) }
+    ensures { result ≡ value_or_fault pointer (take width (drop at cells.now)) }
 {
     if has_empty(cells, at, width) {
         return Err(MemFault::Never);
@@ -152,7 +152,7 @@ pub fn read(cells: &Cells, at: usize, width: usize, pointer: bool) -> Result<Val
 fn wipe(cells: &mut Cells, at: usize, size: usize)
     requires within { at + size ≤ length cells.old }
     requires fits { at + size < 2 ^ 64 }
-    ensures { cells.new ≡ written cells.old at (replicate size Empty) }
+    ensures { cells.new ≡ with_row cells.old at (replicate size Empty) }
 {
     for k in 0..size {
         cells.set(at + k, Cell::Empty);
@@ -160,10 +160,10 @@ fn wipe(cells: &mut Cells, at: usize, size: usize)
 }
 
 /// Writes a row of cells.
-fn write(cells: &mut Cells, at: usize, row: &[Cell])
+fn write_row(cells: &mut Cells, at: usize, row: &[Cell])
     requires within { at + length row.now ≤ length cells.old }
     requires fits { at + length row.now < 2 ^ 64 }
-    ensures { cells.new ≡ written cells.old at row.now }
+    ensures { cells.new ≡ with_row cells.old at row.now }
 {
     wipe(cells, at, row.len());
     for (k, cell) in row.iter().enumerate() {
@@ -177,11 +177,11 @@ pub fn write_value(cells: &mut Cells, at: usize, width: usize, value: Value)
     requires storable { IsStorable width value }
     requires within { at + width ≤ length cells.old }
     requires fits { at + width < 2 ^ 64 }
-    ensures { cells.new ≡ written cells.old at (cells_of width value) }
+    ensures { cells.new ≡ with_row cells.old at (cells_of width value) }
 {
     match value {
-        Value::Word(number) => write(cells, at, &bytes(number)[..width]),
-        Value::Address(pointer) => write(cells, at, &parts(pointer)),
+        Value::Word(number) => write_row(cells, at, &bytes(number)[..width]),
+        Value::Address(pointer) => write_row(cells, at, &parts(pointer)),
         Value::Unset => (),
     }
 }
@@ -202,7 +202,7 @@ pub fn write_bytes(cells: &mut Cells, at: usize, values: &[Value])
     requires within { at + length values.now ≤ length cells.old }
     requires bytes { All IsByte values.now }
     requires fits { at + length values.now < 2 ^ 64 }
-    ensures { cells.new ≡ written cells.old at (map byte_of values.now) }
+    ensures { cells.new ≡ with_row cells.old at (map byte_of values.now) }
 {
     for (k, value) in values.iter().enumerate() {
         cells.set(at + k, byte_cell(*value));
@@ -215,7 +215,7 @@ pub fn copy_from(cells: &mut Cells, at: usize, source: &Cells, from: usize, size
     requires source { from + size ≤ length source.now }
     requires fits_at { at + size < 2 ^ 64 }
     requires fits_from { from + size < 2 ^ 64 }
-    ensures { cells.new ≡ written cells.old at (take size (drop from source.now)) }
+    ensures { cells.new ≡ with_row cells.old at (take size (drop from source.now)) }
 {
     wipe(cells, at, size);
     for k in 0..size {
@@ -230,7 +230,7 @@ pub fn copy_within(cells: &mut Cells, to: usize, from: usize, size: usize)
     requires fits_to { to + size < 2 ^ 64 }
     requires fits_from { from + size < 2 ^ 64 }
     requires apart { (to + size ≤ from) ⊎ (from + size ≤ to) }
-    ensures { cells.new ≡ written cells.old to (take size (drop from cells.old)) }
+    ensures { cells.new ≡ with_row cells.old to (take size (drop from cells.old)) }
 {
     wipe(cells, to, size);
     for k in 0..size {

@@ -1,5 +1,5 @@
 use Rattle.std.proofs.Common.{refl, sym}
-use Rattle.mem_model.proofs.Table.{cells_kept-set}
+use Rattle.mem_model.proofs.Representation.{cells_kept-set}
 use Rattle.mem_model.proofs.cells.put_cell.Goals as goal
 
 pub returns-in-Empty-clause-cells : goal.returns-in-Empty-clause-cells

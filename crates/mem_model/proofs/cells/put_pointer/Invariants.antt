@@ -1,5 +1,5 @@
 use Rattle.std.proofs.Common.{◌≡◌, ℕ, ◌-◌, ◌+◌, vec_len, vec_capacity}
-use Rattle.mem_model.specs.Kept.{pointer_at}
+use Rattle.mem_model.specs.model.Representation.{pointer_at}
 use Rattle.mem_model.proofs.cells.put_pointer.Given as goal
 
 abbrev pub invariant-loop-pointers : goal.invariant-loop-pointers

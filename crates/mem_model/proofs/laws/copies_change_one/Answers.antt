@@ -1,4 +1,4 @@
-use Rattle.mem_model.proofs.Lasting.{copy_changes}
+use Rattle.mem_model.proofs.Changes.{copy_changes}
 use Rattle.mem_model.proofs.laws.copies_change_one.Goals as goal
 
 pub returns : goal.returns

@@ -1,4 +1,4 @@
-use Rattle.mem_model.proofs.Lasting.{store_changes}
+use Rattle.mem_model.proofs.Changes.{store_changes}
 use Rattle.mem_model.proofs.laws.stores_change_one.Goals as goal
 
 pub returns : goal.returns

@@ -1,5 +1,5 @@
 use Rattle.std.proofs.Common.{◌+◌, ◌*◌, ◌^◌, ◌<◌, sym, arith, rules}
-use Rattle.mem_model.proofs.Meanings.{number-step, number-no_byte, number_of-none, number_bound, number_fits}
+use Rattle.mem_model.proofs.RowValues.{number-step, number-no_byte, number_of-none, number_bound, number_fits}
 use Rattle.mem_model.proofs.rows.+number_at.Goals as goal
 
 pub returns-then-width-eq0-clause-value : goal.returns-then-width-eq0-clause-value

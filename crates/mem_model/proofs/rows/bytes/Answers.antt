@@ -1,4 +1,4 @@
-use Rattle.mem_model.proofs.Meanings.{le_bytes}
+use Rattle.mem_model.proofs.RowValues.{le_bytes}
 use Rattle.mem_model.proofs.rows.bytes.Goals as goal
 
 pub returns : goal.returns

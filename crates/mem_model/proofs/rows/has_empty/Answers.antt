@@ -1,6 +1,6 @@
 use Rattle.std.proofs.Common.{sym, ap}
 use Rattle.mem_model.specs.Cells.{is_empty}
-use Rattle.mem_model.proofs.Meanings.{list_any-row, list_any-step, is_empty-other}
+use Rattle.mem_model.proofs.RowValues.{list_any-row, list_any-step, is_empty-other}
 use Rattle.mem_model.proofs.rows.has_empty.Goals as goal
 
 pub returns-in-Empty : goal.returns-in-Empty

@@ -1,5 +1,5 @@
 use Rattle.std.proofs.Common.{sym, ◌∙◌, arith}
-use Rattle.mem_model.proofs.Meanings.{cells_eq-read, rows-step, rows-alike}
+use Rattle.mem_model.proofs.RowValues.{cells_eq-read, rows-step, rows-alike}
 use Rattle.mem_model.proofs.rows.is_row.Goals as goal
 
 pub returns-then-not-is_same : goal.returns-then-not-is_same

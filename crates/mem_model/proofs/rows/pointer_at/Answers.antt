@@ -1,6 +1,6 @@
 use Rattle.std.proofs.Common.{◌∷◌, [], sym, ap, ◌∙◌}
 use Rattle.mem_model.specs.Cells.{first_pointer}
-use Rattle.mem_model.proofs.Meanings.{is_null, is_whole, first_pointer-row, first_pointer-other, pointer_of-null, pointer_of-part, pointer_of-broken, pointer_of-none}
+use Rattle.mem_model.proofs.RowValues.{is_null, is_whole, first_pointer-row, first_pointer-other, pointer_of-null, pointer_of-part, pointer_of-broken, pointer_of-none}
 use Rattle.mem_model.proofs.rows.pointer_at.Goals as goal
 
 pub returns-then-is_row : goal.returns-then-is_row

@@ -1,5 +1,5 @@
 use Rattle.std.proofs.Common.{length, ap, arith}
-use Rattle.mem_model.proofs.Table.{length-cells_kept}
+use Rattle.mem_model.proofs.Representation.{length-cells_kept}
 use Rattle.mem_model.proofs.cells.Cells.len.Goals as goal
 
 pub returns : goal.returns

@@ -1,6 +1,6 @@
 use Rattle.std.proofs.Common.{arith}
 use Rattle.std.proofs.lemmas.Grind.{common_steps}
-use Rattle.mem_model.proofs.Table.{cells_kept-fresh}
+use Rattle.mem_model.proofs.Representation.{cells_kept-fresh}
 use Rattle.mem_model.proofs.cells.Cells.new.Goals as goal
 
 pub returns : goal.returns

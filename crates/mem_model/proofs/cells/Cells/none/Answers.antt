@@ -1,4 +1,4 @@
-use Rattle.mem_model.proofs.Table.{cells_kept-none}
+use Rattle.mem_model.proofs.Representation.{cells_kept-none}
 use Rattle.mem_model.proofs.cells.Cells.none.Goals as goal
 
 pub returns : goal.returns

@@ -1,5 +1,5 @@
 use Rattle.std.proofs.Common.{length, ap, arith}
-use Rattle.mem_model.proofs.Table.{length-cells_kept}
+use Rattle.mem_model.proofs.Representation.{length-cells_kept}
 use Rattle.mem_model.proofs.cells.Cells.set.Goals as goal
 
 pub put_cell-requires-clause-within : goal.put_cell-requires-clause-within

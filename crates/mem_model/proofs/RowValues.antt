@@ -12,8 +12,8 @@ use Rattle.std.specs.Cmp.{int_eq_equiv}
 use Rattle.std.proofs.lemmas.Bool.Decides.{Decides-int_eq}
 use Rattle.std.proofs.Common.{ℤ}
 use Rattle.std.proofs.lemmas.Option.{get_or_from_slice_get}
-use Rattle.mem_model.proofs.Written.{row-more, row-first, length-row}
-use Rattle.mem_model.specs.Cells.{bytes_of, parts_of, cells_of, number_of, cell_eq, cells_eq, first_pointer, pointer_of, value_of, is_empty, read_of}
+use Rattle.mem_model.proofs.RowLaws.{row-more, row-first, length-row}
+use Rattle.mem_model.specs.Cells.{bytes_of, parts_of, cells_of, number_of, cell_eq, cells_eq, first_pointer, pointer_of, value_of, is_empty, value_or_fault}
 use Rattle.mem_model.specs.declared.value.Ptr.{Ptr}
 use Rattle.mem_model.specs.declared.value.Value.{Value}
 use Rattle.mem_model.specs.declared.value.Value.TheVariants.{Word, Address}
@@ -104,13 +104,13 @@ first_pointer-other Empty rest no_part = refl
 first_pointer-other (Byte b) rest no_part = refl
 first_pointer-other (Part p k) rest no_part = absurd (no_part p k refl)
 
-pub read_of-never : (pointer : Bool) (cells : List Cell) → list_any is_empty cells ≡ true → read_of pointer cells ≡ Err Never
-unfolding read_of
-read_of-never pointer cells e = rw e refl
+pub value_or_fault-never : (pointer : Bool) (cells : List Cell) → list_any is_empty cells ≡ true → value_or_fault pointer cells ≡ Err Never
+unfolding value_or_fault
+value_or_fault-never pointer cells e = rw e refl
 
-pub read_of-value : (pointer : Bool) (cells : List Cell) → list_any is_empty cells ≡ false → read_of pointer cells ≡ ok_or (value_of pointer cells) PartPointer
-unfolding read_of
-read_of-value pointer cells e = rw e refl
+pub value_or_fault-value : (pointer : Bool) (cells : List Cell) → list_any is_empty cells ≡ false → value_or_fault pointer cells ≡ ok_or (value_of pointer cells) PartPointer
+unfolding value_or_fault
+value_or_fault-value pointer cells e = rw e refl
 
 pub is_empty-other : (c : Cell) → (c ≡ Empty → ⊥) → is_empty c ≡ false
 is_empty-other Empty other = absurd (other refl)
@@ -205,15 +205,15 @@ first_pointer-row xs at c read = ap first_pointer (row-first xs at 8 c read (ome
 
 -- whether a row is the null
 pub is_null : (cells row : List Cell) (r answer : Bool) → row ≡ bytes_of 8 0 → r ≡ cells_eq (take (length row) cells) row → r ≡ answer → cells_eq (take 8 cells) (bytes_of 8 0) ≡ answer
-is_null cells row r answer is tested gives =
+is_null cells row r answer is test_at gives =
     let eight : length (bytes_of 8 0) ≡ 8 = unfold bytes_of in refl in
-    ap (λ n. cells_eq (take n cells) (bytes_of 8 0)) (sym eight) ∙ ap (λ l. cells_eq (take (length l) cells) l) (sym is) ∙ sym tested ∙ gives
+    ap (λ n. cells_eq (take n cells) (bytes_of 8 0)) (sym eight) ∙ ap (λ l. cells_eq (take (length l) cells) l) (sym is) ∙ sym test_at ∙ gives
 
 -- whether a row is a pointer
 pub is_whole : (cells row : List Cell) (p : Ptr) (r answer : Bool) → row ≡ parts_of p → r ≡ cells_eq (take (length row) cells) row → r ≡ answer → cells_eq (take 8 cells) (parts_of p) ≡ answer
-is_whole cells row p r answer is tested gives =
+is_whole cells row p r answer is test_at gives =
     let eight : length (parts_of p) ≡ 8 = unfold parts_of in refl in
-    ap (λ n. cells_eq (take n cells) (parts_of p)) (sym eight) ∙ ap (λ l. cells_eq (take (length l) cells) l) (sym is) ∙ sym tested ∙ gives
+    ap (λ n. cells_eq (take n cells) (parts_of p)) (sym eight) ∙ ap (λ l. cells_eq (take (length l) cells) l) (sym is) ∙ sym test_at ∙ gives
 
 pub take-bytes_of : (w v n : ℕ) → w ≤ v → take w (bytes_of v n) ≡ bytes_of w n
 unfolding bytes_of

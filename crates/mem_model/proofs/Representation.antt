@@ -5,7 +5,7 @@ use Rattle.std.proofs.lemmas.Option.{slice_get_read}
 use Rattle.std.specs.Prelude.{slice_get, Some, replicate}
 use Rattle.std.proofs.lemmas.List.FromFn.{length-map-range_with_len, get_or-map-range_with_len}
 use Rattle.std.proofs.lemmas.Bool.{cases_eq}
-use Rattle.mem_model.specs.Kept.{pointer_at, homes_of, cell_of, cells_kept}
+use Rattle.mem_model.specs.model.Representation.{pointer_at, homes_of, cell_of, cells_kept}
 use Rattle.mem_model.specs.declared.value.Ptr.{Ptr}
 use Rattle.mem_model.specs.declared.value.Cell.{Cell}
 use Rattle.mem_model.specs.declared.value.Cell.TheVariants.{Empty, Part}
@@ -80,10 +80,10 @@ same_part p q j k e h = cc
 -- what is read where a mark says so
 pub slice_get-cells_kept : (marks : List Mark) (ps : List Ptr) (xs : List Cell) (k : ℕ) (mark : Mark) (cell : Cell) → cells_kept marks ps ≡ xs → k < length marks →
     get_or marks k Unwritten ≡ mark → cell_of ps (homes_of (length marks)) k mark ≡ cell → slice_get xs k ≡ Some cell
-slice_get-cells_kept marks ps xs k mark cell is within marked read =
+slice_get-cells_kept marks ps xs k mark cell is within mark_at read =
     let n : length marks ≡ length xs = sym (length-cells_kept marks ps) ∙ ap length is in
     slice_get_read xs (length marks) k cell n within
-    (sym (ap (λ ys. get_or ys k cell) (sym is) ∙ get_or-cells_kept marks ps k cell within ∙ ap (cell_of ps (homes_of (length marks)) k) marked ∙ read))
+    (sym (ap (λ ys. get_or ys k cell) (sym is) ∙ get_or-cells_kept marks ps k cell within ∙ ap (cell_of ps (homes_of (length marks)) k) mark_at ∙ read))
 
 pub cells_kept-none : (ps : List Ptr) (marks : List Mark) → marks ≡ [] → cells_kept marks ps ≡ []
 unfolding cells_kept
@@ -103,5 +103,5 @@ cells_kept-fresh ps marks size e =
         get_or-cells_kept marks ps k Empty within ∙ ap (cell_of ps (homes_of (length marks)) k) (ap (λ ms. get_or ms k Unwritten) e ∙ get_or-replicate size k Unwritten Unwritten small) ∙ sym (get_or-replicate size k Empty Empty small)
 
 -- the mark that was read
-pub marked : (marks : List Mark) (k : ℕ) (read mark : Mark) → k < length marks → read ≡ get_or marks k read → read ≡ mark → get_or marks k Unwritten ≡ mark
-marked marks k read mark within is same = sym (get_or_read marks k read within is Unwritten) ∙ same
+pub mark_at : (marks : List Mark) (k : ℕ) (read mark : Mark) → k < length marks → read ≡ get_or marks k read → read ≡ mark → get_or marks k Unwritten ≡ mark
+mark_at marks k read mark within is same = sym (get_or_read marks k read within is Unwritten) ∙ same

@@ -1,5 +1,5 @@
 -- How the cells of an object are kept: a mark for each cell, and a table of pointers.
-use Rattle.std.specs.Prelude.{ℕ, pos, ◌+◌, ◌/◌, ◌%◌, List, map, length, slice_index_or}
+use Rattle.std.specs.Prelude.{◌≡◌, ◌≢◌, ℕ, pos, ◌+◌, ◌/◌, ◌%◌, ◌<◌, List, map, length, slice_index_or}
 use Rattle.std.specs.List.{range_with_len}
 use Rattle.mem_model.specs.declared.value.Ptr.{Ptr}
 use Rattle.mem_model.specs.declared.value.Cell.{Cell}
@@ -30,3 +30,10 @@ cell_of pointers homes at (Stray k) = Part (pointer_at pointers (homes + at)) k
 -- the cells that are kept
 unfoldable pub cells_kept : List Mark → List Ptr → List Cell
 cells_kept marks pointers = map (λ at. cell_of pointers (homes_of (length marks)) at (slice_index_or marks at Unwritten)) (range_with_len 0 (length marks))
+
+-- a cell other than this one holds a part at home in the group of the two
+pub record IsOtherHome (marks : List Mark) (at k : ℕ) : Type 0 where
+  pub within : k < length marks
+  pub group : k / 8 ≡ at / 8
+  pub other : k ≢ at
+  pub home : slice_index_or marks k Unwritten ≡ Home

@@ -3,8 +3,8 @@ use Rattle.std.proofs.Common.{◌≡◌, ◌≢◌, ℕ, zero, suc, ◌+◌, ◌
 use Rattle.std.specs.Prelude.{◌||◌, ◌&&◌, not, nat_lt}
 use Rattle.std.proofs.lemmas.Bool.{cases_eq}
 use Rattle.std.proofs.lemmas.List.{get_or-set_same, get_or-set_other, length-map, nil_from_length, get_or_push, get_or_append_left}
-use Rattle.mem_model.specs.Cells.{read_of, cells_of, bytes_of, parts_of, written}
-use Rattle.mem_model.specs.Memory.{Memory, object_at, no_object, place_of, is_within, is_gone, is_outside, is_misaligned, is_read_only, overlaps, first_fault, unless, cells_at, with_cells, load_at, store_at, copy_at, init_at, byte_of, IsWidth, IsStorable, fresh}
+use Rattle.mem_model.specs.Cells.{value_or_fault, cells_of, bytes_of, parts_of, with_row}
+use Rattle.mem_model.specs.Memory.{Memory, object_at, no_object, place_of, is_within, is_gone, is_outside, is_misaligned, is_read_only, overlaps, first_fault, unless, row_at, put_row, load_at, store_at, copy_at, init_at, byte_of, IsWidth, IsStorable, fresh_object}
 use Rattle.mem_model.specs.Laws.{Apart, ChangesCells, EndChanges, MakeChanges}
 use Rattle.mem_model.specs.declared.value.Ptr.{Ptr}
 use Rattle.mem_model.specs.declared.value.Value.{Value}
@@ -13,8 +13,8 @@ use Rattle.mem_model.specs.declared.value.Cell.{Cell}
 use Rattle.mem_model.specs.declared.value.MemFault.{MemFault}
 use Rattle.mem_model.specs.declared.value.MemFault.TheVariants.{NoObject, Outside, Misaligned, ReadOnly}
 use Rattle.mem_model.specs.declared.memory.Object.{Object}
-use Rattle.mem_model.proofs.Answered.{gone-within, inside}
-use Rattle.mem_model.proofs.Written.{length-written, written-none, take-drop-written, take-drop-written_apart, length-row}
+use Rattle.mem_model.proofs.Accesses.{gone-within, inside}
+use Rattle.mem_model.proofs.RowLaws.{length-with_row, with_row-none, take-drop-with_row, take-drop-with_row_apart, length-row}
 
 -- what an answer without a fault tells
 pub record PastTwo {A : Type 0} (a b : Bool) (r new : A) : Type 0 where
@@ -41,25 +41,25 @@ past_four-ok false false true d x y z w r new e = absurd (cc)
 past_four-ok false false false true x y z w r new e = absurd (cc)
 past_four-ok false false false false x y z w r new e = record { first = refl; second = refl; third = refl; fourth = refl; is = cc }
 
-pub store_at-ok : (m new : Memory) (p : Ptr) (width : ℕ) (v : Value) → store_at m p width v ≡ Ok new → PastFour (is_gone m p) (is_outside m p width) (is_misaligned p width) (is_read_only m p) (with_cells m p (cells_of width v)) new
+pub store_at-ok : (m new : Memory) (p : Ptr) (width : ℕ) (v : Value) → store_at m p width v ≡ Ok new → PastFour (is_gone m p) (is_outside m p width) (is_misaligned p width) (is_read_only m p) (put_row m p (cells_of width v)) new
 unfolding store_at
-store_at-ok m new p width v e = past_four-ok (is_gone m p) (is_outside m p width) (is_misaligned p width) (is_read_only m p) NoObject Outside Misaligned ReadOnly (with_cells m p (cells_of width v)) new e
+store_at-ok m new p width v e = past_four-ok (is_gone m p) (is_outside m p width) (is_misaligned p width) (is_read_only m p) NoObject Outside Misaligned ReadOnly (put_row m p (cells_of width v)) new e
 
-pub copy_at-ok : (m new : Memory) (to from : Ptr) (size align : ℕ) → copy_at m to from size align ≡ Ok new → PastFour (is_gone m to || is_gone m from) (is_outside m to size || is_outside m from size || overlaps to from size) (is_misaligned to align || is_misaligned from align) (is_read_only m to) (with_cells m to (cells_at m from size)) new
+pub copy_at-ok : (m new : Memory) (to from : Ptr) (size align : ℕ) → copy_at m to from size align ≡ Ok new → PastFour (is_gone m to || is_gone m from) (is_outside m to size || is_outside m from size || overlaps to from size) (is_misaligned to align || is_misaligned from align) (is_read_only m to) (put_row m to (row_at m from size)) new
 unfolding copy_at
-copy_at-ok m new to from size align e = past_four-ok (is_gone m to || is_gone m from) (is_outside m to size || is_outside m from size || overlaps to from size) (is_misaligned to align || is_misaligned from align) (is_read_only m to) NoObject Outside Misaligned ReadOnly (with_cells m to (cells_at m from size)) new e
+copy_at-ok m new to from size align e = past_four-ok (is_gone m to || is_gone m from) (is_outside m to size || is_outside m from size || overlaps to from size) (is_misaligned to align || is_misaligned from align) (is_read_only m to) NoObject Outside Misaligned ReadOnly (put_row m to (row_at m from size)) new e
 
-pub init_at-ok : (m new : Memory) (p : Ptr) (values : List Value) → init_at m p values ≡ Ok new → PastTwo (is_gone m p) (is_outside m p (length values)) (with_cells m p (map byte_of values)) new
+pub init_at-ok : (m new : Memory) (p : Ptr) (values : List Value) → init_at m p values ≡ Ok new → PastTwo (is_gone m p) (is_outside m p (length values)) (put_row m p (map byte_of values)) new
 unfolding init_at
-init_at-ok m new p values e = past_two-ok (is_gone m p) (is_outside m p (length values)) NoObject Outside (with_cells m p (map byte_of values)) new e
+init_at-ok m new p values e = past_two-ok (is_gone m p) (is_outside m p (length values)) NoObject Outside (put_row m p (map byte_of values)) new e
 
 -- a row that may be written: it is empty, or lies within its object
 abbrev pub MayStand : Memory → Ptr → List Cell → Type 0
 MayStand m p row = (length row ≡ 0) ⊎ (place_of p.offset + length row ≤ length (object_at m p.object).cells)
 
-pub length-written_row : (xs row : List Cell) (at : ℕ) → (length row ≡ 0) ⊎ (at + length row ≤ length xs) → length (written xs at row) ≡ length xs
-length-written_row xs row at (inl none) = ap (λ l. length (written xs at l)) (nil_from_length row none) ∙ ap length (written-none xs at)
-length-written_row xs row at (inr within) = length-written xs row at within
+pub length-with_row_there : (xs row : List Cell) (at : ℕ) → (length row ≡ 0) ⊎ (at + length row ≤ length xs) → length (with_row xs at row) ≡ length xs
+length-with_row_there xs row at (inl none) = ap (λ l. length (with_row xs at l)) (nil_from_length row none) ∙ ap length (with_row-none xs at)
+length-with_row_there xs row at (inr within) = length-with_row xs row at within
 
 pub outside-stands : (m : Memory) (p : Ptr) (row : List Cell) (size : ℕ) → length row ≡ size → is_outside m p size ≡ false → MayStand m p row
 outside-stands m p row size len within = elim (cases_eq size 0) [ inl none ↦ inl (len ∙ none) | inr some ↦ inr (rest some) ]
@@ -69,38 +69,38 @@ outside-stands m p row size len within = elim (cases_eq size 0) [ inl none ↦ i
 
 module _ (m : Memory) (p : Ptr) (row : List Cell) (live : is_gone m p ≡ false) (stands : MayStand m p row) where
   put : Object
-  put = record { live = (object_at m p.object).live; writable = (object_at m p.object).writable; cells = written (object_at m p.object).cells (place_of p.offset) row }
+  put = record { live = (object_at m p.object).live; writable = (object_at m p.object).writable; cells = with_row (object_at m p.object).cells (place_of p.offset) row }
 
   -- the object itself
-  pub object-here : object_at (with_cells m p row) p.object ≡ record { live = (object_at m p.object).live; writable = (object_at m p.object).writable; cells = written (object_at m p.object).cells (place_of p.offset) row }
+  pub object-here : object_at (put_row m p row) p.object ≡ record { live = (object_at m p.object).live; writable = (object_at m p.object).writable; cells = with_row (object_at m p.object).cells (place_of p.offset) row }
   object-here = get_or-set_same m p.object _ no_object (gone-within m p live)
 
-  pub object-other : (k : ℕ) → k ≢ p.object → object_at (with_cells m p row) k ≡ object_at m k
+  pub object-other : (k : ℕ) → k ≢ p.object → object_at (put_row m p row) k ≡ object_at m k
   object-other k ne = get_or-set_other m p.object k _ no_object ne
 
-  pub changes_cells : ChangesCells m (with_cells m p row) p.object
+  pub changes_cells : ChangesCells m (put_row m p row) p.object
   changes_cells = record {
     count = length-set m p.object _;
     live = ap (λ (x : Object). x.live) object-here;
     writable = ap (λ (x : Object). x.writable) object-here;
-    size = ap (λ (x : Object). length x.cells) object-here ∙ length-written_row (object_at m p.object).cells row (place_of p.offset) stands;
+    size = ap (λ (x : Object). length x.cells) object-here ∙ length-with_row_there (object_at m p.object).cells row (place_of p.offset) stands;
     others = object-other;
   }
 
-  pub cells_at-here : cells_at (with_cells m p row) p (length row) ≡ row
-  cells_at-here = ap (λ (x : Object). take (length row) (drop (place_of p.offset) x.cells)) object-here ∙ back stands
+  pub row_at-here : row_at (put_row m p row) p (length row) ≡ row
+  row_at-here = ap (λ (x : Object). take (length row) (drop (place_of p.offset) x.cells)) object-here ∙ back stands
     where
-      back : MayStand m p row → take (length row) (drop (place_of p.offset) (written (object_at m p.object).cells (place_of p.offset) row)) ≡ row
-      back (inl none) = ap (λ n. take n (drop (place_of p.offset) (written (object_at m p.object).cells (place_of p.offset) row))) none ∙ sym (nil_from_length row none)
-      back (inr within) = take-drop-written (object_at m p.object).cells row (place_of p.offset) within
+      back : MayStand m p row → take (length row) (drop (place_of p.offset) (with_row (object_at m p.object).cells (place_of p.offset) row)) ≡ row
+      back (inl none) = ap (λ n. take n (drop (place_of p.offset) (with_row (object_at m p.object).cells (place_of p.offset) row))) none ∙ sym (nil_from_length row none)
+      back (inr within) = take-drop-with_row (object_at m p.object).cells row (place_of p.offset) within
 
 -- a load where the tests and the cells are as before
-pub load_at-same : (m n : Memory) (q : Ptr) (width : ℕ) (pointer : Bool) → is_gone n q ≡ is_gone m q → is_outside n q width ≡ is_outside m q width → cells_at n q width ≡ cells_at m q width → load_at n q width pointer ≡ load_at m q width pointer
+pub load_at-same : (m n : Memory) (q : Ptr) (width : ℕ) (pointer : Bool) → is_gone n q ≡ is_gone m q → is_outside n q width ≡ is_outside m q width → row_at n q width ≡ row_at m q width → load_at n q width pointer ≡ load_at m q width pointer
 unfolding load_at
 load_at-same m n q width pointer gone outside cells =
-    ap (λ b. unless (first_fault ((b, NoObject) ∷ (is_outside n q width, Outside) ∷ (is_misaligned q width, Misaligned) ∷ [])) (read_of pointer (cells_at n q width))) gone
-    ∙ ap (λ b. unless (first_fault ((is_gone m q, NoObject) ∷ (b, Outside) ∷ (is_misaligned q width, Misaligned) ∷ [])) (read_of pointer (cells_at n q width))) outside
-    ∙ ap (λ l. unless (first_fault ((is_gone m q, NoObject) ∷ (is_outside m q width, Outside) ∷ (is_misaligned q width, Misaligned) ∷ [])) (read_of pointer l)) cells
+    ap (λ b. unless (first_fault ((b, NoObject) ∷ (is_outside n q width, Outside) ∷ (is_misaligned q width, Misaligned) ∷ [])) (value_or_fault pointer (row_at n q width))) gone
+    ∙ ap (λ b. unless (first_fault ((is_gone m q, NoObject) ∷ (b, Outside) ∷ (is_misaligned q width, Misaligned) ∷ [])) (value_or_fault pointer (row_at n q width))) outside
+    ∙ ap (λ l. unless (first_fault ((is_gone m q, NoObject) ∷ (is_outside m q width, Outside) ∷ (is_misaligned q width, Misaligned) ∷ [])) (value_or_fault pointer l)) cells
 
 module _ (m new : Memory) (id : ℕ) (changes : ChangesCells m new id) where
   pub live-kept : (k : ℕ) → (object_at new k).live ≡ (object_at m k).live
@@ -116,29 +116,29 @@ module _ (m new : Memory) (id : ℕ) (changes : ChangesCells m new id) where
   outside-kept q size = ap (λ n. nat_lt 0 size && not (is_within q.offset size n)) (size-kept q.object)
 
 module _ (m : Memory) (p : Ptr) (row : List Cell) (live : is_gone m p ≡ false) (stands : MayStand m p row) where
-  pub cells_at-apart : (q : Ptr) (other : ℕ) → Apart p (length row) q other → cells_at (with_cells m p row) q other ≡ cells_at m q other
-  cells_at-apart q other (inl ne) = ap (λ (x : Object). take other (drop (place_of q.offset) x.cells)) (object-other m p row live stands q.object (λ e. ne (sym e)))
-  cells_at-apart q other (inr apart) = elim (cases_eq q.object p.object) [ inl e ↦ here e stands | inr ne ↦ ap (λ (x : Object). take other (drop (place_of q.offset) x.cells)) (object-other m p row live stands q.object ne) ]
+  pub row_at-apart : (q : Ptr) (other : ℕ) → Apart p (length row) q other → row_at (put_row m p row) q other ≡ row_at m q other
+  row_at-apart q other (inl ne) = ap (λ (x : Object). take other (drop (place_of q.offset) x.cells)) (object-other m p row live stands q.object (λ e. ne (sym e)))
+  row_at-apart q other (inr apart) = elim (cases_eq q.object p.object) [ inl e ↦ here e stands | inr ne ↦ ap (λ (x : Object). take other (drop (place_of q.offset) x.cells)) (object-other m p row live stands q.object ne) ]
     where
       swap : (place_of p.offset + length row ≤ place_of q.offset) ⊎ (place_of q.offset + other ≤ place_of p.offset) → (place_of q.offset + other ≤ place_of p.offset) ⊎ (place_of p.offset + length row ≤ place_of q.offset)
       swap (inl a) = inr a
       swap (inr b) = inl b
 
-      rows : MayStand m p row → take other (drop (place_of q.offset) (written (object_at m p.object).cells (place_of p.offset) row)) ≡ take other (drop (place_of q.offset) (object_at m p.object).cells)
-      rows (inl none) = ap (λ l. take other (drop (place_of q.offset) (written (object_at m p.object).cells (place_of p.offset) l))) (nil_from_length row none) ∙ ap (λ l. take other (drop (place_of q.offset) l)) (written-none (object_at m p.object).cells (place_of p.offset))
-      rows (inr within) = take-drop-written_apart (object_at m p.object).cells row (place_of p.offset) (place_of q.offset) other within (swap apart)
+      rows : MayStand m p row → take other (drop (place_of q.offset) (with_row (object_at m p.object).cells (place_of p.offset) row)) ≡ take other (drop (place_of q.offset) (object_at m p.object).cells)
+      rows (inl none) = ap (λ l. take other (drop (place_of q.offset) (with_row (object_at m p.object).cells (place_of p.offset) l))) (nil_from_length row none) ∙ ap (λ l. take other (drop (place_of q.offset) l)) (with_row-none (object_at m p.object).cells (place_of p.offset))
+      rows (inr within) = take-drop-with_row_apart (object_at m p.object).cells row (place_of p.offset) (place_of q.offset) other within (swap apart)
 
-      here : q.object ≡ p.object → MayStand m p row → cells_at (with_cells m p row) q other ≡ cells_at m q other
+      here : q.object ≡ p.object → MayStand m p row → row_at (put_row m p row) q other ≡ row_at m q other
       here e s =
-          ap (λ j. take other (drop (place_of q.offset) (object_at (with_cells m p row) j).cells)) e
+          ap (λ j. take other (drop (place_of q.offset) (object_at (put_row m p row) j).cells)) e
           ∙ ap (λ (x : Object). take other (drop (place_of q.offset) x.cells)) (object-here m p row live stands)
           ∙ rows s
           ∙ ap (λ j. take other (drop (place_of q.offset) (object_at m j).cells)) (sym e)
 
-  pub load_at-apart : (q : Ptr) (other : ℕ) (pointer : Bool) → Apart p (length row) q other → load_at (with_cells m p row) q other pointer ≡ load_at m q other pointer
+  pub load_at-apart : (q : Ptr) (other : ℕ) (pointer : Bool) → Apart p (length row) q other → load_at (put_row m p row) q other pointer ≡ load_at m q other pointer
   load_at-apart q other pointer apart =
       let changes = changes_cells m p row live stands in
-      load_at-same m (with_cells m p row) q other pointer (gone-kept m _ p.object changes q) (outside-kept m _ p.object changes q other) (cells_at-apart q other apart)
+      load_at-same m (put_row m p row) q other pointer (gone-kept m _ p.object changes q) (outside-kept m _ p.object changes q other) (row_at-apart q other apart)
 
 pub length-bytes_of : (width n : ℕ) → length (bytes_of width n) ≡ width
 unfolding bytes_of
@@ -180,19 +180,19 @@ none_left true b e = absurd (cc)
 none_left false b e = (refl, e)
 
 -- the source of a copy has as many cells as are copied
-pub length-cells_at : (m : Memory) (p : Ptr) (size : ℕ) → is_outside m p size ≡ false → length (cells_at m p size) ≡ size
-length-cells_at m p size within = elim (cases_eq size 0) [ inl none ↦ ap (λ n. length (cells_at m p n)) none ∙ sym none | inr some ↦ rest some ]
+pub length-row_at : (m : Memory) (p : Ptr) (size : ℕ) → is_outside m p size ≡ false → length (row_at m p size) ≡ size
+length-row_at m p size within = elim (cases_eq size 0) [ inl none ↦ ap (λ n. length (row_at m p n)) none ∙ sym none | inr some ↦ rest some ]
   where
-    rest : size ≢ 0 → length (cells_at m p size) ≡ size
+    rest : size ≢ 0 → length (row_at m p size) ≡ size
     rest some =
         let positive : 0 < size = omega arith in
         length-row (object_at m p.object).cells (place_of p.offset) size (inside m p size (object_at m p.object) (place_of p.offset) refl refl positive within)
 
 pub record Copied (m new : Memory) (to from : Ptr) (size : ℕ) : Type 0 where
   pub live : is_gone m to ≡ false
-  pub stands : MayStand m to (cells_at m from size)
-  pub len : length (cells_at m from size) ≡ size
-  pub is : with_cells m to (cells_at m from size) ≡ new
+  pub stands : MayStand m to (row_at m from size)
+  pub len : length (row_at m from size) ≡ size
+  pub is : put_row m to (row_at m from size) ≡ new
 
 pub copy_is : (m new : Memory) (to from : Ptr) (size align : ℕ) → copy_at m to from size align ≡ Ok new → Copied m new to from size
 copy_is m new to from size align e =
@@ -200,22 +200,22 @@ copy_is m new to from size align e =
     let gone = none_left (is_gone m to) (is_gone m from) f.first in
     let out = none_left (is_outside m to size || is_outside m from size) (overlaps to from size) f.second in
     let outs = none_left (is_outside m to size) (is_outside m from size) out.0 in
-    let len : length (cells_at m from size) ≡ size = length-cells_at m from size outs.1 in
-    record { live = gone.0; stands = outside-stands m to (cells_at m from size) size len outs.0; len = len; is = f.is }
+    let len : length (row_at m from size) ≡ size = length-row_at m from size outs.1 in
+    record { live = gone.0; stands = outside-stands m to (row_at m from size) size len outs.0; len = len; is = f.is }
 
 pub copy_changes : (m new : Memory) (to from : Ptr) (size align : ℕ) → copy_at m to from size align ≡ Ok new → ChangesCells m new to.object
 copy_changes m new to from size align e =
-    let f = copy_is m new to from size align e in subst (λ n. ChangesCells m n to.object) f.is (changes_cells m to (cells_at m from size) f.live f.stands)
+    let f = copy_is m new to from size align e in subst (λ n. ChangesCells m n to.object) f.is (changes_cells m to (row_at m from size) f.live f.stands)
 
 pub copy_keeps : (m new : Memory) (to from q : Ptr) (size align other : ℕ) (pointer : Bool) → copy_at m to from size align ≡ Ok new → Apart to size q other → load_at new q other pointer ≡ load_at m q other pointer
 copy_keeps m new to from q size align other pointer e apart =
     let f = copy_is m new to from size align e in
-    subst (λ n. load_at n q other pointer ≡ load_at m q other pointer) f.is (load_at-apart m to (cells_at m from size) f.live f.stands q other pointer (subst (λ n. Apart to n q other) (sym f.len) apart))
+    subst (λ n. load_at n q other pointer ≡ load_at m q other pointer) f.is (load_at-apart m to (row_at m from size) f.live f.stands q other pointer (subst (λ n. Apart to n q other) (sym f.len) apart))
 
-pub copy_gives : (m new : Memory) (to from : Ptr) (size align : ℕ) → copy_at m to from size align ≡ Ok new → cells_at new to size ≡ cells_at m from size
+pub copy_gives : (m new : Memory) (to from : Ptr) (size align : ℕ) → copy_at m to from size align ≡ Ok new → row_at new to size ≡ row_at m from size
 copy_gives m new to from size align e =
     let f = copy_is m new to from size align e in
-    ap (λ n. cells_at n to size) (sym f.is) ∙ ap (λ n. cells_at (with_cells m to (cells_at m from size)) to n) (sym f.len) ∙ cells_at-here m to (cells_at m from size) f.live f.stands
+    ap (λ n. row_at n to size) (sym f.is) ∙ ap (λ n. row_at (put_row m to (row_at m from size)) to n) (sym f.len) ∙ row_at-here m to (row_at m from size) f.live f.stands
 
 -- the objects and ranges of a copy
 pub record CopyParts (m : Memory) (to from : Ptr) (size : ℕ) : Type 0 where
@@ -224,8 +224,8 @@ pub record CopyParts (m : Memory) (to from : Ptr) (size : ℕ) : Type 0 where
   pub target : is_outside m to size ≡ false
   pub source : is_outside m from size ≡ false
 
-pub copied_is : (m new : Memory) (to from : Ptr) (size align : ℕ) → copy_at m to from size align ≡ Ok new → CopyParts m to from size
-copied_is m new to from size align e =
+pub copy_parts : (m new : Memory) (to from : Ptr) (size align : ℕ) → copy_at m to from size align ≡ Ok new → CopyParts m to from size
+copy_parts m new to from size align e =
     let f = copy_at-ok m new to from size align e in
     let gone = none_left (is_gone m to) (is_gone m from) f.first in
     let out = none_left (is_outside m to size || is_outside m from size) (overlaps to from size) f.second in
@@ -241,6 +241,6 @@ end_changes m id = record {
 
 pub make_changes : (m : Memory) (size : ℕ) (writable : Bool) → MakeChanges m size writable
 make_changes m size writable = record {
-  here = get_or_push m (fresh size writable) no_object (length m) refl;
-  others = λ k within. get_or_append_left m (fresh size writable ∷ []) no_object k within;
+  here = get_or_push m (fresh_object size writable) no_object (length m) refl;
+  others = λ k within. get_or_append_left m (fresh_object size writable ∷ []) no_object k within;
 }
