@@ -1,15 +1,18 @@
 #!/usr/bin/env python3
-"""Prints single steps with operands at the edges, for crates/alpha_run/src/machine/tests.rt.
+"""Prints rows of single steps with operands at the edges, for crates/rows/data/steps.rows.
 
-Each line is a word, the words of $2, $3 and memory, then `=` and what the step leaves: how a run of five
-steps ends whose last one it is, $4, which held 7777 (hexadecimal 1e61), and memory. The words come from GNU
-as, and the results from Python's integers by the text of the Alpha Architecture Handbook, and so neither
-from our code. Operations read $2 and $3 and write $4; loads and stores have the address of memory in $1.
+Each row is a word with the words of $2, $3, $4 and memory, then what the step leaves: where it goes on, $4
+and memory, or how the run ends there. The words come from GNU as, and the results from Python's integers by
+the text of the Alpha Architecture Handbook, and so neither from our code. Operations read $2 and $3 and write
+$4; loads and stores have the address of memory in $1; branches and jumps write the next address to $4.
+With the word `frame` it prints the program that the step stands in, for crates/rows/src/steps.rt.
 
 Needs Debian's binutils-alpha-linux-gnu. Run at the top of the repository:
 
     python3 tools/alpha_steps.py
 """
+
+import sys
 
 from alpha_assembler import assembled
 
@@ -112,53 +115,169 @@ PAIRS = {
     "sextw": [(0, 0x8000), (0, 0x17FFF)],
 }
 
+# The step is the seventh word. Behind it `$5` is set, which a step that goes ahead passes over, and a step
+# that goes behind comes to the first word, where it is set to another number. Then `$5`, `$4` and memory are put.
+FRAME = """
+lda $5, 2($31)
+br $31, .+4+4*6
+ldah $1, 2($31)
+ldq $2, 8($1)
+ldq $3, 16($1)
+ldq $4, 24($1)
+call_pal 0
+lda $5, 1($31)
+bis $31, $5, $16
+lda $0, 2($31)
+call_pal 0x83
+lda $6, 8($31)
+bis $31, $4, $16
+lda $0, 2($31)
+call_pal 0x83
+srl $4, 8, $4
+subq $6, 1, $6
+bne $6, .+4+4*(-6)
+ldah $1, 2($31)
+ldq $4, 0($1)
+lda $6, 8($31)
+bis $31, $4, $16
+lda $0, 2($31)
+call_pal 0x83
+srl $4, 8, $4
+subq $6, 1, $6
+bne $6, .+4+4*(-6)
+bis $31, $31, $16
+lda $0, 1($31)
+call_pal 0x83
+""".strip().split("\n")
+
+TEXT = 65536
+STEP = TEXT + 4 * 6
+AFTER = STEP + 4
+AHEAD = STEP + 8
+PLACES = {AFTER: "next", AHEAD: "ahead", TEXT: "behind"}
+
 LOADS = {"ldbu": (1, False), "ldwu": (2, False), "ldl": (4, True), "ldq": (8, False)}
 STORES = {"stb": 1, "stw": 2, "stl": 4, "stq": 8}
 HELD = 0x80FF7F0180FF8081
-STUCK = "Stuck { pc: 65552 }"
+TRAPPED = "Trap { code: 3 }"
+STUCK = f"Stuck {{ pc: {STEP} }}"
+
+
+# The tests that branches make of their register.
+TESTS = {
+    "blbc": lambda a: a % 2 == 0,
+    "blbs": lambda a: a % 2 == 1,
+    "beq": lambda a: a == 0,
+    "bne": lambda a: a != 0,
+    "blt": lambda a: signed(a, 64) < 0,
+    "bge": lambda a: signed(a, 64) >= 0,
+    "ble": lambda a: signed(a, 64) <= 0,
+    "bgt": lambda a: signed(a, 64) > 0,
+}
+
+TESTED = [0, 1, 2, ONES, ONES - 1, MAX64, MIN64, MIN64 + 1, 2**32]
 
 
 def load(name, held, displacement):
-    """How the run ends, and the word that was loaded."""
+    """What was loaded, or how the run ends."""
     size, is_signed = LOADS[name]
     if displacement % size:
-        return STUCK, KEPT
+        return STUCK
     read = held >> 8 * displacement & (2 ** (8 * size) - 1)
-    return "Budget", extended(read, 32) if is_signed else read
+    return extended(read, 32) if is_signed else read
 
 
 def store(name, word, held, displacement):
-    """How the run ends, and what memory holds then."""
+    """What memory holds then, or how the run ends."""
     size = STORES[name]
     if displacement % size:
-        return STUCK, held
+        return STUCK
     part = (2 ** (8 * size) - 1) << 8 * displacement
-    return "Budget", held & ~part | (word << 8 * displacement & part)
+    return held & ~part | (word << 8 * displacement & part)
 
 
-def rows():
-    """A line of assembly, the words of $2, $3 and memory, and what the step leaves."""
+def left(place, register, memory):
+    """What a step leaves that goes on at a place, or ends the run there."""
+    for ending in (register, memory):
+        if isinstance(ending, str):
+            return ending
+    return f"{PLACES[place]} {register:x} {memory:x}"
+
+
+def operation_rows():
     for name, pairs in PAIRS.items():
         line = f"{name} $3, $4" if name.startswith("sext") else f"{name} $2, $3, $4"
         for a, b in pairs:
             result = OPERATIONS[name](a, b)
-            ending, register = ("Trap { code: 3 }", KEPT) if result == "trap" else ("Budget", result)
-            yield line, (a, b, HELD), (ending, register, HELD)
+            yield line, (a, b, KEPT, HELD), left(AFTER, TRAPPED if result == "trap" else result, HELD)
+
+
+def memory_rows():
     for name, (size, _) in LOADS.items():
         for displacement in sorted({0, 8 - size, 3}):
-            ending, register = load(name, HELD, displacement)
-            yield f"{name} $4, {displacement}($1)", (0, 0, HELD), (ending, register, HELD)
+            line = f"{name} $4, {displacement}($1)"
+            yield line, (0, 0, KEPT, HELD), left(AFTER, load(name, HELD, displacement), HELD)
     for name, size in STORES.items():
         for displacement in sorted({0, 8 - size, 5}):
-            ending, memory = store(name, HELD, ONES, displacement)
-            yield f"{name} $2, {displacement}($1)", (HELD, 0, ONES), (ending, KEPT, memory)
+            line = f"{name} $2, {displacement}($1)"
+            yield line, (HELD, 0, KEPT, ONES), left(AFTER, KEPT, store(name, HELD, ONES, displacement))
+
+
+def address_rows():
+    for name, unit in (("lda", 1), ("ldah", 65536)):
+        for displacement in (0, 1, -1, 32767, -32768):
+            for base in (0, ONES, MAX64, MIN64, MAX32):
+                result = (base + unit * displacement) & MASK
+                yield f"{name} $4, {displacement}($2)", (base, 0, KEPT, HELD), left(AFTER, result, HELD)
+        yield f"{name} $4, 7($31)", (0, 0, KEPT, HELD), left(AFTER, 7 * unit, HELD)
+        yield f"{name} $31, 7($2)", (5, 0, KEPT, HELD), left(AFTER, KEPT, HELD)
+
+
+def branch_rows():
+    for name in ("br", "bsr"):
+        for displacement in (1, 0, -7):
+            line = f"{name} $4, .+4+4*({displacement})"
+            yield line, (0, 0, KEPT, HELD), left(AFTER + 4 * displacement, AFTER, HELD)
+        yield f"{name} $31, .+4+4*1", (0, 0, KEPT, HELD), left(AHEAD, KEPT, HELD)
+    for name, test in TESTS.items():
+        for number, a in enumerate(TESTED):
+            displacement = -7 if number % 2 else 1
+            place = AFTER + 4 * displacement if test(a) else AFTER
+            yield f"{name} $2, .+4+4*({displacement})", (a, 0, KEPT, HELD), left(place, KEPT, HELD)
+        place = AHEAD if test(0) else AFTER
+        yield f"{name} $31, .+4+4*1", (ONES, 0, KEPT, HELD), left(place, KEPT, HELD)
+
+
+def jump_rows():
+    for name in ("jmp", "jsr", "ret"):
+        for target in (AFTER, AHEAD, AHEAD + 1, AHEAD + 3, TEXT, TEXT + 2):
+            line = f"{name} $4, ($2), 0"
+            yield line, (target, 0, KEPT, HELD), left(target // 4 * 4, AFTER, HELD)
+        yield f"{name} $4, ($4), 0", (0, 0, AHEAD, HELD), left(AHEAD, AFTER, HELD)
+        yield f"{name} $31, ($2), 0", (TEXT, 0, KEPT, HELD), left(TEXT, KEPT, HELD)
+    for target in (0, TEXT - 4, TEXT + 4 * len(FRAME), 2**32 + AHEAD, MIN64 + AHEAD):
+        place = target // 4 * 4
+        yield "jmp $4, ($2), 0", (target, 0, KEPT, HELD), f"Stuck {{ pc: {place} }}"
+
+
+def rows():
+    """A line of assembly, the words of $2, $3, $4 and memory, and what the step leaves."""
+    yield from operation_rows()
+    yield from memory_rows()
+    yield from address_rows()
+    yield from branch_rows()
+    yield from jump_rows()
 
 
 def main():
+    if sys.argv[1:] == ["frame"]:
+        for word, line in zip(assembled(FRAME), FRAME):
+            print(f"    0x{word >> 16:04x}_{word & 0xFFFF:04x}, // {line}")
+        return
     table = list(rows())
-    for word, (_, given, (ending, register, memory)) in zip(assembled([row[0] for row in table]), table):
-        words = " ".join(f"{number:016x}" for number in given)
-        print(f"{word:08x} {words} = {ending} {register:016x} {memory:016x}")
+    for word, (_, given, due) in zip(assembled([row[0] for row in table]), table):
+        words = " ".join(f"{number:x}" for number in given)
+        print(f"{word:08x} {words} => {due}")
 
 
 if __name__ == "__main__":

@@ -1,7 +1,7 @@
 #!/usr/bin/env python3
-"""Prints words of instructions, as GNU binutils assembles them, for crates/alpha_isa/src/tests.rt.
+"""Prints words of instructions, as GNU binutils assembles them, for crates/rows/data/encodings.rows.
 
-Each line is a word in hexadecimal, a blank, and the instruction as our Debug text has it. The words
+Each row is a word in hexadecimal, an arrow, and the instruction as our Debug text has it. The words
 come from an assembler that is not ours, so that the table tests the encoding against another maker's.
 
 Needs Debian's binutils-alpha-linux-gnu. Run at the top of the repository:
@@ -81,7 +81,7 @@ def rows():
 def main():
     table = list(rows())
     for word, (_, instruction) in zip(assembled([line for line, _ in table]), table):
-        print(f"{word:08x} {instruction}")
+        print(f"{word:08x} => {instruction}")
 
 
 if __name__ == "__main__":

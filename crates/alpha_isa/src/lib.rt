@@ -10,5 +10,3 @@ pub mod encode;
 pub mod image;
 pub mod insn;
 pub mod laws;
-#[cfg(test)]
-mod tests;

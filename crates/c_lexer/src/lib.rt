@@ -14,8 +14,6 @@ mod literals;
 mod marks;
 mod numbers;
 mod piece;
-#[cfg(test)]
-mod tests;
 mod token;
 mod words;
 
