@@ -1,3 +1,4 @@
 mod Lines
 pub mod Rows
 pub mod Counts
+pub mod Heights

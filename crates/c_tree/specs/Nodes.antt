@@ -1,5 +1,5 @@
 -- The nodes of a tree: what the line of each says, and what stands under it.
-use Rattle.std.specs.Prelude.{ℕ, suc, ◌+◌, List, [], ◌∷◌, ◌++◌, Option, Some, None, codes}
+use Rattle.std.specs.Prelude.{ℕ, suc, ◌+◌, max, List, [], ◌∷◌, ◌++◌, Option, Some, None, codes}
 use Rattle.c_tree.specs.Words.{unary_word, step_word, binary_word, assign_word, basic_words, storage_text, name_or_dash, spaced}
 use Rattle.c_tree.specs.declared.expressions.Expr as e
 use Rattle.c_tree.specs.declared.types.TypeNode as t
@@ -246,3 +246,15 @@ abbrev mutual
 
 abbrev pub unit_nodes : TranslationUnit → ℕ
 unit_nodes unit = nodes_count (nodes_of external_node unit.externals)
+
+-- the greatest number of nodes that stand one under the other
+abbrev mutual
+  pub node_height : Node → ℕ
+  node_height (node line children) = suc (nodes_height children)
+
+  pub nodes_height : Nodes → ℕ
+  nodes_height none = 0
+  nodes_height (more n ns) = max (node_height n) (nodes_height ns)
+
+abbrev pub unit_height : TranslationUnit → ℕ
+unit_height unit = nodes_height (nodes_of external_node unit.externals)

@@ -7,6 +7,7 @@
 mod boxed;
 pub mod declarations;
 pub mod expressions;
+mod height;
 mod name;
 mod print;
 mod print_units;
@@ -18,6 +19,7 @@ mod words;
 pub use boxed::Box;
 pub use declarations::{External, FunctionEnd, Init, Storage, TranslationUnit};
 pub use expressions::{AssignOp, BinaryOp, Expr, StepOp, UnaryOp};
+pub use height::is_within_height;
 pub use name::Name;
 pub use print_units::tree_text;
 pub use seq::Seq;
