@@ -6,7 +6,7 @@ use Rattle.c_lexer.specs.declared.piece.Piece.TheVariants as p
 use Rattle.c_lexer.specs.declared.piece.Cut.{Cut}
 use Rattle.c_lexer.specs.Blanks.{is_line_start}
 use Rattle.c_lexer.specs.Pieces.{Cuts, Lexeme, lexeme, Pieces, Toks, Tokens, IsStuck, FaultAt}
-use Rattle.c_lexer.specs.Front.{front}
+use Rattle.c_lexer.specs.model.Front.{front}
 use Rattle.c_lexer.proofs.Fronts.{Answers, front_answers}
 use Rattle.c_lexer.proofs.Once.{cuts_some}
 

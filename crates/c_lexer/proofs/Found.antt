@@ -4,7 +4,7 @@ use Rattle.std.specs.Prelude.{IfSome, IfNone}
 use Rattle.c_lexer.specs.declared.piece.Piece.{Piece}
 use Rattle.c_lexer.specs.declared.piece.Cut.{Cut}
 use Rattle.c_lexer.specs.Pieces.{piece_of, Begins}
-use Rattle.c_lexer.specs.Front.{front}
+use Rattle.c_lexer.specs.model.Front.{front}
 use Rattle.c_lexer.proofs.Fronts.{Answers, front_answers}
 
 answers : (first : Bool) (s : List ℕ) (o : Option Cut) → o ≡ front first s → Answers first s o

@@ -17,7 +17,7 @@ use Rattle.c_lexer.specs.Numbers.{is_number}
 use Rattle.c_lexer.specs.Literals.{char_end, text_end}
 use Rattle.c_lexer.specs.Blanks.{close_at, is_linemarker}
 use Rattle.c_lexer.specs.Pieces.{is_at, is_comment, when, marked, piece_of, IsLongest, is_none, first_passes, is_fault, Begins}
-use Rattle.c_lexer.specs.Front as model
+use Rattle.c_lexer.specs.model.Front as model
 use Rattle.c_lexer.proofs.Options.{by_test, not_both}
 use Rattle.c_lexer.proofs.Runs.{all_within, all_over, first_run}
 use Rattle.c_lexer.proofs.Ends.{EndsAt, close_ends, text_ends, char_ends}

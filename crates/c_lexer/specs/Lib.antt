@@ -6,5 +6,5 @@ pub mod Quotes
 pub mod Literals
 pub mod Blanks
 pub mod Pieces
-pub mod Front
+pub mod model
 pub mod Steps

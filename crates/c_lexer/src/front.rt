@@ -3,7 +3,7 @@
 ghost use Rattle.std.specs.Prelude.{◌≡◌, ◌<◌, ◌≤◌, ◌^◌, ℕ, IfNone, IfSome, length};
 ghost use Rattle.c_lexer.specs.Blanks.{is_line_start as is_first};
 ghost use Rattle.c_lexer.specs.Bytes.{is_digit as is_digit_byte};
-ghost use Rattle.c_lexer.specs.Front as model;
+ghost use Rattle.c_lexer.specs.model.Front as model;
 ghost use Rattle.c_lexer.specs.Pieces.{Begins, first_passes};
 ghost use Rattle.c_lexer.specs.declared.piece.Piece.{Piece};
 
@@ -16,7 +16,7 @@ use crate::piece::{Cut, Piece};
 use crate::token::TokenKind;
 use crate::words::word_kind;
 
-#[tactic(auto, unfolding(crate::specs::Front::word_at))]
+#[tactic(auto, unfolding(crate::specs::model::Front::word_at))]
 fn word_at(s: &[u8]) -> Option<Cut>
     ensures { result ≡ model.word_at s.now }
 {
@@ -27,7 +27,7 @@ fn word_at(s: &[u8]) -> Option<Cut>
     })
 }
 
-#[tactic(auto, unfolding(crate::specs::Front::number_at))]
+#[tactic(auto, unfolding(crate::specs::model::Front::number_at))]
 fn number_at(s: &[u8]) -> Option<Cut>
     ensures { result ≡ model.number_at s.now }
 {
@@ -42,7 +42,7 @@ fn number_at(s: &[u8]) -> Option<Cut>
     }
 }
 
-#[tactic(auto, unfolding(crate::specs::Front::slash_at))]
+#[tactic(auto, unfolding(crate::specs::model::Front::slash_at))]
 fn slash_at(s: &[u8]) -> Option<Cut>
     requires { length s.now < 2 ^ 62 }
     ensures { result ≡ model.slash_at s.now }
@@ -80,7 +80,7 @@ fn begins_with_digit(s: &[u8]) -> bool
     }
 }
 
-#[tactic(auto, unfolding(crate::specs::Front::dot_at))]
+#[tactic(auto, unfolding(crate::specs::model::Front::dot_at))]
 fn dot_at(s: &[u8]) -> Option<Cut>
     ensures { result ≡ model.dot_at s.now }
 {
@@ -96,7 +96,7 @@ fn dot_at(s: &[u8]) -> Option<Cut>
     }
 }
 
-#[tactic(auto, unfolding(crate::specs::Front::marker_at))]
+#[tactic(auto, unfolding(crate::specs::model::Front::marker_at))]
 fn marker_at(before: &[u8], s: &[u8]) -> Option<Cut>
     requires { length s.now < 2 ^ 62 }
     ensures { result ≡ model.marker_at (is_first before.now) s.now }
@@ -122,7 +122,7 @@ fn ended(piece: Piece, end: Option<usize>) -> Option<Cut>
     }
 }
 
-#[tactic(auto, unfolding(crate::specs::Front::other_at))]
+#[tactic(auto, unfolding(crate::specs::model::Front::other_at))]
 fn other_at(before: &[u8], s: &[u8]) -> Option<Cut>
     requires { length s.now < 2 ^ 62 }
     ensures { result ≡ model.other_at (is_first before.now) s.now }
@@ -138,7 +138,7 @@ fn other_at(before: &[u8], s: &[u8]) -> Option<Cut>
     }
 }
 
-#[tactic(auto, unfolding(crate::specs::Front::front))]
+#[tactic(auto, unfolding(crate::specs::model::Front::front))]
 fn front(before: &[u8], s: &[u8]) -> Option<Cut>
     requires { length s.now < 2 ^ 62 }
     ensures { result ≡ model.front (is_first before.now) s.now }

@@ -1,7 +1,7 @@
 //! The punctuators (C99 6.4.6), by their one, two or three bytes.
 
 ghost use Rattle.std.specs.Prelude.{◌≡◌};
-ghost use Rattle.c_lexer.specs.Front as model;
+ghost use Rattle.c_lexer.specs.model.Front as model;
 ghost use Rattle.c_lexer.specs.Marks as spec;
 
 use crate::piece::{Cut, Piece};
@@ -117,7 +117,7 @@ fn three(a: u8, b: u8, c: u8) -> Option<Cut>
 }
 
 /// The longest mark in front of a text.
-#[tactic(auto, unfolding(crate::specs::Front::mark_at))]
+#[tactic(auto, unfolding(crate::specs::model::Front::mark_at))]
 pub fn mark_at(s: &[u8]) -> Option<Cut>
     ensures { result ≡ model.mark_at s.now }
 {
