@@ -17,7 +17,7 @@ use Rattle.c_tree.specs.declared.declarations.External.{External}
 use Rattle.c_tree.specs.declared.declarations.TranslationUnit.{TranslationUnit}
 use Rattle.c_tree.specs.Nodes.{node_count, nodes_count, nodes_of, stmt_node, member_node, constant_node, local_node, first_nodes, part_of_for, optional, label_nodes, section_node, init_node, optional_init, external_node, unit_nodes}
 use Rattle.c_tree.proofs.Counts as n
-use Rattle.c_tree.proofs.Counts.{expr_count, type_count, stmt_count, init_count, list_count, nodes_count-joined, list_count-append}
+use Rattle.c_tree.proofs.Counts.{expr_count, type_count, stmt_count, init_count, list_count, nodes_count-append_nodes, list_count-append}
 use Rattle.c_grammar.specs.declared.shapes.Shape.{Shape}
 use Rattle.c_grammar.specs.declared.shapes.Shape.TheVariants as sh
 use Rattle.c_grammar.specs.declared.shapes.Naming.{Naming}
@@ -114,7 +114,7 @@ locals_count [] = refl
 locals_count (v ∷ vs) = let e = n.count-Local v in let o = locals_count vs in omega arith
 
 section_count : (v : Section) → node_count (section_node v) ≡ suc (nodes_count (label_nodes v.label) + list_count stmt_node v.statements)
-section_count v = ap suc (nodes_count-joined (label_nodes v.label) (nodes_of stmt_node v.statements))
+section_count v = ap suc (nodes_count-append_nodes (label_nodes v.label) (nodes_of stmt_node v.statements))
 
 mutual
   stmt_few : (s : Scope) {m : ℕ} {a : List Token} {v : Stmt} → IsStmt s m a v → stmt_count v ≤ 2 * length a

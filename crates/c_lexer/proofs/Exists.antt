@@ -30,17 +30,17 @@ from_front text at (Some cut) lt answers next =
     let w = cuts_some text at cut.len cut.piece c in
     goes_on text at cut.len cut.piece c (next (at + cut.len) (omega arith) w.1)
 
-reached : (fuel : ℕ) (text : List ℕ) (at : ℕ) → at ≤ length text → length text ≤ at + fuel → Reached text at
-reached zero text at le enough = record { tokens = []; to = at; pieces = Pieces.none; stops = inl (omega arith) }
-reached (suc fuel) text at le enough = ⊎_elim
+reaches : (fuel : ℕ) (text : List ℕ) (at : ℕ) → at ≤ length text → length text ≤ at + fuel → Reached text at
+reaches zero text at le enough = record { tokens = []; to = at; pieces = Pieces.none; stops = inl (omega arith) }
+reaches (suc fuel) text at le enough = ⊎_elim
     (λ (lt : at < length text). from_front text at (front (is_line_start (take at text)) (drop at text)) lt (front_answers (is_line_start (take at text)) (drop at text))
-    (λ i more within. reached fuel text i within (omega arith)))
+    (λ i more within. reaches fuel text i within (omega arith)))
     (λ (over : length text ≤ at). let end : at ≡ length text = omega arith in record { tokens = []; to = at; pieces = Pieces.none; stops = inl end })
     (cases_lt at (length text))
 
 pub tokens_exist : (text : List ℕ) → ((toks : Toks) × Tokens text toks) ⊎ ((at : ℕ) × FaultAt text at)
 tokens_exist text =
-    let r = reached (length text) text 0 (omega arith) (omega arith) in
+    let r = reaches (length text) text 0 (omega arith) (omega arith) in
     ⊎_elim
     (λ (end : r.to ≡ length text). inl (record { items = r.tokens; size = length text }, record { pieces = subst (Pieces text 0 r.tokens) end r.pieces; size = refl }))
     (λ (stuck : IsStuck text r.to). inr (r.to, record { tokens = r.tokens; pieces = r.pieces; stuck = stuck }))

@@ -16,7 +16,7 @@ use Rattle.c_lexer.specs.Words.{kind_of_word}
 use Rattle.c_lexer.specs.Numbers.{is_number}
 use Rattle.c_lexer.specs.Literals.{char_end, text_end}
 use Rattle.c_lexer.specs.Blanks.{close_at, is_linemarker}
-use Rattle.c_lexer.specs.Pieces.{is_at, is_comment, when, marked, piece_of, IsLongest, is_none, first_passes, is_fault, Begins}
+use Rattle.c_lexer.specs.Pieces.{is_at, is_comment, when, mark_piece, piece_of, IsLongest, is_none, first_passes, is_fault, Begins}
 use Rattle.c_lexer.specs.model.Front as model
 use Rattle.c_lexer.proofs.Options.{by_test, not_both}
 use Rattle.c_lexer.proofs.Runs.{all_within, all_over, first_run}
@@ -85,10 +85,10 @@ end_longest c k s end x m front h e = front_longest c k s m x front e.within
 
 end_answers : (first : Bool) (c : List ℕ → List ℕ) (k : ℕ) (s : List ℕ) (end : List ℕ → Option ℕ) (x : Piece) → IsFront c k
     → ((t : List ℕ) → piece_of (c t) ≡ when (is_at (end t) (length t)) x) → ((m : ℕ) → end s ≡ Some m → EndsAt end s m)
-    → is_fault first (c s) ≡ is_none (end s) → Answers first (c s) (model.ended k x (end s))
+    → is_fault first (c s) ≡ is_none (end s) → Answers first (c s) (model.cut_to_end k x (end s))
 end_answers first c k s end x front h ends fault = of_end (end s) refl
   where
-    of_end : (o : Option ℕ) → end s ≡ o → Answers first (c s) (model.ended k x o)
+    of_end : (o : Option ℕ) → end s ≡ o → Answers first (c s) (model.cut_to_end k x o)
     of_end None e = faulty first (c s) (fault ∙ ap is_none e)
     of_end (Some m) e = record { piece = end_longest c k s end x m front h (ends m e); sound = fault ∙ ap is_none e }
 
@@ -185,7 +185,7 @@ char_fault : (first : Bool) (s : List ℕ) → is_fault first (39 ∷ s) ≡ is_
 unfolding is_fault
 char_fault first s = refl
 
-char_answers : (first : Bool) (s : List ℕ) → Answers first (39 ∷ s) (model.ended 1 (p.Token k.Char) (char_end s))
+char_answers : (first : Bool) (s : List ℕ) → Answers first (39 ∷ s) (model.cut_to_end 1 (p.Token k.Char) (char_end s))
 char_answers first s = end_answers first (λ t. 39 ∷ t) 1 s char_end (p.Token k.Char) (one_front 39) char_piece (char_ends s) (char_fault first s)
 
 text_piece : (s : List ℕ) → piece_of (34 ∷ s) ≡ when (is_at (text_end s) (length s)) (p.Token k.Text)
@@ -196,7 +196,7 @@ text_fault : (first : Bool) (s : List ℕ) → is_fault first (34 ∷ s) ≡ is_
 unfolding is_fault
 text_fault first s = refl
 
-text_answers : (first : Bool) (s : List ℕ) → Answers first (34 ∷ s) (model.ended 1 (p.Token k.Text) (text_end s))
+text_answers : (first : Bool) (s : List ℕ) → Answers first (34 ∷ s) (model.cut_to_end 1 (p.Token k.Text) (text_end s))
 text_answers first s = end_answers first (λ t. 34 ∷ t) 1 s text_end (p.Token k.Text) (one_front 34) text_piece (text_ends s) (text_fault first s)
 
 marker_piece : (s : List ℕ) → piece_of (35 ∷ s) ≡ when (list_all is_inner s && is_linemarker s) p.Blank
@@ -226,12 +226,12 @@ marker_answers first s =
 
 line_piece : (s : List ℕ) → piece_of (47 ∷ 47 ∷ s) ≡ when (list_all is_inner s && true) p.Blank
 unfolding piece_of is_comment mark_of mark2 mark3
-line_piece s = by_test (λ o. o ≡ when (list_all is_inner s && true) p.Blank) (list_all is_inner s) (Some p.Blank) (marked (47 ∷ 47 ∷ s)) (λ yes. rw yes refl) (λ no. rw no (not_marked s))
+line_piece s = by_test (λ o. o ≡ when (list_all is_inner s && true) p.Blank) (list_all is_inner s) (Some p.Blank) (mark_piece (47 ∷ 47 ∷ s)) (λ yes. rw yes refl) (λ no. rw no (no_mark s))
   where
-    not_marked : (s : List ℕ) → marked (47 ∷ 47 ∷ s) ≡ None
-    not_marked [] = refl
-    not_marked (c ∷ []) = refl
-    not_marked (c ∷ d ∷ s) = refl
+    no_mark : (s : List ℕ) → mark_piece (47 ∷ 47 ∷ s) ≡ None
+    no_mark [] = refl
+    no_mark (c ∷ []) = refl
+    no_mark (c ∷ d ∷ s) = refl
 
 line_fault : (first : Bool) (s : List ℕ) → is_fault first (47 ∷ 47 ∷ s) ≡ false
 unfolding is_fault
@@ -239,12 +239,12 @@ line_fault first s = refl
 
 comment_piece : (s : List ℕ) → piece_of (47 ∷ 42 ∷ s) ≡ when (is_at (close_at s) (length s)) p.Blank
 unfolding piece_of is_comment mark_of mark2 mark3
-comment_piece s = by_test (λ o. o ≡ when (is_at (close_at s) (length s)) p.Blank) (is_at (close_at s) (length s)) (Some p.Blank) (marked (47 ∷ 42 ∷ s)) (λ yes. rw yes refl) (λ no. rw no (not_marked s))
+comment_piece s = by_test (λ o. o ≡ when (is_at (close_at s) (length s)) p.Blank) (is_at (close_at s) (length s)) (Some p.Blank) (mark_piece (47 ∷ 42 ∷ s)) (λ yes. rw yes refl) (λ no. rw no (no_mark s))
   where
-    not_marked : (s : List ℕ) → marked (47 ∷ 42 ∷ s) ≡ None
-    not_marked [] = refl
-    not_marked (c ∷ []) = refl
-    not_marked (c ∷ d ∷ s) = refl
+    no_mark : (s : List ℕ) → mark_piece (47 ∷ 42 ∷ s) ≡ None
+    no_mark [] = refl
+    no_mark (c ∷ []) = refl
+    no_mark (c ∷ d ∷ s) = refl
 
 comment_fault : (first : Bool) (s : List ℕ) → is_fault first (47 ∷ 42 ∷ s) ≡ is_none (close_at s)
 unfolding is_fault
@@ -264,20 +264,20 @@ none_answers first text over (suc n) x b = not_both (piece_of (take (suc n) text
 past : (P : ℕ → Type 0) (n m : ℕ) → P (suc n) → (suc n < m → P m) → n < m → P m
 past P n m at over lt = ⊎_elim (λ less. over less) (λ le. let e : suc n ≡ m = omega arith in subst P e at) (cases_lt (suc n) m)
 
-sized_answers : (first : Bool) (text : List ℕ) (n : ℕ) (o : Option Punct) (next : Option Cut) → suc n ≤ length text → is_fault first text ≡ false
-    → piece_of (take (suc n) text) ≡ option_map (λ mark. p.Token (k.Mark mark)) o → Over text (suc n) → (Over text n → Answers first text next) → Answers first text (model.sized (suc n) o next)
+mark_or_answers : (first : Bool) (text : List ℕ) (n : ℕ) (o : Option Punct) (next : Option Cut) → suc n ≤ length text → is_fault first text ≡ false
+    → piece_of (take (suc n) text) ≡ option_map (λ mark. p.Token (k.Mark mark)) o → Over text (suc n) → (Over text n → Answers first text next) → Answers first text (model.mark_or (suc n) o next)
 unfolding Over
-sized_answers first text n None next size sound is over f = f (λ m lt le. past (λ m. piece_of (take m text) ≡ None) n m is (λ less. over m less le) lt)
-sized_answers first text n (Some mark) next size sound is over f = record { piece = record { within = size; is = is; longest = over }; sound = sound }
+mark_or_answers first text n None next size sound is over f = f (λ m lt le. past (λ m. piece_of (take m text) ≡ None) n m is (λ less. over m less le) lt)
+mark_or_answers first text n (Some mark) next size sound is over f = record { piece = record { within = size; is = is; longest = over }; sound = sound }
 
-one_answers : (first : Bool) (a : ℕ) (s : List ℕ) → ((t : ℕ) → piece_of (a ∷ take t s) ≡ marked (a ∷ take t s)) → is_fault first (a ∷ s) ≡ false → Over (a ∷ s) 1 → Answers first (a ∷ s) (model.one a)
+one_answers : (first : Bool) (a : ℕ) (s : List ℕ) → ((t : ℕ) → piece_of (a ∷ take t s) ≡ mark_piece (a ∷ take t s)) → is_fault first (a ∷ s) ≡ false → Over (a ∷ s) 1 → Answers first (a ∷ s) (model.one_byte_mark a)
 unfolding mark_of
-one_answers first a s h sound over = sized_answers first (a ∷ s) 0 (mark1 a) None (omega arith) sound (h 0) over (none_answers first (a ∷ s))
+one_answers first a s h sound over = mark_or_answers first (a ∷ s) 0 (mark1 a) None (omega arith) sound (h 0) over (none_answers first (a ∷ s))
 
-two_answers : (first : Bool) (a b : ℕ) (s : List ℕ) → ((t : ℕ) → piece_of (a ∷ take t (b ∷ s)) ≡ marked (a ∷ take t (b ∷ s))) → is_fault first (a ∷ b ∷ s) ≡ false → Over (a ∷ b ∷ s) 2
-    → Answers first (a ∷ b ∷ s) (model.two a b)
+two_answers : (first : Bool) (a b : ℕ) (s : List ℕ) → ((t : ℕ) → piece_of (a ∷ take t (b ∷ s)) ≡ mark_piece (a ∷ take t (b ∷ s))) → is_fault first (a ∷ b ∷ s) ≡ false → Over (a ∷ b ∷ s) 2
+    → Answers first (a ∷ b ∷ s) (model.two_byte_mark a b)
 unfolding mark_of
-two_answers first a b s h sound over = sized_answers first (a ∷ b ∷ s) 1 (mark2 a b) (model.one a) (omega arith) sound (h 1) over (λ over. one_answers first a (b ∷ s) h sound over)
+two_answers first a b s h sound over = mark_or_answers first (a ∷ b ∷ s) 1 (mark2 a b) (model.one_byte_mark a) (omega arith) sound (h 1) over (λ over. one_answers first a (b ∷ s) h sound over)
 
 over_one : (a : ℕ) → Over (a ∷ []) 1
 unfolding Over
@@ -287,7 +287,7 @@ over_two : (a b : ℕ) → Over (a ∷ b ∷ []) 2
 unfolding Over
 over_two a b m lt le = absurd (omega arith)
 
-over_three : (a b c : ℕ) (s : List ℕ) → ((t : ℕ) → piece_of (a ∷ take t (b ∷ c ∷ s)) ≡ marked (a ∷ take t (b ∷ c ∷ s))) → Over (a ∷ b ∷ c ∷ s) 3
+over_three : (a b c : ℕ) (s : List ℕ) → ((t : ℕ) → piece_of (a ∷ take t (b ∷ c ∷ s)) ≡ mark_piece (a ∷ take t (b ∷ c ∷ s))) → Over (a ∷ b ∷ c ∷ s) 3
 unfolding Over mark_of
 over_three a b c s h zero lt le = absurd (omega arith)
 over_three a b c s h (suc zero) lt le = absurd (omega arith)
@@ -296,26 +296,26 @@ over_three a b c s h (suc (suc (suc zero))) lt le = absurd (omega arith)
 over_three a b c [] h (suc (suc (suc (suc m)))) lt le = absurd (omega arith)
 over_three a b c (d ∷ s) h (suc (suc (suc (suc m)))) lt le = h (suc (suc (suc m)))
 
-mark_answers : (first : Bool) (a : ℕ) (s : List ℕ) → ((t : ℕ) → piece_of (a ∷ take t s) ≡ marked (a ∷ take t s)) → is_fault first (a ∷ s) ≡ false → Answers first (a ∷ s) (model.mark_at (a ∷ s))
+mark_answers : (first : Bool) (a : ℕ) (s : List ℕ) → ((t : ℕ) → piece_of (a ∷ take t s) ≡ mark_piece (a ∷ take t s)) → is_fault first (a ∷ s) ≡ false → Answers first (a ∷ s) (model.mark_at (a ∷ s))
 unfolding model.mark_at mark_of
 mark_answers first a [] h sound = one_answers first a [] h sound (over_one a)
 mark_answers first a (b ∷ []) h sound = two_answers first a b [] h sound (over_two a b)
 mark_answers first a (b ∷ c ∷ s) h sound =
-    sized_answers first (a ∷ b ∷ c ∷ s) 2 (mark3 a b c) (model.two a b) (omega arith) sound (h 2) (over_three a b c s h) (λ over. two_answers first a b (c ∷ s) h sound over)
+    mark_or_answers first (a ∷ b ∷ c ∷ s) 2 (mark3 a b c) (model.two_byte_mark a b) (omega arith) sound (h 2) (over_three a b c s h) (λ over. two_answers first a b (c ∷ s) h sound over)
 
 marks_alone : (a : ℕ) (s : List ℕ) → is_blank a ≡ false → is_letter a ≡ false → is_digit a ≡ false → eqb a 39 ≡ false → eqb a 34 ≡ false → eqb a 35 ≡ false → (a == 47 && is_comment s) ≡ false
-    → piece_of (a ∷ s) ≡ marked (a ∷ s)
+    → piece_of (a ∷ s) ≡ mark_piece (a ∷ s)
 unfolding piece_of
 marks_alone a s bl le d q39 q34 q35 c = rw (bl, le, d, q39, q34, q35, c) refl
 
 -- ---- `/` and `.`
 
-slash_alone : (c : ℕ) (s : List ℕ) → eqb c 42 ≡ false → eqb c 47 ≡ false → (t : ℕ) → piece_of (47 ∷ take t (c ∷ s)) ≡ marked (47 ∷ take t (c ∷ s))
+slash_alone : (c : ℕ) (s : List ℕ) → eqb c 42 ≡ false → eqb c 47 ≡ false → (t : ℕ) → piece_of (47 ∷ take t (c ∷ s)) ≡ mark_piece (47 ∷ take t (c ∷ s))
 unfolding piece_of is_comment
 slash_alone c s no_star no_slash zero = refl
 slash_alone c s no_star no_slash (suc t) = rw (no_star, no_slash) refl
 
-lone_slash : (t : ℕ) → piece_of (47 ∷ take t []) ≡ marked (47 ∷ take t [])
+lone_slash : (t : ℕ) → piece_of (47 ∷ take t []) ≡ mark_piece (47 ∷ take t [])
 unfolding piece_of is_comment
 lone_slash zero = refl
 lone_slash (suc t) = refl
@@ -333,15 +333,15 @@ unfolding model.slash_at
 slash_answers first [] = mark_answers first 47 [] lone_slash (lone_slash_fault first)
 slash_answers first (c ∷ s) =
     let line : Option Cut = Some (record { piece = p.Blank; len = prefix_len is_inner s + 2 }) in
-    by_test (Answers first (47 ∷ c ∷ s)) (eqb c 42) (model.ended 2 p.Blank (close_at s)) (cond (eqb c 47) line (model.mark_at (47 ∷ c ∷ s)))
-    (λ star. subst (λ c. Answers first (47 ∷ c ∷ s) (model.ended 2 p.Blank (close_at s))) (sym (eqb-true c 42 star))
+    by_test (Answers first (47 ∷ c ∷ s)) (eqb c 42) (model.cut_to_end 2 p.Blank (close_at s)) (cond (eqb c 47) line (model.mark_at (47 ∷ c ∷ s)))
+    (λ star. subst (λ c. Answers first (47 ∷ c ∷ s) (model.cut_to_end 2 p.Blank (close_at s))) (sym (eqb-true c 42 star))
     (end_answers first (λ t. 47 ∷ 42 ∷ t) 2 s close_at p.Blank (two_front 47 42) comment_piece (close_ends s) (comment_fault first s)))
     (λ no_star. by_test (Answers first (47 ∷ c ∷ s)) (eqb c 47) line (model.mark_at (47 ∷ c ∷ s))
     (λ slash. subst (λ c. Answers first (47 ∷ c ∷ s) line) (sym (eqb-true c 47 slash))
     (record { piece = run_longest (λ t. 47 ∷ 47 ∷ t) 2 s is_inner (λ t. true) (λ t. p.Blank) (two_front 47 47) line_piece refl; sound = line_fault first s }))
     (λ no_slash. mark_answers first 47 (c ∷ s) (slash_alone c s no_star no_slash) (slash_fault first c s no_star)))
 
-dot_alone : (s : List ℕ) → piece_of (46 ∷ s) ≡ marked (46 ∷ s)
+dot_alone : (s : List ℕ) → piece_of (46 ∷ s) ≡ mark_piece (46 ∷ s)
 unfolding piece_of
 dot_alone s = refl
 
@@ -366,10 +366,10 @@ slash_test b s e = rw e refl
 
 other_answers : (first : Bool) (b : ℕ) (s : List ℕ) → is_blank b ≡ false → is_letter b ≡ false → is_digit b ≡ false → Answers first (b ∷ s) (model.other_at first (b ∷ s))
 unfolding model.other_at
-other_answers first b s bl le d = by_test (Answers first (b ∷ s)) (eqb b 39) (model.ended 1 (p.Token k.Char) (char_end s)) _
-    (λ e. subst (λ b. Answers first (b ∷ s) (model.ended 1 (p.Token k.Char) (char_end s))) (sym (eqb-true b 39 e)) (char_answers first s))
-    (λ q39. by_test (Answers first (b ∷ s)) (eqb b 34) (model.ended 1 (p.Token k.Text) (text_end s)) _
-    (λ e. subst (λ b. Answers first (b ∷ s) (model.ended 1 (p.Token k.Text) (text_end s))) (sym (eqb-true b 34 e)) (text_answers first s))
+other_answers first b s bl le d = by_test (Answers first (b ∷ s)) (eqb b 39) (model.cut_to_end 1 (p.Token k.Char) (char_end s)) _
+    (λ e. subst (λ b. Answers first (b ∷ s) (model.cut_to_end 1 (p.Token k.Char) (char_end s))) (sym (eqb-true b 39 e)) (char_answers first s))
+    (λ q39. by_test (Answers first (b ∷ s)) (eqb b 34) (model.cut_to_end 1 (p.Token k.Text) (text_end s)) _
+    (λ e. subst (λ b. Answers first (b ∷ s) (model.cut_to_end 1 (p.Token k.Text) (text_end s))) (sym (eqb-true b 34 e)) (text_answers first s))
     (λ q34. by_test (Answers first (b ∷ s)) (eqb b 35) (model.marker_at first s) _
     (λ e. subst (λ b. Answers first (b ∷ s) (model.marker_at first s)) (sym (eqb-true b 35 e)) (marker_answers first s))
     (λ q35. by_test (Answers first (b ∷ s)) (eqb b 47) (model.slash_at (b ∷ s)) _

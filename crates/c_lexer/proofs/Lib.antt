@@ -1,6 +1,6 @@
 pub mod Options
 pub mod Close
-pub mod Closing
+pub mod QuoteEnds
 pub mod Values
 pub mod Runs
 pub mod Items

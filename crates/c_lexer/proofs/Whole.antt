@@ -16,7 +16,7 @@ use Rattle.c_lexer.specs.Words.{keyword_of, kind_by}
 use Rattle.c_lexer.specs.Numbers.{is_number}
 use Rattle.c_lexer.specs.Literals.{char_end, text_end}
 use Rattle.c_lexer.specs.Blanks.{is_linemarker}
-use Rattle.c_lexer.specs.Pieces.{is_at, is_comment, when, marked, piece_of, Cuts, Lexeme, lexeme, lexemes, Pieces, Tokens, IsStuck, FaultAt}
+use Rattle.c_lexer.specs.Pieces.{is_at, is_comment, when, mark_piece, piece_of, Cuts, Lexeme, lexeme, lexemes, Pieces, Tokens, IsStuck, FaultAt}
 use Rattle.c_lexer.specs.Steps.{Place, IsEnd, Gives, Refuses}
 use Rattle.c_lexer.proofs.Options.{by_test}
 use Rattle.c_lexer.proofs.Walk.{pieces-append}
@@ -45,9 +45,9 @@ word_no_end : (o : Option Keyword) → kind_by o ≡ k.End → ⊥
 word_no_end None e = cc
 word_no_end (Some w) e = cc
 
-marked_no_end : (o : Option Punct) → IsNoEnd (option_map (λ mark. p.Token (k.Mark mark)) o)
-marked_no_end None e = cc
-marked_no_end (Some m) e = cc
+mark_no_end : (o : Option Punct) → IsNoEnd (option_map (λ mark. p.Token (k.Mark mark)) o)
+mark_no_end None e = cc
+mark_no_end (Some m) e = cc
 
 piece_no_end : (s : List ℕ) → IsNoEnd (piece_of s)
 unfolding piece_of
@@ -63,7 +63,7 @@ piece_no_end (b ∷ s) = by_test IsNoEnd (is_blank b) (when (list_all is_blank s
     (λ yes. when_no_end (is_at (text_end s) (length s)) (p.Token k.Text) (some_no_end k.Text (λ e. cc)))
     (λ no_t. by_test IsNoEnd (eqb b 35) (when (list_all is_inner s && is_linemarker s) p.Blank) _
     (λ yes. when_no_end (list_all is_inner s && is_linemarker s) p.Blank blank_no_end)
-    (λ no_m. by_test IsNoEnd (b == 47 && is_comment s) (Some p.Blank) (marked (b ∷ s)) (λ yes. blank_no_end) (λ no. marked_no_end (mark_of (b ∷ s)))))))))
+    (λ no_m. by_test IsNoEnd (b == 47 && is_comment s) (Some p.Blank) (mark_piece (b ∷ s)) (λ yes. blank_no_end) (λ no. mark_no_end (mark_of (b ∷ s)))))))))
 
 pub no_end : (text : List ℕ) (at n : ℕ) → Cuts text at n (p.Token k.End) → ⊥
 no_end text at n c = piece_no_end (take n (drop at text)) c.begins_with.piece.is

@@ -1,7 +1,7 @@
 -- Comments (C99 6.4.9), and linemarkers, the lines by which a preprocessor tells where a text came from.
 use Rattle.std.specs.Prelude.{ℕ, suc, ◌-◌, Bool, true, false, not, ◌||◌, ◌&&◌, ◌==◌, if◌then◌else◌, List, [], ◌∷◌, length, drop, reverse, slice_index, take_while, Option, Some, None, option_map}
 use Rattle.std.specs.List.{list_all, prefix_len}
-use Rattle.c_lexer.specs.Quotes.{closing}
+use Rattle.c_lexer.specs.Quotes.{quote_end}
 use Rattle.c_lexer.specs.Bytes.{is_gap, is_digit, is_inner}
 
 -- the end of a comment
@@ -15,16 +15,16 @@ close_at (a ∷ []) = None
 close_at (a ∷ b ∷ s) = if ends a b then Some 2 else option_map suc (close_at (b ∷ s))
 
 -- in a name a backslash takes the next byte with it
-abbrev pub escaped : ℕ → ℕ
-escaped b = if b == 92 then 2 else 1
+abbrev pub name_item_len : ℕ → ℕ
+name_item_len b = if b == 92 then 2 else 1
 
 unfoldable pub name_item : List ℕ → Option ℕ
 name_item [] = None
-name_item (b ∷ s) = Some (escaped b)
+name_item (b ∷ s) = Some (name_item_len b)
 
 -- behind the opening quote of a name: how many bytes there are up to and with its closing quote
 abbrev pub name_end : List ℕ → Option ℕ
-name_end s = closing name_item 0 s
+name_end s = quote_end name_item 0 s
 
 abbrev pub is_gap_or_digit : ℕ → Bool
 is_gap_or_digit b = is_gap b || is_digit b

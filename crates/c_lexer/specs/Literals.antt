@@ -2,7 +2,7 @@
 use Rattle.std.specs.Prelude.{ℕ, ◌+◌, ◌*◌, ◌-◌, ◌||◌, ◌==◌, nat_le, if◌then◌else◌, List, [], ◌∷◌, take, drop, fold, Option, Some, None, option_map}
 use Rattle.std.specs.List.{prefix_len}
 use Rattle.c_lexer.specs.Bytes.{is_digit, is_octal, is_hex}
-use Rattle.c_lexer.specs.Quotes.{closing}
+use Rattle.c_lexer.specs.Quotes.{quote_end}
 use Rattle.c_lexer.specs.declared.literals.Item.{Item}
 
 -- the value of a digit, also of a hexadecimal one
@@ -61,13 +61,13 @@ abbrev pub quote_behind : List ℕ → ℕ → Option ℕ
 quote_behind [] n = None
 quote_behind (b ∷ s) n = if b == 39 then Some (n + 1) else None
 
-abbrev pub closed_by : List ℕ → Option Item → Option ℕ
-closed_by s None = None
-closed_by s (Some i) = quote_behind (drop i.len s) i.len
+abbrev pub end_behind_item : List ℕ → Option Item → Option ℕ
+end_behind_item s None = None
+end_behind_item s (Some i) = quote_behind (drop i.len s) i.len
 
 -- behind the opening quote of a character constant: how many bytes its one item and its closing quote take, where both are there
 unfoldable pub char_end : List ℕ → Option ℕ
-char_end s = closed_by s (item_at 39 s)
+char_end s = end_behind_item s (item_at 39 s)
 
 -- how many bytes the item in front takes, within a string literal
 unfoldable pub text_item : List ℕ → Option ℕ
@@ -75,4 +75,4 @@ text_item s = option_map (λ i. i.len) (item_at 34 s)
 
 -- behind the opening quote of a string literal: how many bytes its items and its closing quote take, where it is closed
 abbrev pub text_end : List ℕ → Option ℕ
-text_end s = closing text_item 0 s
+text_end s = quote_end text_item 0 s

@@ -25,8 +25,8 @@ is_comment (b ∷ s) = if b == 42 then is_at (close_at s) (length s) else b == 4
 abbrev pub when : Bool → Piece → Option Piece
 when b x = if b then Some x else None
 
-abbrev pub marked : List ℕ → Option Piece
-marked s = option_map (λ mark. p.Token (k.Mark mark)) (mark_of s)
+abbrev pub mark_piece : List ℕ → Option Piece
+mark_piece s = option_map (λ mark. p.Token (k.Mark mark)) (mark_of s)
 
 -- The piece that these bytes spell: a run of blanks, a comment, a linemarker or a token.
 unfoldable pub piece_of : List ℕ → Option Piece
@@ -38,7 +38,7 @@ piece_of (b ∷ s) = if is_blank b then when (list_all is_blank s) p.Blank
     else if b == 34 then when (is_at (text_end s) (length s)) (p.Token k.Text)
     else if b == 35 then when (list_all is_inner s && is_linemarker s) p.Blank
     else if b == 47 && is_comment s then Some p.Blank
-    else marked (b ∷ s)
+    else mark_piece (b ∷ s)
 
 -- No longer front of the text is a piece.
 pub record IsLongest (text : List ℕ) (n : ℕ) (x : Piece) : Type 0 where

@@ -26,8 +26,8 @@ pub fn close_at(s: &[u8]) -> Option<usize>
     None
 }
 
-fn escaped(b: u8) -> usize
-    ensures { result ≡ spec.escaped b }
+fn name_item_len(b: u8) -> usize
+    ensures { result ≡ spec.name_item_len b }
 {
     if b == b'\\' { 2 } else { 1 }
 }
@@ -43,7 +43,7 @@ fn name_end(s: &[u8]) -> Option<usize>
         if s[at] == b'"' {
             return Some(at + 1);
         }
-        at += escaped(s[at]);
+        at += name_item_len(s[at]);
     }
     None
 }

@@ -112,9 +112,9 @@ fn marker_at(before: &[u8], s: &[u8]) -> Option<Cut>
     }
 }
 
-fn ended(piece: Piece, end: Option<usize>) -> Option<Cut>
+fn cut_to_end(piece: Piece, end: Option<usize>) -> Option<Cut>
     requires { IfSome end (λ n. n < 2 ^ 62) }
-    ensures { result ≡ model.ended 1 piece end }
+    ensures { result ≡ model.cut_to_end 1 piece end }
 {
     match end {
         None => None,
@@ -129,8 +129,8 @@ fn other_at(before: &[u8], s: &[u8]) -> Option<Cut>
 {
     match s {
         [] => None,
-        [b'\'', rest @ ..] => ended(Piece::Token(TokenKind::Char), char_end(rest)),
-        [b'"', rest @ ..] => ended(Piece::Token(TokenKind::Text), text_end(rest)),
+        [b'\'', rest @ ..] => cut_to_end(Piece::Token(TokenKind::Char), char_end(rest)),
+        [b'"', rest @ ..] => cut_to_end(Piece::Token(TokenKind::Text), text_end(rest)),
         [b'#', rest @ ..] => marker_at(before, rest),
         [b'/', ..] => slash_at(s),
         [b'.', ..] => dot_at(s),

@@ -88,7 +88,10 @@ impl<'a> Lexer<'a> {
         ensures token { IfOk result (λ t. Gives self.old t self.new) }
         ensures fault { IfErr result (λ f. Refuses self.old f self.new) }
         ensures fault_again { IsStuck self.old.text self.old.at → result ≡ Err (record { at = self.old.at }) }
-        ensures end_again { self.old.at ≡ length self.old.text → result ≡ Ok (record { kind = TokenKind.End; at = self.old.at; len = 0 }) }
+        ensures end_again {
+            self.old.at ≡ length self.old.text
+                → result ≡ Ok (record { kind = TokenKind.End; at = self.old.at; len = 0 })
+        }
     {
         self.advance()
     }

@@ -80,8 +80,8 @@ fn mark3(a: u8, b: u8, c: u8) -> Option<Punct>
     }
 }
 
-fn marked(mark: Punct, len: usize) -> Option<Cut>
-    ensures { result ≡ model.marked mark len }
+fn mark_cut(mark: Punct, len: usize) -> Option<Cut>
+    ensures { result ≡ model.mark_cut mark len }
 {
     Some(Cut {
         piece: Piece::Token(TokenKind::Mark(mark)),
@@ -89,30 +89,30 @@ fn marked(mark: Punct, len: usize) -> Option<Cut>
     })
 }
 
-fn one(a: u8) -> Option<Cut>
-    ensures { result ≡ model.one a }
+fn one_byte_mark(a: u8) -> Option<Cut>
+    ensures { result ≡ model.one_byte_mark a }
 {
     match mark1(a) {
         None => None,
-        Some(mark) => marked(mark, 1),
+        Some(mark) => mark_cut(mark, 1),
     }
 }
 
-fn two(a: u8, b: u8) -> Option<Cut>
-    ensures { result ≡ model.two a b }
+fn two_byte_mark(a: u8, b: u8) -> Option<Cut>
+    ensures { result ≡ model.two_byte_mark a b }
 {
     match mark2(a, b) {
-        None => one(a),
-        Some(mark) => marked(mark, 2),
+        None => one_byte_mark(a),
+        Some(mark) => mark_cut(mark, 2),
     }
 }
 
-fn three(a: u8, b: u8, c: u8) -> Option<Cut>
-    ensures { result ≡ model.three a b c }
+fn three_byte_mark(a: u8, b: u8, c: u8) -> Option<Cut>
+    ensures { result ≡ model.three_byte_mark a b c }
 {
     match mark3(a, b, c) {
-        None => two(a, b),
-        Some(mark) => marked(mark, 3),
+        None => two_byte_mark(a, b),
+        Some(mark) => mark_cut(mark, 3),
     }
 }
 
@@ -123,8 +123,8 @@ pub fn mark_at(s: &[u8]) -> Option<Cut>
 {
     match s {
         [] => None,
-        [a] => one(*a),
-        [a, b] => two(*a, *b),
-        [a, b, c, ..] => three(*a, *b, *c),
+        [a] => one_byte_mark(*a),
+        [a, b] => two_byte_mark(*a, *b),
+        [a, b, c, ..] => three_byte_mark(*a, *b, *c),
     }
 }

@@ -16,7 +16,7 @@ use Rattle.c_tree.specs.declared.statements.Section.{Section}
 use Rattle.c_tree.specs.declared.statements.Local.{Local}
 use Rattle.c_tree.specs.declared.statements.ForFirst.{ForFirst}
 use Rattle.c_tree.specs.declared.declarations.Init as i
-use Rattle.c_tree.specs.Nodes.{Node, Nodes, node, none, more, children_of, nodes_of, node_count, nodes_count, joined, expr_node, type_node, stmt_node, init_node, constant_node, member_node, parameter_node, section_node, local_node, first_nodes, part_of_for, optional, else_nodes}
+use Rattle.c_tree.specs.Nodes.{Node, Nodes, node, none, more, children_of, nodes_of, node_count, nodes_count, append_nodes, expr_node, type_node, stmt_node, init_node, constant_node, member_node, parameter_node, section_node, local_node, first_nodes, part_of_for, optional, else_nodes}
 use Rattle.c_tree.specs.Open.{opens}
 use Rattle.c_tree.proofs.Rows.{expr_row-hidden, constant_row-hidden, member_row-hidden, parameter_row-hidden, stmt_row-hidden, section_row-hidden, init_row-hidden, if-children}
 
@@ -35,9 +35,9 @@ init_count v = node_count (init_node v)
 abbrev pub list_count : {A : Type 0} → (A → Node) → List A → ℕ
 list_count f vs = nodes_count (nodes_of f vs)
 
-pub nodes_count-joined : (ms ns : Nodes) → nodes_count (joined ms ns) ≡ nodes_count ms + nodes_count ns
-nodes_count-joined none ns = sym (zero-add (nodes_count ns))
-nodes_count-joined (more m ms) ns = ap (λ n. node_count m + n) (nodes_count-joined ms ns) ∙ sym (add_assoc (node_count m) (nodes_count ms) (nodes_count ns))
+pub nodes_count-append_nodes : (ms ns : Nodes) → nodes_count (append_nodes ms ns) ≡ nodes_count ms + nodes_count ns
+nodes_count-append_nodes none ns = sym (zero-add (nodes_count ns))
+nodes_count-append_nodes (more m ms) ns = ap (λ n. node_count m + n) (nodes_count-append_nodes ms ns) ∙ sym (add_assoc (node_count m) (nodes_count ms) (nodes_count ns))
 
 pub list_count-append : {A : Type 0} (f : A → Node) (xs ys : List A) → list_count f (xs ++ ys) ≡ list_count f xs + list_count f ys
 list_count-append f [] ys = sym (zero-add (list_count f ys))
@@ -173,7 +173,7 @@ count-Do v c = refl
 
 pub count-For : (a : ForFirst) (b c : Option e.Expr) (v : s.Stmt) → stmt_count (s.For a b c v) ≡ suc (nodes_count (first_nodes a) + (node_count (part_of_for b) + (node_count (part_of_for c) + (stmt_count v + 0))))
 unfolding opens
-count-For a b c v = ap suc (nodes_count-joined (first_nodes a) _)
+count-For a b c v = ap suc (nodes_count-append_nodes (first_nodes a) _)
 
 pub count-Switch : (v : e.Expr) (xs : List Section) → stmt_count (s.Switch v xs) ≡ suc (expr_count v + list_count section_node xs)
 unfolding opens

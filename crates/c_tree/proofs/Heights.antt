@@ -2,7 +2,7 @@
 use Rattle.std.proofs.Common.{◌≡◌, ℕ, zero, suc, ◌+◌, ◌<◌, ◌≤◌, max, List, [], ◌∷◌, ◌++◌, length, get_or, take, refl, sym, ap, ◌∙◌, arith, subst, Bool, true, false}
 use Rattle.std.specs.Prelude.{IsTrue, ◌↔◌}
 use Rattle.std.proofs.lemmas.List.{take_more}
-use Rattle.c_tree.specs.Nodes.{Node, Nodes, node, none, more, both, joined, nodes_of, node_height, nodes_height}
+use Rattle.c_tree.specs.Nodes.{Node, Nodes, node, none, more, both, append_nodes, nodes_of, node_height, nodes_height}
 
 height-append : {A : Type 0} (f : A → Node) (xs : List A) (x : A) → nodes_height (nodes_of f (xs ++ x ∷ [])) ≡ max (nodes_height (nodes_of f xs)) (node_height (f x))
 height-append f [] x = omega arith
@@ -44,14 +44,14 @@ pub node-is : (ok : Bool) (line : List ℕ) (ms : Nodes) (n : Node) (below most 
 node-is ok line ms n below most e k g =
     subst (λ z. IsTrue ok ↔ (node_height z ≤ most)) e ((λ holds. let r = g.0 holds in omega (arith, k, r)), (λ all. g.1 (omega (arith, k, all))))
 
-pub height-joined : (ms ns : Nodes) → nodes_height (joined ms ns) ≡ max (nodes_height ms) (nodes_height ns)
-height-joined none ns = omega arith
-height-joined (more m ms) ns = let e = height-joined ms ns in omega (arith, e)
+pub height-append_nodes : (ms ns : Nodes) → nodes_height (append_nodes ms ns) ≡ max (nodes_height ms) (nodes_height ns)
+height-append_nodes none ns = omega arith
+height-append_nodes (more m ms) ns = let e = height-append_nodes ms ns in omega (arith, e)
 
 -- what stands before the last of the nodes within the bound, and the last
-pub last-is : (ok : Bool) (ms : Nodes) (x y n : Node) (ns : Nodes) (most : ℕ) → joined ms (more x (both y n)) ≡ ns → nodes_height (joined ms (both x y)) ≤ most → (IsTrue ok ↔ (node_height n ≤ most)) → IsTrue ok ↔ (nodes_height ns ≤ most)
+pub last-is : (ok : Bool) (ms : Nodes) (x y n : Node) (ns : Nodes) (most : ℕ) → append_nodes ms (more x (both y n)) ≡ ns → nodes_height (append_nodes ms (both x y)) ≤ most → (IsTrue ok ↔ (node_height n ≤ most)) → IsTrue ok ↔ (nodes_height ns ≤ most)
 last-is ok ms x y n ns most e h g =
-    let j = height-joined ms (more x (both y n)) in let k = height-joined ms (both x y) in
+    let j = height-append_nodes ms (more x (both y n)) in let k = height-append_nodes ms (both x y) in
     subst (λ z. IsTrue ok ↔ (nodes_height z ≤ most)) e ((λ holds. let r = g.0 holds in omega (arith, h, j, k, r)), (λ all. g.1 (omega (arith, all, j))))
 
-pub ruleset heights = (height-some, height-joined)
+pub ruleset heights = (height-some, height-append_nodes)

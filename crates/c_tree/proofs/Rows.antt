@@ -13,7 +13,7 @@ use Rattle.c_tree.specs.declared.statements.Stmt.TheBlock as b
 use Rattle.c_tree.specs.declared.statements.Section.{Section}
 use Rattle.c_tree.specs.declared.declarations.Init as i
 use Rattle.c_tree.specs.declared.declarations.Init.TheBlock as j
-use Rattle.c_tree.specs.Nodes.{node, lone, type_node, none, more, nodes_of, expr_node, expr_row, constant_row, constant_node, member_row, member_node, parameter_row, parameter_node, stmt_row, stmt_node, section_row, section_node, labelled, init_row, init_node, children_of, else_nodes}
+use Rattle.c_tree.specs.Nodes.{node, lone, type_node, none, more, nodes_of, expr_node, expr_row, constant_row, constant_node, member_row, member_node, parameter_row, parameter_node, stmt_row, stmt_node, section_row, section_node, label_node, init_row, init_node, children_of, else_nodes}
 use Rattle.c_tree.specs.Open.{opens}
 
 expr_row_is : (n : Count) (xs : k.Row_of-Expr n) → expr_row xs ≡ nodes_of expr_node (k.items-the_row-Expr n xs)
@@ -61,7 +61,7 @@ section_row_is : (n : Count) (xs : b.Row_of-Section n) → section_row xs ≡ no
 unfolding stmt_node
 section_row_is n b.end_of-Section = refl
 section_row_is n (b.more_of-Section label c statements rest) =
-    ap (λ ns. more (labelled label ns) (section_row rest)) (stmt_row_is _ statements ∙ ap (nodes_of stmt_node) (sym (b.items_shown-the_row-Stmt-0 c statements))) ∙ ap (more (labelled label (nodes_of stmt_node (b.shown-the_row-Stmt-0 c statements)))) (section_row_is _ rest)
+    ap (λ ns. more (label_node label ns) (section_row rest)) (stmt_row_is _ statements ∙ ap (nodes_of stmt_node) (sym (b.items_shown-the_row-Stmt-0 c statements))) ∙ ap (more (label_node label (nodes_of stmt_node (b.shown-the_row-Stmt-0 c statements)))) (section_row_is _ rest)
 
 pub section_row-hidden : (xs : List Section) → section_row (b.hidden-the_row-Section-2 xs) ≡ nodes_of section_node xs
 section_row-hidden xs = section_row_is _ (b.hidden-the_row-Section-2 xs) ∙ ap (nodes_of section_node) (b.items_hidden-the_row-Section-2 xs)

@@ -1,6 +1,6 @@
 -- The nodes of a tree: what the line of each says, and what stands under it.
 use Rattle.std.specs.Prelude.{ℕ, suc, ◌+◌, max, List, [], ◌∷◌, ◌++◌, Option, Some, None, codes}
-use Rattle.c_tree.specs.Words.{unary_word, step_word, binary_word, assign_word, basic_words, storage_text, name_or_dash, spaced}
+use Rattle.c_tree.specs.Words.{unary_word, step_word, binary_word, assign_word, basic_words, storage_text, name_or_dash, spellings_text}
 use Rattle.c_tree.specs.declared.expressions.Expr as e
 use Rattle.c_tree.specs.declared.types.TypeNode as t
 use Rattle.c_tree.specs.declared.expressions.Expr.TheBlock as k
@@ -42,9 +42,9 @@ abbrev pub nodes_of : {A : Type 0} → (A → Node) → List A → Nodes
 nodes_of f [] = none
 nodes_of f (y ∷ ys) = more (f y) (nodes_of f ys)
 
-abbrev pub joined : Nodes → Nodes → Nodes
-joined none ns = ns
-joined (more m ms) ns = more m (joined ms ns)
+abbrev pub append_nodes : Nodes → Nodes → Nodes
+append_nodes none ns = ns
+append_nodes (more m ms) ns = more m (append_nodes ms ns)
 
 -- Expressions, types and what they hold.
 unfoldable mutual
@@ -52,7 +52,7 @@ unfoldable mutual
   expr_node (e.Name at name) = node (codes "name " ++ name) none
   expr_node (e.Number at spelling) = node (codes "number " ++ spelling) none
   expr_node (e.Character at spelling) = node (codes "character " ++ spelling) none
-  expr_node (e.Text at spellings) = node (codes "text" ++ spaced spellings) none
+  expr_node (e.Text at spellings) = node (codes "text" ++ spellings_text spellings) none
   expr_node (e.Call' at name _ arguments) = node (codes "call " ++ name) (expr_row arguments)
   expr_node (e.Unary' at op _ (k.more_of-Expr x k.end_of-Expr)) = node (codes "unary " ++ unary_word op) (lone (expr_node x))
   expr_node (e.Binary' at op _ (k.more_of-Expr x k.end_of-Expr) _ (k.more_of-Expr y k.end_of-Expr)) = node (codes "binary " ++ binary_word op) (both (expr_node x) (expr_node y))
@@ -146,8 +146,8 @@ label_nodes (l.Case at value) = lone (expr_node value)
 label_nodes (l.Default at) = none
 
 -- a label, its value, and the statements under it
-abbrev pub labelled : Label → Nodes → Node
-labelled label statements = node (label_line label) (joined (label_nodes label) statements)
+abbrev pub label_node : Label → Nodes → Node
+label_node label statements = node (label_line label) (append_nodes (label_nodes label) statements)
 
 unfoldable mutual
   pub stmt_node : s.Stmt → Node
@@ -156,7 +156,7 @@ unfoldable mutual
   stmt_node (s.While' condition _ (b.more_of-Stmt y b.end_of-Stmt)) = node (codes "while") (both (expr_node condition) (stmt_node y))
   stmt_node (s.Do' _ (b.more_of-Stmt y b.end_of-Stmt) condition) = node (codes "do") (both (stmt_node y) (expr_node condition))
   stmt_node (s.For' first condition step _ (b.more_of-Stmt y b.end_of-Stmt)) =
-      node (codes "for") (joined (first_nodes first) (more (part_of_for condition) (both (part_of_for step) (stmt_node y))))
+      node (codes "for") (append_nodes (first_nodes first) (more (part_of_for condition) (both (part_of_for step) (stmt_node y))))
   stmt_node (s.Switch' operand _ sections) = node (codes "switch") (more (expr_node operand) (section_row sections))
   stmt_node (s.Break at) = node (codes "break") none
   stmt_node (s.Continue at) = node (codes "continue") none
@@ -175,14 +175,14 @@ unfoldable mutual
 
   pub section_row : {n : _} → b.Row_of-Section n → Nodes
   section_row b.end_of-Section = none
-  section_row (b.more_of-Section label _ statements rest) = more (labelled label (stmt_row statements)) (section_row rest)
+  section_row (b.more_of-Section label _ statements rest) = more (label_node label (stmt_row statements)) (section_row rest)
 
 abbrev pub else_nodes : Option s.Stmt → Nodes
 else_nodes None = none
 else_nodes (Some y) = lone (stmt_node y)
 
 abbrev pub section_node : Section → Node
-section_node x = labelled x.label (nodes_of stmt_node x.statements)
+section_node x = label_node x.label (nodes_of stmt_node x.statements)
 
 -- What stands at file scope.
 unfoldable mutual
@@ -204,13 +204,13 @@ end_nodes (g.Init y) = lone (init_node y)
 end_nodes (g.Body statements) = lone (node (codes "block") (nodes_of stmt_node statements))
 
 -- the word, the declared name and the storage word, the type, and what follows
-abbrev pub declared : List ℕ → Declaration → List ℕ → Nodes → Node
-declared word d storage rest = node (word ++ d.name ++ storage) (more (type_node d.ty) rest)
+abbrev pub declaration_node : List ℕ → Declaration → List ℕ → Nodes → Node
+declaration_node word d storage rest = node (word ++ d.name ++ storage) (more (type_node d.ty) rest)
 
 abbrev pub external_node : External → Node
-external_node (x.Typedef d) = declared (codes "typedef ") d [] none
-external_node (x.Object d storage init) = declared (codes "object ") d (storage_text storage) (optional_init init)
-external_node (x.Function d storage rest) = declared (codes "function ") d (storage_text storage) (end_nodes rest)
+external_node (x.Typedef d) = declaration_node (codes "typedef ") d [] none
+external_node (x.Object d storage init) = declaration_node (codes "object ") d (storage_text storage) (optional_init init)
+external_node (x.Function d storage rest) = declaration_node (codes "function ") d (storage_text storage) (end_nodes rest)
 external_node (x.Tags storage ty) = node (codes "tags" ++ storage_text storage) (lone (type_node ty))
 
 -- The text of a tree: one line for each node, two blanks for each level.

@@ -90,6 +90,6 @@ name_or_dash None = codes "-"
 name_or_dash (Some name) = name
 
 -- the spellings, with a blank before each
-abbrev pub spaced : List (List ℕ) → List ℕ
-spaced [] = []
-spaced (x ∷ xs) = 32 ∷ x ++ spaced xs
+abbrev pub spellings_text : List (List ℕ) → List ℕ
+spellings_text [] = []
+spellings_text (x ∷ xs) = 32 ∷ x ++ spellings_text xs

@@ -2,9 +2,10 @@
 //!
 //! Each form has a function for itself and one for what stands under it, as in the text of a tree.
 //! The bound falls by one with each node, and at 0 nothing goes further down.
+#![tactic(auto, using(crate::proofs::Rows::rows, crate::proofs::Heights::heights), unfolding(crate::specs::Open::opens))]
 
 ghost use Rattle.std.specs.Prelude.{◌≤◌, ◌↔◌, IsTrue};
-ghost use Rattle.c_tree.specs.Nodes.{node_height, nodes_height, expr_node, type_node, nodes_of, children_of, both, joined, constant_node, member_node, parameter_node, optional, local_node, first_nodes, part_of_for, label_nodes, section_node, else_nodes, stmt_node, init_node, optional_init, end_nodes, external_node, unit_height};
+ghost use Rattle.c_tree.specs.Nodes.{node_height, nodes_height, expr_node, type_node, nodes_of, children_of, both, append_nodes, constant_node, member_node, parameter_node, optional, local_node, first_nodes, part_of_for, label_nodes, section_node, else_nodes, stmt_node, init_node, optional_init, end_nodes, external_node, unit_height};
 
 use crate::{
     Box, Constant, Declaration, Expr, External, ForFirst, FunctionEnd, Init, Label, Local,
@@ -13,7 +14,6 @@ use crate::{
 
 /// Whether an expression is at most so high.
 #[cycle(ast)]
-#[tactic(auto, using(crate::proofs::Rows::rows, crate::proofs::Heights::heights), unfolding(crate::specs::Open::opens))]
 fn is_expr_within(e: &Expr, most: u32) -> bool
     ensures { IsTrue result ↔ (node_height (expr_node e.now) ≤ most) }
 {
@@ -25,7 +25,6 @@ fn is_expr_within(e: &Expr, most: u32) -> bool
 
 /// Whether what stands under an expression is at most so high.
 #[cycle(ast)]
-#[tactic(auto, using(crate::proofs::Rows::rows, crate::proofs::Heights::heights), unfolding(crate::specs::Open::opens))]
 fn are_operands_within(e: &Expr, most: u32) -> bool
     ensures { IsTrue result ↔ (nodes_height (children_of (expr_node e.now)) ≤ most) }
 {
@@ -66,7 +65,6 @@ fn are_operands_within(e: &Expr, most: u32) -> bool
 
 /// Whether expressions are at most so high.
 #[cycle(ast)]
-#[tactic(auto, using(crate::proofs::Rows::rows, crate::proofs::Heights::heights), unfolding(crate::specs::Open::opens))]
 fn are_exprs_within(list: &[Expr], most: u32) -> bool
     ensures { IsTrue result ↔ (nodes_height (nodes_of expr_node list.now) ≤ most) }
 {
@@ -80,7 +78,6 @@ fn are_exprs_within(list: &[Expr], most: u32) -> bool
 
 /// Whether an expression that may be missing is at most so high.
 #[cycle(ast)]
-#[tactic(auto, using(crate::proofs::Rows::rows, crate::proofs::Heights::heights), unfolding(crate::specs::Open::opens))]
 fn is_value_within(value: &Option<Expr>, most: u32) -> bool
     ensures { IsTrue result ↔ (nodes_height (optional value.now) ≤ most) }
 {
@@ -92,7 +89,6 @@ fn is_value_within(value: &Option<Expr>, most: u32) -> bool
 
 /// Whether a type is at most so high.
 #[cycle(ast)]
-#[tactic(auto, using(crate::proofs::Rows::rows, crate::proofs::Heights::heights), unfolding(crate::specs::Open::opens))]
 fn is_type_within(ty: &TypeNode, most: u32) -> bool
     ensures { IsTrue result ↔ (node_height (type_node ty.now) ≤ most) }
 {
@@ -104,7 +100,6 @@ fn is_type_within(ty: &TypeNode, most: u32) -> bool
 
 /// Whether what stands under a type is at most so high.
 #[cycle(ast)]
-#[tactic(auto, using(crate::proofs::Rows::rows, crate::proofs::Heights::heights), unfolding(crate::specs::Open::opens))]
 fn are_type_parts_within(ty: &TypeNode, most: u32) -> bool
     ensures { IsTrue result ↔ (nodes_height (children_of (type_node ty.now)) ≤ most) }
 {
@@ -135,7 +130,6 @@ fn are_type_parts_within(ty: &TypeNode, most: u32) -> bool
 
 /// Whether an enumeration constant is at most so high.
 #[cycle(ast)]
-#[tactic(auto, using(crate::proofs::Rows::rows, crate::proofs::Heights::heights), unfolding(crate::specs::Open::opens))]
 fn is_constant_within(constant: &Constant, most: u32) -> bool
     ensures { IsTrue result ↔ (node_height (constant_node constant.now) ≤ most) }
 {
@@ -147,7 +141,6 @@ fn is_constant_within(constant: &Constant, most: u32) -> bool
 
 /// Whether enumeration constants are at most so high.
 #[cycle(ast)]
-#[tactic(auto, using(crate::proofs::Rows::rows, crate::proofs::Heights::heights), unfolding(crate::specs::Open::opens))]
 fn are_constants_within(list: &[Constant], most: u32) -> bool
     ensures { IsTrue result ↔ (nodes_height (nodes_of constant_node list.now) ≤ most) }
 {
@@ -161,7 +154,6 @@ fn are_constants_within(list: &[Constant], most: u32) -> bool
 
 /// Whether a member is at most so high.
 #[cycle(ast)]
-#[tactic(auto, using(crate::proofs::Rows::rows, crate::proofs::Heights::heights), unfolding(crate::specs::Open::opens))]
 fn is_member_within(member: &Declaration, most: u32) -> bool
     ensures { IsTrue result ↔ (node_height (member_node member.now) ≤ most) }
 {
@@ -173,7 +165,6 @@ fn is_member_within(member: &Declaration, most: u32) -> bool
 
 /// Whether members are at most so high.
 #[cycle(ast)]
-#[tactic(auto, using(crate::proofs::Rows::rows, crate::proofs::Heights::heights), unfolding(crate::specs::Open::opens))]
 fn are_members_within(list: &[Declaration], most: u32) -> bool
     ensures { IsTrue result ↔ (nodes_height (nodes_of member_node list.now) ≤ most) }
 {
@@ -187,7 +178,6 @@ fn are_members_within(list: &[Declaration], most: u32) -> bool
 
 /// Whether a parameter is at most so high.
 #[cycle(ast)]
-#[tactic(auto, using(crate::proofs::Rows::rows, crate::proofs::Heights::heights), unfolding(crate::specs::Open::opens))]
 fn is_parameter_within(parameter: &Parameter, most: u32) -> bool
     ensures { IsTrue result ↔ (node_height (parameter_node parameter.now) ≤ most) }
 {
@@ -199,7 +189,6 @@ fn is_parameter_within(parameter: &Parameter, most: u32) -> bool
 
 /// Whether parameters are at most so high.
 #[cycle(ast)]
-#[tactic(auto, using(crate::proofs::Rows::rows, crate::proofs::Heights::heights), unfolding(crate::specs::Open::opens))]
 fn are_parameters_within(list: &[Parameter], most: u32) -> bool
     ensures { IsTrue result ↔ (nodes_height (nodes_of parameter_node list.now) ≤ most) }
 {
@@ -212,7 +201,6 @@ fn are_parameters_within(list: &[Parameter], most: u32) -> bool
 }
 
 /// Whether a declaration in a block is at most so high.
-#[tactic(auto, using(crate::proofs::Rows::rows, crate::proofs::Heights::heights), unfolding(crate::specs::Open::opens))]
 fn is_local_within(local: &Local, most: u32) -> bool
     ensures { IsTrue result ↔ (node_height (local_node local.now) ≤ most) }
 {
@@ -223,7 +211,6 @@ fn is_local_within(local: &Local, most: u32) -> bool
 }
 
 /// Whether the type and the initialiser of a declaration in a block are at most so high.
-#[tactic(auto, using(crate::proofs::Rows::rows, crate::proofs::Heights::heights), unfolding(crate::specs::Open::opens))]
 fn are_local_parts_within(local: &Local, most: u32) -> bool
     ensures { IsTrue result ↔ (nodes_height (children_of (local_node local.now)) ≤ most) }
 {
@@ -231,7 +218,6 @@ fn are_local_parts_within(local: &Local, most: u32) -> bool
 }
 
 /// Whether declarations in a block are at most so high.
-#[tactic(auto, using(crate::proofs::Rows::rows, crate::proofs::Heights::heights), unfolding(crate::specs::Open::opens))]
 fn are_locals_within(list: &[Local], most: u32) -> bool
     ensures { IsTrue result ↔ (nodes_height (nodes_of local_node list.now) ≤ most) }
 {
@@ -244,7 +230,6 @@ fn are_locals_within(list: &[Local], most: u32) -> bool
 }
 
 /// Whether the first part of a `for` is at most so high.
-#[tactic(auto, using(crate::proofs::Rows::rows, crate::proofs::Heights::heights), unfolding(crate::specs::Open::opens))]
 fn is_first_within(first: &ForFirst, most: u32) -> bool
     ensures { IsTrue result ↔ (nodes_height (first_nodes first.now) ≤ most) }
 {
@@ -256,7 +241,6 @@ fn is_first_within(first: &ForFirst, most: u32) -> bool
 }
 
 /// Whether the condition or the step of a `for` is at most so high.
-#[tactic(auto, using(crate::proofs::Rows::rows, crate::proofs::Heights::heights), unfolding(crate::specs::Open::opens))]
 fn is_part_of_for_within(part: &Option<Expr>, most: u32) -> bool
     ensures { IsTrue result ↔ (node_height (part_of_for part.now) ≤ most) }
 {
@@ -267,14 +251,14 @@ fn is_part_of_for_within(part: &Option<Expr>, most: u32) -> bool
 }
 
 /// Whether the parts of a `for` before its body are at most so high.
-#[tactic(auto, using(crate::proofs::Rows::rows, crate::proofs::Heights::heights), unfolding(crate::specs::Open::opens))]
 fn is_head_within(
     first: &ForFirst,
     condition: &Option<Expr>,
     step: &Option<Expr>,
     most: u32,
 ) -> bool
-    ensures { IsTrue result ↔ (nodes_height (joined (first_nodes first.now) (both (part_of_for condition.now) (part_of_for step.now))) ≤ most) }
+    ensures { IsTrue result ↔ (nodes_height (append_nodes (first_nodes first.now)
+        (both (part_of_for condition.now) (part_of_for step.now))) ≤ most) }
 {
     is_first_within(first, most)
         && is_part_of_for_within(condition, most)
@@ -283,7 +267,6 @@ fn is_head_within(
 
 /// Whether a statement is at most so high.
 #[cycle(statement)]
-#[tactic(auto, using(crate::proofs::Rows::rows, crate::proofs::Heights::heights), unfolding(crate::specs::Open::opens))]
 fn is_stmt_within(stmt: &Stmt, most: u32) -> bool
     ensures { IsTrue result ↔ (node_height (stmt_node stmt.now) ≤ most) }
 {
@@ -295,7 +278,6 @@ fn is_stmt_within(stmt: &Stmt, most: u32) -> bool
 
 /// Whether what stands under a statement is at most so high.
 #[cycle(statement)]
-#[tactic(auto, using(crate::proofs::Rows::rows, crate::proofs::Heights::heights), unfolding(crate::specs::Open::opens))]
 fn are_parts_within(stmt: &Stmt, most: u32) -> bool
     ensures { IsTrue result ↔ (nodes_height (children_of (stmt_node stmt.now)) ≤ most) }
 {
@@ -336,7 +318,6 @@ fn are_parts_within(stmt: &Stmt, most: u32) -> bool
 
 /// Whether the statement behind `else`, if there is one, is at most so high.
 #[cycle(statement)]
-#[tactic(auto, using(crate::proofs::Rows::rows, crate::proofs::Heights::heights), unfolding(crate::specs::Open::opens))]
 fn is_otherwise_within(otherwise: &Option<Box<Stmt>>, most: u32) -> bool
     ensures { IsTrue result ↔ (nodes_height (else_nodes otherwise.now) ≤ most) }
 {
@@ -348,7 +329,6 @@ fn is_otherwise_within(otherwise: &Option<Box<Stmt>>, most: u32) -> bool
 
 /// Whether statements are at most so high.
 #[cycle(statement)]
-#[tactic(auto, using(crate::proofs::Rows::rows, crate::proofs::Heights::heights), unfolding(crate::specs::Open::opens))]
 fn are_stmts_within(list: &[Stmt], most: u32) -> bool
     ensures { IsTrue result ↔ (nodes_height (nodes_of stmt_node list.now) ≤ most) }
 {
@@ -361,7 +341,6 @@ fn are_stmts_within(list: &[Stmt], most: u32) -> bool
 }
 
 /// Whether the value of a label is at most so high.
-#[tactic(auto, using(crate::proofs::Rows::rows, crate::proofs::Heights::heights), unfolding(crate::specs::Open::opens))]
 fn is_label_within(label: &Label, most: u32) -> bool
     ensures { IsTrue result ↔ (nodes_height (label_nodes label.now) ≤ most) }
 {
@@ -373,7 +352,6 @@ fn is_label_within(label: &Label, most: u32) -> bool
 
 /// Whether a label of a `switch` with its statements is at most so high.
 #[cycle(statement)]
-#[tactic(auto, using(crate::proofs::Rows::rows, crate::proofs::Heights::heights), unfolding(crate::specs::Open::opens))]
 fn is_section_within(section: &Section, most: u32) -> bool
     ensures { IsTrue result ↔ (node_height (section_node section.now) ≤ most) }
 {
@@ -388,7 +366,6 @@ fn is_section_within(section: &Section, most: u32) -> bool
 
 /// Whether the labels of a `switch` with their statements are at most so high.
 #[cycle(statement)]
-#[tactic(auto, using(crate::proofs::Rows::rows, crate::proofs::Heights::heights), unfolding(crate::specs::Open::opens))]
 fn are_sections_within(list: &[Section], most: u32) -> bool
     ensures { IsTrue result ↔ (nodes_height (nodes_of section_node list.now) ≤ most) }
 {
@@ -402,7 +379,6 @@ fn are_sections_within(list: &[Section], most: u32) -> bool
 
 /// Whether an initialiser is at most so high.
 #[cycle(init)]
-#[tactic(auto, using(crate::proofs::Rows::rows, crate::proofs::Heights::heights), unfolding(crate::specs::Open::opens))]
 fn is_init_within(init: &Init, most: u32) -> bool
     ensures { IsTrue result ↔ (node_height (init_node init.now) ≤ most) }
 {
@@ -417,7 +393,6 @@ fn is_init_within(init: &Init, most: u32) -> bool
 
 /// Whether initialisers are at most so high.
 #[cycle(init)]
-#[tactic(auto, using(crate::proofs::Rows::rows, crate::proofs::Heights::heights), unfolding(crate::specs::Open::opens))]
 fn are_inits_within(list: &[Init], most: u32) -> bool
     ensures { IsTrue result ↔ (nodes_height (nodes_of init_node list.now) ≤ most) }
 {
@@ -430,7 +405,6 @@ fn are_inits_within(list: &[Init], most: u32) -> bool
 }
 
 /// Whether an initialiser that may be missing is at most so high.
-#[tactic(auto, using(crate::proofs::Rows::rows, crate::proofs::Heights::heights), unfolding(crate::specs::Open::opens))]
 fn is_optional_init_within(init: &Option<Init>, most: u32) -> bool
     ensures { IsTrue result ↔ (nodes_height (optional_init init.now) ≤ most) }
 {
@@ -441,7 +415,6 @@ fn is_optional_init_within(init: &Option<Init>, most: u32) -> bool
 }
 
 /// Whether what follows the declarator of a function is at most so high.
-#[tactic(auto, using(crate::proofs::Rows::rows, crate::proofs::Heights::heights), unfolding(crate::specs::Open::opens))]
 fn is_end_within(end: &FunctionEnd, most: u32) -> bool
     ensures { IsTrue result ↔ (nodes_height (end_nodes end.now) ≤ most) }
 {
@@ -456,7 +429,6 @@ fn is_end_within(end: &FunctionEnd, most: u32) -> bool
 }
 
 /// Whether what stands at file scope is at most so high.
-#[tactic(auto, using(crate::proofs::Rows::rows, crate::proofs::Heights::heights), unfolding(crate::specs::Open::opens))]
 fn is_external_within(external: &External, most: u32) -> bool
     ensures { IsTrue result ↔ (node_height (external_node external.now) ≤ most) }
 {
@@ -467,7 +439,6 @@ fn is_external_within(external: &External, most: u32) -> bool
 }
 
 /// Whether what stands under an external is at most so high.
-#[tactic(auto, using(crate::proofs::Rows::rows, crate::proofs::Heights::heights), unfolding(crate::specs::Open::opens))]
 fn are_external_parts_within(external: &External, most: u32) -> bool
     ensures { IsTrue result ↔ (nodes_height (children_of (external_node external.now)) ≤ most) }
 {

@@ -48,8 +48,8 @@ pub fn below(alloc: Global, indent: &[u8]) -> Result<Vec<u8>, AllocError>
 }
 
 /// The spellings, with a blank before each.
-fn spaced(alloc: Global, spellings: &[Name]) -> Result<Vec<u8>, AllocError>
-    ensures { IfOk result (λ v. v.items ≡ words.spaced spellings.now) }
+fn spellings_text(alloc: Global, spellings: &[Name]) -> Result<Vec<u8>, AllocError>
+    ensures { IfOk result (λ v. v.items ≡ words.spellings_text spellings.now) }
 {
     let mut v = Vec::new(alloc);
     for spelling in spellings {
@@ -71,7 +71,7 @@ fn expr_line(alloc: Global, out: &mut Vec<u8>, indent: &[u8], e: &Expr) -> Resul
             put_line(out, indent, "character ", spelling.as_slice())
         }
         Expr::Text { spellings, .. } => {
-            let text = spaced(alloc, spellings.as_slice())?;
+            let text = spellings_text(alloc, spellings.as_slice())?;
             put_line(out, indent, "text", &text)
         }
         Expr::Call { name, .. } => put_line(out, indent, "call ", name.as_slice()),

@@ -202,7 +202,8 @@ fn put_label(
     under: &[u8],
     label: &Label,
 ) -> Result<(), AllocError>
-    ensures { OnOk result (out.new.items ≡ (out.old.items ++ line_text indent.now (label_line label.now)) ++ nodes_text under.now (label_nodes label.now)) }
+    ensures { OnOk result (out.new.items ≡ (out.old.items ++ line_text indent.now (label_line label.now))
+        ++ nodes_text under.now (label_nodes label.now)) }
 {
     match label {
         Label::Case { value, .. } => {
@@ -266,7 +267,7 @@ fn put_inits(
 }
 
 /// Puts the line of a declaration at file scope and its type.
-fn put_declared(
+fn put_declaration(
     alloc: Global,
     out: &mut Vec<u8>,
     indent: &[u8],
@@ -275,7 +276,9 @@ fn put_declared(
     declaration: &Declaration,
     storage: &str,
 ) -> Result<(), AllocError>
-    ensures { OnOk result (out.new.items ≡ (out.old.items ++ line_text indent.now (word.now ++ declaration.now.name ++ storage.now)) ++ node_text under.now (type_node declaration.now.ty)) }
+    ensures { OnOk result (out.new.items
+        ≡ (out.old.items ++ line_text indent.now (word.now ++ declaration.now.name ++ storage.now))
+        ++ node_text under.now (type_node declaration.now.ty)) }
 {
     put_line_of_three(out, indent, word, declaration.name.as_slice(), storage)?;
     put_type(alloc, out, under, &declaration.ty)
@@ -331,7 +334,7 @@ fn put_external(
     let under = below(alloc, indent)?;
     match external {
         External::Typedef(declaration) => {
-            put_declared(alloc, out, indent, &under, "typedef ", declaration, "")
+            put_declaration(alloc, out, indent, &under, "typedef ", declaration, "")
         }
         External::Object {
             declaration,
@@ -339,7 +342,7 @@ fn put_external(
             init,
         } => {
             let storage = storage_text(*storage);
-            put_declared(alloc, out, indent, &under, "object ", declaration, storage)?;
+            put_declaration(alloc, out, indent, &under, "object ", declaration, storage)?;
             put_optional_init(alloc, out, &under, init)
         }
         External::Function {
@@ -348,7 +351,7 @@ fn put_external(
             end,
         } => {
             let storage = storage_text(*storage);
-            put_declared(
+            put_declaration(
                 alloc,
                 out,
                 indent,

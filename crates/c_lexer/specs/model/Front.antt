@@ -14,27 +14,27 @@ use Rattle.c_lexer.specs.Literals.{char_end, text_end}
 use Rattle.c_lexer.specs.Blanks.{close_at, is_linemarker}
 use Rattle.c_lexer.specs.Pieces.{first_passes}
 
-abbrev pub marked : Punct → ℕ → Option Cut
-marked mark n = Some (record { piece = p.Token (k.Mark mark); len = n })
+abbrev pub mark_cut : Punct → ℕ → Option Cut
+mark_cut mark n = Some (record { piece = p.Token (k.Mark mark); len = n })
 
-abbrev pub sized : ℕ → Option Punct → Option Cut → Option Cut
-sized n None next = next
-sized n (Some mark) next = marked mark n
+abbrev pub mark_or : ℕ → Option Punct → Option Cut → Option Cut
+mark_or n None next = next
+mark_or n (Some mark) next = mark_cut mark n
 
-abbrev pub one : ℕ → Option Cut
-one a = sized 1 (mark1 a) None
+abbrev pub one_byte_mark : ℕ → Option Cut
+one_byte_mark a = mark_or 1 (mark1 a) None
 
-abbrev pub two : ℕ → ℕ → Option Cut
-two a b = sized 2 (mark2 a b) (one a)
+abbrev pub two_byte_mark : ℕ → ℕ → Option Cut
+two_byte_mark a b = mark_or 2 (mark2 a b) (one_byte_mark a)
 
-abbrev pub three : ℕ → ℕ → ℕ → Option Cut
-three a b c = sized 3 (mark3 a b c) (two a b)
+abbrev pub three_byte_mark : ℕ → ℕ → ℕ → Option Cut
+three_byte_mark a b c = mark_or 3 (mark3 a b c) (two_byte_mark a b)
 
 unfoldable pub mark_at : List ℕ → Option Cut
 mark_at [] = None
-mark_at (a ∷ []) = one a
-mark_at (a ∷ b ∷ []) = two a b
-mark_at (a ∷ b ∷ c ∷ s) = three a b c
+mark_at (a ∷ []) = one_byte_mark a
+mark_at (a ∷ b ∷ []) = two_byte_mark a b
+mark_at (a ∷ b ∷ c ∷ s) = three_byte_mark a b c
 
 unfoldable pub word_at : List ℕ → Option Cut
 word_at s = let n = prefix_len is_word s in Some (record { piece = p.Token (kind_of_word (take n s)); len = n })
@@ -42,14 +42,14 @@ word_at s = let n = prefix_len is_word s in Some (record { piece = p.Token (kind
 unfoldable pub number_at : List ℕ → Option Cut
 number_at s = let n = prefix_len is_run s in if is_number (take n s) then Some (record { piece = p.Token k.Number; len = n }) else None
 
-abbrev pub ended : ℕ → Piece → Option ℕ → Option Cut
-ended before x None = None
-ended before x (Some n) = Some (record { piece = x; len = n + before })
+abbrev pub cut_to_end : ℕ → Piece → Option ℕ → Option Cut
+cut_to_end before x None = None
+cut_to_end before x (Some n) = Some (record { piece = x; len = n + before })
 
 unfoldable pub slash_at : List ℕ → Option Cut
 slash_at [] = None
 slash_at (a ∷ []) = mark_at (a ∷ [])
-slash_at (a ∷ b ∷ s) = if b == 42 then ended 2 p.Blank (close_at s)
+slash_at (a ∷ b ∷ s) = if b == 42 then cut_to_end 2 p.Blank (close_at s)
     else if b == 47 then Some (record { piece = p.Blank; len = prefix_len is_inner s + 2 })
     else mark_at (a ∷ b ∷ s)
 
@@ -63,8 +63,8 @@ marker_at first s = let n = prefix_len is_inner s in if first && is_linemarker (
 -- what a byte that begins neither blanks, a word nor a number begins
 unfoldable pub other_at : Bool → List ℕ → Option Cut
 other_at first [] = None
-other_at first (b ∷ s) = if b == 39 then ended 1 (p.Token k.Char) (char_end s)
-    else if b == 34 then ended 1 (p.Token k.Text) (text_end s)
+other_at first (b ∷ s) = if b == 39 then cut_to_end 1 (p.Token k.Char) (char_end s)
+    else if b == 34 then cut_to_end 1 (p.Token k.Text) (text_end s)
     else if b == 35 then marker_at first s
     else if b == 47 then slash_at (b ∷ s)
     else if b == 46 then dot_at (b ∷ s)

@@ -1,5 +1,5 @@
 use Rattle.std.proofs.Common.{sym, ap, ◌∙◌}
-use Rattle.c_tree.specs.Nodes.{section_node, stmt_node, expr_node, nodes_of, children_of, part_of_for, first_nodes, more, both, joined}
+use Rattle.c_tree.specs.Nodes.{section_node, stmt_node, expr_node, nodes_of, children_of, part_of_for, first_nodes, more, both, append_nodes}
 use Rattle.c_tree.specs.Open.{opens}
 use Rattle.c_tree.proofs.Rows.{stmt_row-hidden, section_row-hidden}
 use Rattle.c_tree.proofs.Heights.{one_more, too_high, height-is, rest-is, last-is}
@@ -36,5 +36,5 @@ pub are_parts_within-returns-then-is_head_within : goal.are_parts_within-returns
 unfolding opens
 are_parts_within-returns-then-is_head_within t c =
     last-is _ (first_nodes c.in-For.first) (part_of_for c.in-For.condition) (part_of_for c.in-For.step) (stmt_node c.deref-then-is_head_within.result.now) _ _
-    (ap (λ s. joined (first_nodes c.in-For.first) (more (part_of_for c.in-For.condition) (both (part_of_for c.in-For.step) (stmt_node s)))) c.deref-then-is_head_within.ensures ∙ sym (ap (λ e. children_of (stmt_node e)) c.in-For.is))
+    (ap (λ s. append_nodes (first_nodes c.in-For.first) (more (part_of_for c.in-For.condition) (both (part_of_for c.in-For.step) (stmt_node s)))) c.deref-then-is_head_within.ensures ∙ sym (ap (λ e. children_of (stmt_node e)) c.in-For.is))
     (c.is_head_within.ensures.0 c.if-is_head_within.true) c.is_stmt_within-then-is_head_within.ensures

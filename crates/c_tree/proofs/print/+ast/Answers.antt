@@ -4,18 +4,18 @@ use Rattle.std.specs.Prelude.{codes}
 use Rattle.c_tree.specs.Nodes.{nodes_of, expr_node, type_node, constant_node, member_node, parameter_node, children_of}
 use Rattle.c_tree.specs.Open.{opens}
 use Rattle.c_tree.proofs.Rows.{expr_row-hidden, parameter_row-hidden}
-use Rattle.c_tree.proofs.Lines.{one_more, under, one_under, renamed, first_and, two, three, both_is, more_is}
+use Rattle.c_tree.proofs.Lines.{one_more, under, one_under, nodes_are, first_and, two, three, both_is, more_is}
 use Rattle.c_tree.proofs.print.+ast.Goals as goal
 
 pub put_operands-returns-in-Call : goal.put_operands-returns-in-Call
 unfolding opens
 put_operands-returns-in-Call t c =
-    renamed _ _ _ _ _ _ (ap (nodes_of expr_node) c.as_slice.ensures ∙ sym (expr_row-hidden _) ∙ sym (ap (λ e. children_of (expr_node e)) c.in-Call.is)) c.put_exprs.ensures
+    nodes_are _ _ _ _ _ _ (ap (nodes_of expr_node) c.as_slice.ensures ∙ sym (expr_row-hidden _) ∙ sym (ap (λ e. children_of (expr_node e)) c.in-Call.is)) c.put_exprs.ensures
 
 pub put_operands-returns-in-Comma : goal.put_operands-returns-in-Comma
 unfolding opens
 put_operands-returns-in-Comma t c =
-    renamed _ _ _ _ _ _ (ap (nodes_of expr_node) c.as_slice-in-Comma.ensures ∙ sym (expr_row-hidden _) ∙ sym (ap (λ e. children_of (expr_node e)) c.in-Comma.is)) c.put_exprs-in-Comma.ensures
+    nodes_are _ _ _ _ _ _ (ap (nodes_of expr_node) c.as_slice-in-Comma.ensures ∙ sym (expr_row-hidden _) ∙ sym (ap (λ e. children_of (expr_node e)) c.in-Comma.is)) c.put_exprs-in-Comma.ensures
 
 pub put_operands-returns-in_ok-put_expr-in-Binary : goal.put_operands-returns-in_ok-put_expr-in-Binary
 unfolding opens

@@ -1,15 +1,15 @@
 -- What each form puts, from what its calls put.
 use Rattle.std.proofs.Common.{sym, ap, ◌∙◌, refl}
-use Rattle.c_tree.specs.Nodes.{both, more, nodes_of, expr_node, stmt_node, section_node, children_of, part_of_for, first_nodes, joined, else_nodes}
+use Rattle.c_tree.specs.Nodes.{both, more, nodes_of, expr_node, stmt_node, section_node, children_of, part_of_for, first_nodes, append_nodes, else_nodes}
 use Rattle.c_tree.specs.Open.{opens}
 use Rattle.c_tree.proofs.Rows.{stmt_row-hidden, section_row-hidden, if-children}
-use Rattle.c_tree.proofs.Lines.{one_more, renamed, first_and, two, four, two_lists}
+use Rattle.c_tree.proofs.Lines.{one_more, nodes_are, first_and, two, four, two_lists}
 use Rattle.c_tree.proofs.print_units.+statement.Goals as goal
 
 pub put_parts-returns-in-Block : goal.put_parts-returns-in-Block
 unfolding opens
 put_parts-returns-in-Block t c =
-    renamed _ _ _ _ _ _ (ap (nodes_of stmt_node) c.as_slice.ensures ∙ sym (stmt_row-hidden _) ∙ sym (ap (λ e. children_of (stmt_node e)) c.in-Block.is)) c.put_stmts.ensures
+    nodes_are _ _ _ _ _ _ (ap (nodes_of stmt_node) c.as_slice.ensures ∙ sym (stmt_row-hidden _) ∙ sym (ap (λ e. children_of (stmt_node e)) c.in-Block.is)) c.put_stmts.ensures
 
 pub put_parts-returns-in_ok-put_stmt-in-If : goal.put_parts-returns-in_ok-put_stmt-in-If
 unfolding opens
@@ -29,7 +29,7 @@ put_parts-returns-in_ok-put_expr-in-Switch t c =
 pub put_parts-returns-in_ok-put_part_of_for-in-For-2 : goal.put_parts-returns-in_ok-put_part_of_for-in-For-2
 unfolding opens
 put_parts-returns-in_ok-put_part_of_for-in-For-2 t c =
-    four _ _ _ _ _ _ _ (first_nodes c.in-For.first) (part_of_for c.in-For.condition) (part_of_for c.in-For.step) _ _ (ap (λ s. joined (first_nodes c.in-For.first) (more (part_of_for c.in-For.condition) (both (part_of_for c.in-For.step) (stmt_node s)))) c.deref-in-For.ensures ∙ sym (ap (λ e. children_of (stmt_node e)) c.in-For.is)) c.in_ok-put_first-in-For.ensures c.in_ok-put_part_of_for-in-For.ensures c.in_ok-put_part_of_for-in-For-2.ensures c.put_stmt-in-For.ensures
+    four _ _ _ _ _ _ _ (first_nodes c.in-For.first) (part_of_for c.in-For.condition) (part_of_for c.in-For.step) _ _ (ap (λ s. append_nodes (first_nodes c.in-For.first) (more (part_of_for c.in-For.condition) (both (part_of_for c.in-For.step) (stmt_node s)))) c.deref-in-For.ensures ∙ sym (ap (λ e. children_of (stmt_node e)) c.in-For.is)) c.in_ok-put_first-in-For.ensures c.in_ok-put_part_of_for-in-For.ensures c.in_ok-put_part_of_for-in-For-2.ensures c.put_stmt-in-For.ensures
 
 pub put_stmts-loop-stmt-preserved : goal.put_stmts-loop-stmt-preserved
 unfolding opens
