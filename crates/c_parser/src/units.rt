@@ -107,13 +107,13 @@ fn typedefs(
 
 /// A declarator with a name, behind its type.
 #[derive(Drop)]
-struct Declared {
+struct DeclaratorParts {
     ty: TypeNode,
     named: Named,
     shapes: Seq<Shape>,
 }
 
-impl Declared {
+impl DeclaratorParts {
     /// Whether the declarator itself is one of a function.
     fn is_function(&self) -> bool
         ensures { result ≡ is_function self.now.shapes }
@@ -128,7 +128,7 @@ impl Declared {
     fn into_declaration(self, alloc: Global) -> Result<Declaration, AllocError>
         ensures { IfOk result (λ d. d ≡ types.declaration_of self.ty self.named self.shapes) }
     {
-        let Declared { ty, named, shapes } = self;
+        let DeclaratorParts { ty, named, shapes } = self;
         let ty = with_shapes(alloc, shapes, ty)?;
         Ok(Declaration {
             at: named.at,
@@ -174,16 +174,16 @@ fn object(
     tokens: &mut Tokens<'_>,
     depth: usize,
     storage: Option<Storage>,
-    declaration_of: Declared,
+    declarator: DeclaratorParts,
 ) -> Result<External, Fault>
-    ensures { Answers (model.object_by scope.now depth storage declared.ty declared.named declared.shapes tokens.old) result tokens.new }
+    ensures { Answers (model.object_by scope.now depth storage declarator.ty declarator.named declarator.shapes tokens.old) result tokens.new }
 {
     if !tokens.sees(Punct::Assign) {
-        return Ok(declared.into_external(alloc, storage, None)?);
+        return Ok(declarator.into_external(alloc, storage, None)?);
     }
     tokens.take();
     let value = init(alloc, scope, tokens, depth)?;
-    Ok(declared.into_external(alloc, storage, Some(value))?)
+    Ok(declarator.into_external(alloc, storage, Some(value))?)
 }
 
 /// Reads declarators with commas between them, each with its initialiser, behind those that were found.
@@ -213,12 +213,12 @@ fn objects(
         };
         let bare = ty.bare()?;
         let ty_here = ty.into_type();
-        let declaration_of = Declared {
+        let declarator = DeclaratorParts {
             ty: ty_here,
             named,
             shapes,
         };
-        found.push(object(alloc, scope, tokens, depth, storage, declaration_of)?)?;
+        found.push(object(alloc, scope, tokens, depth, storage, declarator)?)?;
         ty = bare;
         if !tokens.sees(Punct::Comma) {
             return Ok(found);
@@ -235,14 +235,14 @@ fn objects_behind(
     tokens: &mut Tokens<'_>,
     depth: usize,
     storage: Option<Storage>,
-    declaration_of: Declared,
+    declarator: DeclaratorParts,
     bare: SpecifierType,
 ) -> Result<Seq<External>, Fault>
-    requires { types.bare declared.ty ≡ bare }
-    ensures { Answers (model.objects_behind scope.now depth storage declared.ty declared.named declared.shapes tokens.old) result tokens.new }
+    requires { types.bare declarator.ty ≡ bare }
+    ensures { Answers (model.objects_behind scope.now depth storage declarator.ty declarator.named declarator.shapes tokens.old) result tokens.new }
 {
     let mut found = Seq::new(alloc);
-    found.push(object(alloc, scope, tokens, depth, storage, declaration_of)?)?;
+    found.push(object(alloc, scope, tokens, depth, storage, declarator)?)?;
     if !tokens.sees(Punct::Comma) {
         return Ok(found);
     }
@@ -278,18 +278,18 @@ fn objects_named(
     tokens: &mut Tokens<'_>,
     depth: usize,
     storage: Option<Storage>,
-    declaration_of: Declared,
+    declarator: DeclaratorParts,
     bare: SpecifierType,
 ) -> Result<Seq<External>, Fault>
-    requires { types.bare declared.ty ≡ bare }
-    ensures { Answers (model.objects_named scope.now depth storage declared.ty declared.named declared.shapes tokens.old) result tokens.new }
+    requires { types.bare declarator.ty ≡ bare }
+    ensures { Answers (model.objects_named scope.now depth storage declarator.ty declarator.named declarator.shapes tokens.old) result tokens.new }
 {
     if tokens.sees(Punct::LeftBrace) {
         tokens.take();
-        let declaration = declared.into_declaration(alloc)?;
+        let declaration = declarator.into_declaration(alloc)?;
         return body_behind(alloc, scope, tokens, depth, storage, declaration);
     }
-    let found = objects_behind(alloc, scope, tokens, depth, storage, declaration_of, bare)?;
+    let found = objects_behind(alloc, scope, tokens, depth, storage, declarator, bare)?;
     tokens.expect(Punct::Semicolon)?;
     Ok(found)
 }
@@ -318,8 +318,8 @@ fn behind_type(
     };
     let bare = base.bare()?;
     let ty = base.into_type();
-    let declaration_of = Declared { ty, named, shapes };
-    objects_named(alloc, scope, tokens, depth, storage, declaration_of, bare)
+    let declarator = DeclaratorParts { ty, named, shapes };
+    objects_named(alloc, scope, tokens, depth, storage, declarator, bare)
 }
 
 /// Reads a declaration at file scope behind its storage word.
