@@ -187,6 +187,3 @@ impl Machine {
         self.written
     }
 }
-
-#[cfg(test)]
-mod tests;

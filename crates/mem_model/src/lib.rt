@@ -12,6 +12,4 @@ pub mod cells;
 pub mod laws;
 pub mod memory;
 mod rows;
-#[cfg(test)]
-mod tests;
 pub mod value;

@@ -6,14 +6,18 @@
 mod encodings;
 mod escape;
 mod kind;
+mod memory;
 mod number;
+mod runs;
 mod sheet;
+mod steps;
 mod tokens;
 
 use crate::escape::{escape, unescape};
 use crate::kind::{KINDS, Kind};
 use crate::sheet::{Row, read_rows};
 use anyhow::{Context, Result, bail};
+use mem_model::memory::Mem;
 use std::alloc::Global;
 use std::fs;
 
@@ -41,10 +45,11 @@ fn main(rt: HostRuntime) -> Result<()> {
 
 /// The first row whose answer is not the one that is due, with both.
 fn first_difference(alloc: Global, kind: &Kind, rows: &[Row]) -> Result<Option<String>> {
+    let mut mem = Mem::new(alloc);
     for row in rows {
         let line = row.line;
         let came = kind
-            .answer(alloc, row.given.as_str())
+            .answer(alloc, &mut mem, row.given.as_str())
             .context(format_args!("{}, line {line}", kind.file()))?;
         let due = unescape(alloc, row.due.as_str())?;
         if came.as_slice() != due.as_slice() {
