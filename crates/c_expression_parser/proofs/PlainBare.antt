@@ -13,7 +13,7 @@ use Rattle.c_grammar.specs.Parser.{ParseOutcome, and_then, consts, pure}
 use Rattle.c_grammar.specs.ParseExpr.{named_type, tag, tag_type, plain}
 use Rattle.c_expression_parser.specs.declared.specifiers.Words.TheVariants as w
 use Rattle.c_expression_parser.specs.declared.specifiers.Words.{Words}
-use Rattle.c_expression_parser.specs.Words.{words_from, finish}
+use Rattle.c_grammar.specs.ParseExpr.{words_from, specifier_behind}
 use Rattle.c_expression_parser.specs.declared.cursor.Fault.{Fault}
 use Rattle.c_expression_parser.specs.Answers.{Answers}
 use Rattle.c_expression_parser.proofs.SplitWords.{splits}

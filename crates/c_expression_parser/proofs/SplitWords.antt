@@ -13,7 +13,7 @@ use Rattle.c_grammar.specs.Tokens.{Scope, place, kind_at, behind}
 use Rattle.c_grammar.specs.Parser.{Parser, ParseOutcome}
 use Rattle.c_grammar.specs.ParseExpr.{named_type, settle, word_by, specifier_by, specifier_from}
 use Rattle.c_expression_parser.specs.declared.specifiers.Words.{Words}
-use Rattle.c_expression_parser.specs.Words.{grown, settled, goes_on, words_from, finish}
+use Rattle.c_grammar.specs.ParseExpr.{extend, start_of, word_or_end, words_from, specifier_behind}
 
 module _ (s : Scope) (on : Specifier → ℕ → Parser TypeNode) where
   abbrev whole : Words × List Token → ParseOutcome TypeNode

@@ -9,8 +9,8 @@ use crate::cursor::{Fault, Tokens};
 use crate::expressions::{declarator, expr};
 use crate::scope::Scope;
 use crate::shapes::with_shapes;
-use crate::specifiers::{Words, named_type, read_words};
-use c_grammar::{Declarator, Naming, Specifier};
+use crate::specifiers::{named_type, read_words};
+use c_grammar::{Declarator, Naming, Specifier, SpecifierStart};
 use c_lexer::Punct;
 use c_tree::{Constant, Declaration, Name, Seq, TypeNode};
 use std::alloc::{AllocError, Global};
@@ -89,7 +89,7 @@ fn constants(
     tokens: &mut Tokens<'_>,
     depth: usize,
 ) -> Result<Seq<Constant>, Fault>
-    ensures { Answers (model.braced_from (model.constant scope.now depth) (length tokens.old) [] tokens.old) result tokens.new }
+    ensures { Answers (model.braced_list_from (model.constant scope.now depth) (length tokens.old) [] tokens.old) result tokens.new }
 {
     let mut found = Seq::new(alloc);
     for _turn in 0..tokens.left() {
@@ -113,7 +113,7 @@ fn declaration_of(
     depth: usize,
     base: SpecifierType,
 ) -> Result<Seq<Declaration>, Fault>
-    ensures { Answers (model.declared_from scope.now depth (length tokens.old) base [] tokens.old) result tokens.new }
+    ensures { Answers (model.declarators_from scope.now depth (length tokens.old) base [] tokens.old) result tokens.new }
 {
     let mut found = Seq::new(alloc);
     let mut ty = base;
@@ -235,18 +235,18 @@ pub fn specifier(
         return Err(Fault::Refused);
     }
     match read_words(tokens) {
-        Words::Basic(basic) => Ok(SpecifierType::basic(basic)),
-        Words::Other(Specifier::Struct) => {
+        SpecifierStart::Basic(basic) => Ok(SpecifierType::basic(basic)),
+        SpecifierStart::Other(Specifier::Struct) => {
             let at = tokens.place();
             tokens.take();
             tag_or_body(alloc, scope, tokens, depth - 1, Specifier::Struct, at)
         }
-        Words::Other(Specifier::Enum) => {
+        SpecifierStart::Other(Specifier::Enum) => {
             let at = tokens.place();
             tokens.take();
             tag_or_body(alloc, scope, tokens, depth - 1, Specifier::Enum, at)
         }
-        Words::Other(Specifier::Name) => named_type(alloc, scope, tokens),
-        Words::Other(_) => Err(Fault::Refused),
+        SpecifierStart::Other(Specifier::Name) => named_type(alloc, scope, tokens),
+        SpecifierStart::Other(_) => Err(Fault::Refused),
     }
 }

@@ -9,11 +9,11 @@ ghost use Rattle.c_grammar.specs.declared.classes.Prefix.TheVariants as fronts;
 ghost use Rattle.c_expression_parser.specs.Answers.{Answers};
 
 use crate::cursor::{Fault, Tokens};
-use crate::levels::{binds, demands, level_of, makes};
 use crate::parts::{member, named_core, no_name, texts};
 use crate::scope::Scope;
 use crate::shapes::{comma_of, may_be_nameless, parameter_of, with_shapes, with_shape, without_void};
 use crate::specifiers::plain;
+use c_grammar::levels::{binding_level, level_of, operand_level, result_level};
 use c_grammar::{Declarator, Infix, Naming, Prefix, Shape, infix_of, prefix_of};
 use c_lexer::Punct;
 use c_tree::{AssignOp, BinaryOp, Box, Expr, Name, Parameter, Seq, TypeName, UnaryOp};
@@ -27,7 +27,7 @@ fn listed(
     tokens: &mut Tokens<'_>,
     depth: usize,
 ) -> Result<Seq<Expr>, Fault>
-    ensures { Answers (model.listed_from (model.expr scope.now depth 2) (length tokens.old) [] tokens.old) result tokens.new }
+    ensures { Answers (model.list_from (model.expr scope.now depth 2) (length tokens.old) [] tokens.old) result tokens.new }
 {
     let mut found = Seq::new(alloc);
     for _turn in 0..tokens.left() {
@@ -96,7 +96,7 @@ fn parameters_listed(
     tokens: &mut Tokens<'_>,
     depth: usize,
 ) -> Result<Seq<Parameter>, Fault>
-    ensures { Answers (model.listed_from (model.parameter scope.now (model.expr scope.now depth) (model.declarator scope.now depth)) (length tokens.old) [] tokens.old) result tokens.new }
+    ensures { Answers (model.list_from (model.parameter scope.now (model.expr scope.now depth) (model.declarator scope.now depth)) (length tokens.old) [] tokens.old) result tokens.new }
 {
     let mut found = Seq::new(alloc);
     for _turn in 0..tokens.left() {
@@ -157,7 +157,7 @@ fn named(
     at: u32,
     name: Name,
 ) -> Result<(Expr, u8), Fault>
-    ensures { Answers (model.named scope.now (model.expr scope.now depth) (model.declarator scope.now depth) at name tokens.old) result tokens.new }
+    ensures { Answers (model.behind_name scope.now (model.expr scope.now depth) (model.declarator scope.now depth) at name tokens.old) result tokens.new }
 {
     if !tokens.sees(Punct::LeftParen) {
         return Ok((Expr::Name { at, name }, 19));
@@ -508,15 +508,15 @@ fn climb(
     let (mut left, mut level) = first;
     for _turn in 0..tokens.left() {
         let kind = infix_of(tokens.peek());
-        if binds(kind) < least {
+        if binding_level(kind) < least {
             return Ok(left);
         }
-        if level < demands(kind) {
+        if level < operand_level(kind) {
             return Err(Fault::Refused);
         }
         tokens.take();
         left = step(alloc, scope, tokens, depth, kind, at, left)?;
-        level = makes(kind);
+        level = result_level(kind);
     }
     Ok(left)
 }

@@ -9,7 +9,6 @@ mod base;
 mod braces;
 mod cursor;
 mod expressions;
-mod levels;
 mod names;
 mod parts;
 mod scope;

@@ -2,19 +2,18 @@
 
 ghost use Rattle.std.specs.Prelude.{◌≡◌, [], length};
 ghost use Rattle.c_grammar.specs.ParseExpr as model;
-ghost use Rattle.c_expression_parser.specs.Shapes.{member_name, no_name, named_core};
 ghost use Rattle.c_expression_parser.specs.Answers.{Answers};
 
 use crate::cursor::{Fault, Tokens};
 use crate::scope::Scope;
 use crate::shapes::{may_be_nameless, takes_name};
-use c_grammar::{Declarator, Named, Naming};
+use c_grammar::{Declarator, DeclaredName, Naming};
 use c_tree::{Name, Seq};
 use std::alloc::Global;
 
 /// Reads the text literals that stand here side by side.
 pub fn texts(alloc: Global, scope: &Scope<'_>, tokens: &mut Tokens<'_>) -> Result<Seq<Name>, Fault>
-    ensures { Answers (model.texts_from scope.now (length tokens.old) [] tokens.old) result tokens.new }
+    ensures { Answers (model.texts_from (length tokens.old) [] tokens.old) result tokens.new }
 {
     let mut found = Seq::new(alloc);
     for _turn in 0..tokens.left() {
@@ -29,7 +28,7 @@ pub fn texts(alloc: Global, scope: &Scope<'_>, tokens: &mut Tokens<'_>) -> Resul
 
 /// Reads the name of a member.
 pub fn member(alloc: Global, scope: &Scope<'_>, tokens: &mut Tokens<'_>) -> Result<Name, Fault>
-    ensures { Answers (member_name scope.now tokens.old) result tokens.new }
+    ensures { Answers (model.member tokens.old) result tokens.new }
 {
     if !tokens.sees_name() {
         return Err(Fault::Refused);
@@ -41,7 +40,7 @@ pub fn member(alloc: Global, scope: &Scope<'_>, tokens: &mut Tokens<'_>) -> Resu
 
 /// Reads no name, where a declarator may do without one.
 pub fn no_name(alloc: Global, tokens: &Tokens<'_>, naming: Naming) -> Result<Declarator, Fault>
-    ensures { Answers (no_name naming tokens.now) result tokens.now }
+    ensures { Answers (model.no_name naming tokens.now) result tokens.now }
 {
     if !may_be_nameless(naming) {
         return Err(Fault::Refused);
@@ -59,7 +58,7 @@ pub fn named_core(
     tokens: &mut Tokens<'_>,
     naming: Naming,
 ) -> Result<Declarator, Fault>
-    ensures { Answers (named_core scope.now naming tokens.old) result tokens.new }
+    ensures { Answers (model.core_name scope.now naming tokens.old) result tokens.new }
 {
     if !takes_name(naming, scope.is_type_at(tokens)) {
         return no_name(alloc, tokens, naming);
@@ -68,7 +67,7 @@ pub fn named_core(
     let name = scope.name_at(alloc, tokens)?;
     tokens.take();
     Ok(Declarator {
-        name: Some(Named { at, name }),
+        name: Some(DeclaredName { at, name }),
         shapes: Seq::new(alloc),
     })
 }

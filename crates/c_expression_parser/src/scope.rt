@@ -39,8 +39,8 @@ impl<'a> Scope<'a> {
     }
 
     /// Whether the name is that of a type.
-    fn is_listed(&self, name: &[u8]) -> bool
-        ensures { result ≡ words.is_listed self.now name.now }
+    fn is_type_name(&self, name: &[u8]) -> bool
+        ensures { result ≡ words.is_type_name self.now name.now }
     {
         self.types.contains(name)
     }
@@ -80,7 +80,7 @@ impl<'a> Scope<'a> {
     pub fn is_type_at(&self, tokens: &Tokens<'_>) -> bool
         ensures { result ≡ words.is_type_at self.now tokens.now }
     {
-        self.is_listed(self.spelling_at(tokens))
+        self.is_type_name(self.spelling_at(tokens))
     }
 
     /// Whether a type begins at the next token.

@@ -4,36 +4,28 @@ ghost use Rattle.std.specs.Prelude.{◌≡◌, length, IfOk};
 ghost use Rattle.c_grammar.specs.WordSets.{no_words, basic_of};
 ghost use Rattle.c_grammar.specs.ParseExpr as model;
 ghost use Rattle.c_grammar.specs.Types as types;
-ghost use Rattle.c_expression_parser.specs.Words as words;
 ghost use Rattle.c_expression_parser.specs.Answers.{Answers};
 
 use crate::base::SpecifierType;
 use crate::cursor::{Fault, Tokens};
 use crate::scope::Scope;
-use c_grammar::{Specifier, WordSet, specifier_of};
+use c_grammar::{Specifier, SpecifierStart, WordSet, specifier_of};
 use c_tree::BasicType;
 use std::alloc::Global;
 
-/// The words of a specifier: the basic type that they spell, or what stands where there are none.
-#[derive(Clone, Copy, Debug, PartialEq, Eq)]
-pub enum Words {
-    Basic(BasicType),
-    Other(Specifier),
-}
-
 /// What the words so far spell, or else what stands behind them.
-fn settled(set: WordSet, kind: Specifier) -> Words
-    ensures { result ≡ words.settled (basic_of set) kind }
+fn start_of(set: WordSet, kind: Specifier) -> SpecifierStart
+    ensures { result ≡ model.start_of (basic_of set) kind }
 {
     match set.basic() {
-        Some(basic) => Words::Basic(basic),
-        None => Words::Other(kind),
+        Some(basic) => SpecifierStart::Basic(basic),
+        None => SpecifierStart::Other(kind),
     }
 }
 
 /// The set with the word more that stands here, if one does.
-fn grown(set: WordSet, kind: Specifier) -> Option<WordSet>
-    ensures { result ≡ words.grown set kind }
+fn extend(set: WordSet, kind: Specifier) -> Option<WordSet>
+    ensures { result ≡ model.extend set kind }
 {
     match kind {
         Specifier::Const => Some(set),
@@ -43,19 +35,19 @@ fn grown(set: WordSet, kind: Specifier) -> Option<WordSet>
 }
 
 /// Reads the words of a specifier.
-pub fn read_words(tokens: &mut Tokens<'_>) -> Words
-    ensures { words.words_from (length tokens.old) no_words tokens.old ≡ (result, tokens.new) }
+pub fn read_words(tokens: &mut Tokens<'_>) -> SpecifierStart
+    ensures { model.words_from (length tokens.old) no_words tokens.old ≡ (result, tokens.new) }
 {
     let mut set = WordSet::new();
     for _turn in 0..tokens.left() {
         let kind = specifier_of(tokens.peek());
-        let Some(more) = grown(set, kind) else {
-            return settled(set, kind);
+        let Some(more) = extend(set, kind) else {
+            return start_of(set, kind);
         };
         tokens.take();
         set = more;
     }
-    settled(set, Specifier::Nothing)
+    start_of(set, Specifier::Nothing)
 }
 
 /// Reads the name of a type.
@@ -78,7 +70,7 @@ fn tag(
     tokens: &mut Tokens<'_>,
     word: Specifier,
 ) -> Result<SpecifierType, Fault>
-    ensures { Answers (model.tag scope.now word tokens.old) result tokens.new }
+    ensures { Answers (model.tag word tokens.old) result tokens.new }
 {
     if !tokens.sees_name() {
         return Err(Fault::Refused);
@@ -96,16 +88,16 @@ pub fn plain(alloc: Global, scope: &Scope<'_>, tokens: &mut Tokens<'_>) -> Resul
     ensures bare { IfOk result (λ base. types.bare base ≡ base) }
 {
     match read_words(tokens) {
-        Words::Basic(basic) => Ok(SpecifierType::basic(basic)),
-        Words::Other(Specifier::Struct) => {
+        SpecifierStart::Basic(basic) => Ok(SpecifierType::basic(basic)),
+        SpecifierStart::Other(Specifier::Struct) => {
             tokens.take();
             tag(alloc, scope, tokens, Specifier::Struct)
         }
-        Words::Other(Specifier::Enum) => {
+        SpecifierStart::Other(Specifier::Enum) => {
             tokens.take();
             tag(alloc, scope, tokens, Specifier::Enum)
         }
-        Words::Other(Specifier::Name) => named_type(alloc, scope, tokens),
-        Words::Other(_) => Err(Fault::Refused),
+        SpecifierStart::Other(Specifier::Name) => named_type(alloc, scope, tokens),
+        SpecifierStart::Other(_) => Err(Fault::Refused),
     }
 }

@@ -5,16 +5,17 @@ use Rattle.c_lexer.specs.declared.token.TokenKind.TheVariants as k
 use Rattle.c_lexer.specs.declared.token.Keyword.TheVariants as w
 use Rattle.c_lexer.specs.declared.token.Punct.{Punct}
 use Rattle.c_lexer.specs.declared.token.Punct.TheVariants as p
-use Rattle.c_lexer.specs.declared.token.Token.{Token}
+use Rattle.c_lexer.specs.Pieces.{Lexeme}
 use Rattle.c_tree.specs.declared.expressions.BinaryOp.{BinaryOp}
 use Rattle.c_tree.specs.declared.expressions.BinaryOp.TheVariants as b
 use Rattle.c_grammar.specs.declared.classes.Infix.{Infix}
 use Rattle.c_grammar.specs.declared.classes.Infix.TheVariants as i
-use Rattle.c_grammar.specs.Classes.{infix_of, prefix_of, specifier_of, level_of, binds, begins_by, begins_type_by}
-use Rattle.c_grammar.specs.Tokens.{Scope, is_mark, is_text, kind_at, is_type_at, begins, begins_type}
+use Rattle.c_grammar.specs.Classes.{infix_of, prefix_of, specifier_of, begins_by, begins_type_by}
+use Rattle.c_grammar.specs.Levels.{level_of, binding_level}
+use Rattle.c_grammar.specs.Tokens.{TypeNames, is_mark, is_text, kind_at, is_type_at, begins, begins_type}
 use Rattle.c_grammar.proofs.Outcomes.{no_true, fails, mark_is, text_is}
 
-abbrev pub infix_at : List Token → Infix
+abbrev pub infix_at : List Lexeme → Infix
 infix_at ts = infix_of (kind_at ts)
 
 pub levels : (op : BinaryOp) → (6 ≤ level_of op) × (level_of op ≤ 15)
@@ -38,7 +39,7 @@ levels b.Divide = (omega arith, omega arith)
 levels b.Remainder = (omega arith, omega arith)
 
 -- no token binds between the binary operators and the postfix forms
-pub gap : (x : Infix) → binds x ≤ 17 → binds x < 16
+pub gap : (x : Infix) → binding_level x ≤ 17 → binding_level x < 16
 gap i.Comma h = omega arith
 gap (i.Assign op) h = omega arith
 gap i.Conditional h = omega arith
@@ -51,7 +52,7 @@ gap i.Tight h = absurd (omega arith)
 gap i.Nothing h = omega arith
 
 -- none binds at the level of assignments or of conditional expressions
-pub no_two : (x : Infix) → binds x ≤ 2 → binds x < 2
+pub no_two : (x : Infix) → binding_level x ≤ 2 → binding_level x < 2
 no_two i.Comma h = omega arith
 no_two (i.Assign op) h = absurd (omega arith)
 no_two i.Conditional h = absurd (omega arith)
@@ -63,7 +64,7 @@ no_two (i.Step op) h = absurd (omega arith)
 no_two i.Tight h = absurd (omega arith)
 no_two i.Nothing h = omega arith
 
-pub no_four : (x : Infix) → binds x ≤ 4 → binds x < 4
+pub no_four : (x : Infix) → binding_level x ≤ 4 → binding_level x < 4
 no_four i.Comma h = omega arith
 no_four (i.Assign op) h = omega arith
 no_four i.Conditional h = absurd (omega arith)
@@ -79,19 +80,19 @@ no_four i.Nothing h = omega arith
 pub not_mark : (m : Punct) (kind : TokenKind) → (kind ≡ k.Mark m → ⊥) → is_mark m kind ≡ false
 not_mark m kind f = fails (is_mark m kind) (λ e. f (mark_is m kind e))
 
-pub no_tight : (kind : TokenKind) → binds (infix_of kind) ≤ 19 → (is_mark p.LeftParen kind ≡ false) × (is_text kind ≡ false)
+pub no_tight : (kind : TokenKind) → binding_level (infix_of kind) ≤ 19 → (is_mark p.LeftParen kind ≡ false) × (is_text kind ≡ false)
 no_tight kind h = (
-  not_mark p.LeftParen kind (λ e. let P : TokenKind → Type 0 = λ x. binds (infix_of x) ≤ 19 in let no : 20 ≤ 19 = subst P e h in omega arith),
-  fails (is_text kind) (λ e. let P : TokenKind → Type 0 = λ x. binds (infix_of x) ≤ 19 in let no : 20 ≤ 19 = subst P (text_is kind e) h in omega arith),
+  not_mark p.LeftParen kind (λ e. let P : TokenKind → Type 0 = λ x. binding_level (infix_of x) ≤ 19 in let no : 20 ≤ 19 = subst P e h in omega arith),
+  fails (is_text kind) (λ e. let P : TokenKind → Type 0 = λ x. binding_level (infix_of x) ≤ 19 in let no : 20 ≤ 19 = subst P (text_is kind e) h in omega arith),
 )
 
 -- the comma does not stand where nothing binds
-pub no_comma : (kind : TokenKind) → binds (infix_of kind) < 1 → is_mark p.Comma kind ≡ false
-no_comma kind h = not_mark p.Comma kind (λ e. let P : TokenKind → Type 0 = λ x. binds (infix_of x) < 1 in let no : 1 < 1 = subst P e h in omega arith)
+pub no_comma : (kind : TokenKind) → binding_level (infix_of kind) < 1 → is_mark p.Comma kind ≡ false
+no_comma kind h = not_mark p.Comma kind (λ e. let P : TokenKind → Type 0 = λ x. binding_level (infix_of x) < 1 in let no : 1 < 1 = subst P e h in omega arith)
 
 -- what binds behind a mark
-pub weak : (t : Token) (r : List Token) (m : Punct) (n : ℕ) → t.kind ≡ k.Mark m → binds (infix_of (k.Mark m)) < n → binds (infix_at (t ∷ r)) < n
-weak t r m n e h = let P : TokenKind → Type 0 = λ x. binds (infix_of x) < n in subst P (sym e) h
+pub weak : (t : Lexeme) (r : List Lexeme) (m : Punct) (n : ℕ) → t.kind ≡ k.Mark m → binding_level (infix_of (k.Mark m)) < n → binding_level (infix_at (t ∷ r)) < n
+weak t r m n e h = let P : TokenKind → Type 0 = λ x. binding_level (infix_of x) < n in subst P (sym e) h
 
 -- where an expression begins, no type does
 no_type_by : (kind : TokenKind) (listed : Bool) → begins_by (prefix_of kind) listed ≡ true → begins_type_by (specifier_of kind) listed ≡ false
@@ -105,12 +106,12 @@ no_type_by (k.Word _) listed e = no_true e
 no_type_by (k.Mark m) listed e = refl
 no_type_by k.End listed e = no_true e
 
-pub no_type : (s : Scope) (ts : List Token) → begins s ts ≡ true → begins_type s ts ≡ false
+pub no_type : (s : TypeNames) (ts : List Lexeme) → begins s ts ≡ true → begins_type s ts ≡ false
 no_type s ts e = no_type_by (kind_at ts) (is_type_at s ts) e
 
 -- nor a mark or word with which none begins
-pub begins_no_mark : (s : Scope) (ts : List Token) (m : Punct) → begins_by (prefix_of (k.Mark m)) (is_type_at s ts) ≡ false → begins s ts ≡ true → is_mark m (kind_at ts) ≡ false
+pub begins_no_mark : (s : TypeNames) (ts : List Lexeme) (m : Punct) → begins_by (prefix_of (k.Mark m)) (is_type_at s ts) ≡ false → begins s ts ≡ true → is_mark m (kind_at ts) ≡ false
 begins_no_mark s ts m h e = not_mark m (kind_at ts) (λ q. no_true (sym h ∙ ap (λ x. begins_by (prefix_of x) (is_type_at s ts)) (sym q) ∙ e))
 
-pub type_no_mark : (s : Scope) (ts : List Token) (m : Punct) → begins_type s ts ≡ true → is_mark m (kind_at ts) ≡ false
+pub type_no_mark : (s : TypeNames) (ts : List Lexeme) (m : Punct) → begins_type s ts ≡ true → is_mark m (kind_at ts) ≡ false
 type_no_mark s ts m e = not_mark m (kind_at ts) (λ q. no_true (ap (λ x. begins_type_by (specifier_of x) (is_type_at s ts)) (sym q) ∙ e))

@@ -8,7 +8,7 @@ use Rattle.c_lexer.specs.declared.token.TokenKind.{TokenKind}
 use Rattle.c_lexer.specs.declared.token.TokenKind.TheVariants as k
 use Rattle.c_lexer.specs.declared.token.Keyword.{Keyword}
 use Rattle.c_lexer.specs.declared.token.Punct.{Punct}
-use Rattle.c_lexer.specs.declared.token.Token.{Token}
+use Rattle.c_lexer.specs.Pieces.{Lexeme}
 use Rattle.c_grammar.specs.Tokens.{is_mark, is_word, is_name, is_text}
 use Rattle.c_grammar.specs.Parser.{ParseOutcome, Parser, and_then, expect, expect_word}
 
@@ -16,7 +16,7 @@ IsErr : {A : Type 0} → ParseOutcome A → Type 0
 IsErr (Ok p) = ⊥
 IsErr (Err ts) = Unit {0}
 
-pub no_ok : {A X : Type 0} {ts : List Token} {p : A × List Token} → ◌≡◌ {A = ParseOutcome A} (Err ts) (Ok p) → X
+pub no_ok : {A X : Type 0} {ts : List Lexeme} {p : A × List Lexeme} → ◌≡◌ {A = ParseOutcome A} (Err ts) (Ok p) → X
 unfolding IsErr
 no_ok {A} e = absurd (subst (λ o. IsErr {A = A} o) e tt)
 
@@ -24,17 +24,17 @@ IsOk : {A : Type 0} → ParseOutcome A → Type 0
 IsOk (Ok p) = Unit {0}
 IsOk (Err ts) = ⊥
 
-pub no_err : {A X : Type 0} {p : A × List Token} {ts : List Token} → ◌≡◌ {A = ParseOutcome A} (Ok p) (Err ts) → X
+pub no_err : {A X : Type 0} {p : A × List Lexeme} {ts : List Lexeme} → ◌≡◌ {A = ParseOutcome A} (Ok p) (Err ts) → X
 unfolding IsOk
 no_err {A} e = absurd (subst (λ o. IsOk {A = A} o) e tt)
 
 pub no_true : {X : Type 0} → false ≡ true → X
 no_true e = absurd (false≢true e)
 
-pub same_ok : {A : Type 0} {p q : A × List Token} → ◌≡◌ {A = ParseOutcome A} (Ok p) (Ok q) → p ≡ q
+pub same_ok : {A : Type 0} {p q : A × List Lexeme} → ◌≡◌ {A = ParseOutcome A} (Ok p) (Ok q) → p ≡ q
 same_ok e = cc
 
-pub same_err : {A : Type 0} {r q : List Token} → ◌≡◌ {A = ParseOutcome A} (Err r) (Err q) → r ≡ q
+pub same_err : {A : Type 0} {r q : List Lexeme} → ◌≡◌ {A = ParseOutcome A} (Err r) (Err q) → r ≡ q
 same_err e = cc
 
 -- a test that cannot hold
@@ -43,7 +43,7 @@ fails true f = absurd (f refl)
 fails false f = refl
 
 -- a step that succeeds
-pub then_ok : {A B : Type 0} (o : ParseOutcome A) (f : A → Parser B) (x : A) (r : List Token) (z : ParseOutcome B) → o ≡ Ok (x, r) → f x r ≡ z → and_then o f ≡ z
+pub then_ok : {A B : Type 0} (o : ParseOutcome A) (f : A → Parser B) (x : A) (r : List Lexeme) (z : ParseOutcome B) → o ≡ Ok (x, r) → f x r ≡ z → and_then o f ≡ z
 then_ok o f x r z e g = ap (λ o. and_then o f) e ∙ g
 
 pub mark_is : (m : Punct) (kind : TokenKind) → is_mark m kind ≡ true → kind ≡ k.Mark m
@@ -68,10 +68,10 @@ pub text_is : (kind : TokenKind) → is_text kind ≡ true → kind ≡ k.Text
 text_is k.Text e = refl
 text_is _ e = no_true e
 
-pub expect_at : (t : Token) (r : List Token) (m : Punct) → t.kind ≡ k.Mark m → expect m (t ∷ r) ≡ Ok (tt, r)
+pub expect_at : (t : Lexeme) (r : List Lexeme) (m : Punct) → t.kind ≡ k.Mark m → expect m (t ∷ r) ≡ Ok (tt, r)
 unfolding expect
 expect_at t r m e = rw (is_mark_of m t.kind e) refl
 
-pub expect_word_at : (t : Token) (r : List Token) (w : Keyword) → t.kind ≡ k.Word w → expect_word w (t ∷ r) ≡ Ok (tt, r)
+pub expect_word_at : (t : Lexeme) (r : List Lexeme) (w : Keyword) → t.kind ≡ k.Word w → expect_word w (t ∷ r) ≡ Ok (tt, r)
 unfolding expect_word
 expect_word_at t r w e = rw (is_word_of w t.kind e) refl

@@ -3,7 +3,7 @@ use Rattle.std.proofs.Common.{◌≡◌, ℕ, zero, suc, ◌≤◌, ◌<◌, Boo
 use Rattle.c_lexer.specs.declared.token.TokenKind.{TokenKind}
 use Rattle.c_lexer.specs.declared.token.TokenKind.TheVariants as k
 use Rattle.c_lexer.specs.declared.token.Punct.TheVariants as p
-use Rattle.c_lexer.specs.declared.token.Token.{Token}
+use Rattle.c_lexer.specs.Pieces.{Lexeme}
 use Rattle.c_tree.specs.declared.expressions.Expr.{Expr}
 use Rattle.c_tree.specs.declared.types.TypeNode.{TypeNode}
 use Rattle.c_tree.specs.declared.types.TypeName.{TypeName}
@@ -12,11 +12,11 @@ use Rattle.c_grammar.specs.declared.shapes.Shape.TheVariants as sh
 use Rattle.c_grammar.specs.declared.shapes.Declarator.{Declarator}
 use Rattle.c_grammar.specs.declared.shapes.Naming.{Naming}
 use Rattle.c_grammar.specs.declared.shapes.Naming.TheVariants as nm
-use Rattle.c_grammar.specs.Tokens.{Scope, spelling, is_type, place, is_mark, is_name, kind_at, behind}
+use Rattle.c_grammar.specs.Tokens.{TypeNames, is_type, place, is_mark, is_name, kind_at, behind}
 use Rattle.c_grammar.specs.Types.{takes_name, may_be_nameless, nameless, with_shape, with_shapes, parameter_of, without_void}
 use Rattle.c_grammar.specs.Grammar.{AreConsts, IsPlain}
 use Rattle.c_grammar.specs.Parser.{ParseOutcome, and_then}
-use Rattle.c_grammar.specs.ParseExpr.{listed_from, type_name, parameter, parameters, length_of, suffixes, group_behind, core, pointer_declarator, expr, declarator}
+use Rattle.c_grammar.specs.ParseExpr.{list_from, type_name, parameter, parameters, length_of, suffixes, group_behind, core, pointer_declarator, expr, declarator}
 use Rattle.c_grammar.proofs.Outcomes.{no_true, is_mark_of, expect_at}
 use Rattle.c_grammar.proofs.Facts.{weak, begins_no_mark, type_no_mark}
 use Rattle.c_grammar.proofs.ReadPlain.{Stops, no_const, consts_all, plain_read, BeginsType, plain_begins}
@@ -25,61 +25,61 @@ use Rattle.c_grammar.proofs.First.{Begins}
 use Rattle.c_grammar.proofs.RulesExpr.{EndsKind, ReadsType, paren_ends, listed_last, listed_more}
 
 -- what may stand behind a missing name
-pub record Opens (r : List Token) : Type 0 where
+pub record Opens (r : List Lexeme) : Type 0 where
   pub no_star : is_mark p.Star (kind_at r) ≡ false
   pub no_name : is_name (kind_at r) ≡ false
   pub no_group : is_mark p.LeftParen (kind_at r) ≡ true → is_mark p.Star (kind_at (behind r)) ≡ false
 
-pub record ReachedD (s : Scope) (n : ℕ) (naming : Naming) (ts r : List Token) (d : Declarator) : Type 0 where
+pub record ReachedD (s : TypeNames) (n : ℕ) (naming : Naming) (ts r : List Lexeme) (d : Declarator) : Type 0 where
   pub turns : ℕ
   pub enough : length r ≤ turns
   pub gives : declarator s (suc n) naming ts ≡ suffixes s (expr s n) (declarator s n) turns d r
 
-abbrev pub ReachesD : Scope → Naming → List Token → Declarator → Type 0
-ReachesD s naming a d = (n : ℕ) (r : List Token) → length (a ++ r) ≤ n → Opens r → ReachedD s n naming (a ++ r) r d
+abbrev pub ReachesD : TypeNames → Naming → List Lexeme → Declarator → Type 0
+ReachesD s naming a d = (n : ℕ) (r : List Lexeme) → length (a ++ r) ≤ n → Opens r → ReachedD s n naming (a ++ r) r d
 
-abbrev pub ReadsD : Scope → Naming → List Token → Declarator → Type 0
-ReadsD s naming a d = (n : ℕ) (r : List Token) → length (a ++ r) < n → EndsKind (kind_at r) → declarator s n naming (a ++ r) ≡ Ok (d, r)
+abbrev pub ReadsD : TypeNames → Naming → List Lexeme → Declarator → Type 0
+ReadsD s naming a d = (n : ℕ) (r : List Lexeme) → length (a ++ r) < n → EndsKind (kind_at r) → declarator s n naming (a ++ r) ≡ Ok (d, r)
 
-abbrev pub ReadsP : Scope → List Token → Parameter → Type 0
-ReadsP s a x = (n : ℕ) (r : List Token) → length (a ++ r) ≤ n → EndsKind (kind_at r) → parameter s (expr s n) (declarator s n) (a ++ r) ≡ Ok (x, r)
+abbrev pub ReadsP : TypeNames → List Lexeme → Parameter → Type 0
+ReadsP s a x = (n : ℕ) (r : List Lexeme) → length (a ++ r) ≤ n → EndsKind (kind_at r) → parameter s (expr s n) (declarator s n) (a ++ r) ≡ Ok (x, r)
 
-abbrev pub ReadsPListed : Scope → List Token → List Parameter → Type 0
-ReadsPListed s a xs = (n j : ℕ) (found : List Parameter) (r : List Token) → length (a ++ r) ≤ n → length (a ++ r) ≤ j → EndsKind (kind_at r) → is_mark p.Comma (kind_at r) ≡ false
-    → listed_from (parameter s (expr s n) (declarator s n)) j found (a ++ r) ≡ Ok (found ++ xs, r)
+abbrev pub ReadsPListed : TypeNames → List Lexeme → List Parameter → Type 0
+ReadsPListed s a xs = (n j : ℕ) (found : List Parameter) (r : List Lexeme) → length (a ++ r) ≤ n → length (a ++ r) ≤ j → EndsKind (kind_at r) → is_mark p.Comma (kind_at r) ≡ false
+    → list_from (parameter s (expr s n) (declarator s n)) j found (a ++ r) ≡ Ok (found ++ xs, r)
 
 -- parameters up to the bracket that closes them
-pub record ReadsParameters (s : Scope) (a : List Token) (xs : List Parameter) : Type 0 where
-  pub no_star : (r : Token) (u : List Token) → r.kind ≡ k.Mark p.RightParen → is_mark p.Star (kind_at (a ++ r ∷ u)) ≡ false
-  pub gives : (n : ℕ) (r : Token) (u : List Token) → r.kind ≡ k.Mark p.RightParen → length (a ++ r ∷ u) ≤ n → parameters s (expr s n) (declarator s n) (a ++ r ∷ u) ≡ Ok (xs, u)
+pub record ReadsParameters (s : TypeNames) (a : List Lexeme) (xs : List Parameter) : Type 0 where
+  pub no_star : (r : Lexeme) (u : List Lexeme) → r.kind ≡ k.Mark p.RightParen → is_mark p.Star (kind_at (a ++ r ∷ u)) ≡ false
+  pub gives : (n : ℕ) (r : Lexeme) (u : List Lexeme) → r.kind ≡ k.Mark p.RightParen → length (a ++ r ∷ u) ≤ n → parameters s (expr s n) (declarator s n) (a ++ r ∷ u) ≡ Ok (xs, u)
 
-ends_open : (r : List Token) → EndsKind (kind_at r) → Opens r
+ends_open : (r : List Lexeme) → EndsKind (kind_at r) → Opens r
 ends_open r h = record { no_star = h.no_star; no_name = h.no_name; no_group = λ e. no_true (sym h.no_paren ∙ e) }
 
-bracket_opens : (l : Token) (r : List Token) → l.kind ≡ k.Mark p.LeftBracket → Opens (l ∷ r)
+bracket_opens : (l : Lexeme) (r : List Lexeme) → l.kind ≡ k.Mark p.LeftBracket → Opens (l ∷ r)
 bracket_opens l r e = record { no_star = ap (is_mark p.Star) e; no_name = ap is_name e; no_group = λ q. no_true (sym (ap (is_mark p.LeftParen) e) ∙ q) }
 
-paren_opens : (l : Token) (r : List Token) → l.kind ≡ k.Mark p.LeftParen → is_mark p.Star (kind_at r) ≡ false → Opens (l ∷ r)
+paren_opens : (l : Lexeme) (r : List Lexeme) → l.kind ≡ k.Mark p.LeftParen → is_mark p.Star (kind_at r) ≡ false → Opens (l ∷ r)
 paren_opens l r e h = record { no_star = ap (is_mark p.Star) e; no_name = ap is_name e; no_group = λ q. h }
 
-typed : ℕ → TypeNode → List Token → ParseOutcome TypeName
+typed : ℕ → TypeNode → List Lexeme → ParseOutcome TypeName
 typed at ty r = Ok (record { at = at; ty = ty }, r)
 
 both_ways : {A : Type 0} (b : Bool) (x v z : A) → (b ≡ true → x ≡ z) → (b ≡ false → v ≡ z) → cond b x v ≡ z
 both_ways true x v z f g = f refl
 both_ways false x v z f g = g refl
 
-module _ (s : Scope) where
-  suffixes_end : (n j : ℕ) (d : Declarator) (r : List Token) → EndsKind (kind_at r) → suffixes s (expr s n) (declarator s n) j d r ≡ Ok (d, r)
+module _ (s : TypeNames) where
+  suffixes_end : (n j : ℕ) (d : Declarator) (r : List Lexeme) → EndsKind (kind_at r) → suffixes s (expr s n) (declarator s n) j d r ≡ Ok (d, r)
   unfolding suffixes
   suffixes_end n zero d r h = refl
   suffixes_end n (suc j) d r h = rw (h.no_bracket, h.no_paren) refl
 
-  pub reads_d : (naming : Naming) (a : List Token) (d : Declarator) → ReachesD s naming a d → ReadsD s naming a d
+  pub reads_d : (naming : Naming) (a : List Lexeme) (d : Declarator) → ReachesD s naming a d → ReadsD s naming a d
   reads_d naming a d h zero r len ends = absurd (omega arith)
   reads_d naming a d h (suc n) r len ends = let g = h n r (omega arith) (ends_open r ends) in g.gives ∙ suffixes_end n g.turns d r ends
 
-  pub star_rule : (naming : Naming) (t : Token) (a b : List Token) (d : Declarator) → t.kind ≡ k.Mark p.Star → AreConsts a → ((r : List Token) → Stops r → Stops (b ++ r)) → ReadsD s naming b d
+  pub star_rule : (naming : Naming) (t : Lexeme) (a b : List Lexeme) (d : Declarator) → t.kind ≡ k.Mark p.Star → AreConsts a → ((r : List Lexeme) → Stops r → Stops (b ++ r)) → ReadsD s naming b d
       → ReadsD s naming (t ∷ a ++ b) (with_shape d sh.Pointer)
   unfolding declarator pointer_declarator
   star_rule naming t a b d kind c stops h zero r len ends = absurd (omega arith)
@@ -91,7 +91,7 @@ module _ (s : Scope) where
       let g = h n r (omega (arith, length-append a (b ++ r))) ends in
       rw (star, q, o, g) refl
 
-  pub named_rule : (naming : Naming) (t : Token) → t.kind ≡ k.Name → takes_name naming (is_type s t) ≡ true → ReachesD s naming (t ∷ []) (record { name = Some (record { at = t.at; name = spelling s t }); shapes = [] })
+  pub named_rule : (naming : Naming) (t : Lexeme) → t.kind ≡ k.Name → takes_name naming (is_type s t) ≡ true → ReachesD s naming (t ∷ []) (record { name = Some (record { at = t.at; name = t.spelling }); shapes = [] })
   unfolding declarator core
   named_rule naming t kind takes n r len opens = record {
     turns = length r;
@@ -102,7 +102,7 @@ module _ (s : Scope) where
         rw (no, yes, takes) refl;
   }
 
-  nameless_core : (n : ℕ) (naming : Naming) (r : List Token) → may_be_nameless naming ≡ true → Opens r → core s (expr s n) (declarator s n) naming r ≡ Ok (nameless, r)
+  nameless_core : (n : ℕ) (naming : Naming) (r : List Lexeme) → may_be_nameless naming ≡ true → Opens r → core s (expr s n) (declarator s n) naming r ≡ Ok (nameless, r)
   unfolding core
   nameless_core n naming r may opens = rw opens.no_name (both_ways (is_mark p.LeftParen (kind_at r)) _ _ (Ok (nameless, r)) (λ yes. rw (opens.no_group yes, may) refl) (λ no. rw may refl))
 
@@ -117,11 +117,11 @@ module _ (s : Scope) where
   }
 
   -- what is read behind a star
-  starred_read : (naming : Naming) (n : ℕ) (t : Token) (ts r : List Token) (d : Declarator) → t.kind ≡ k.Mark p.Star → declarator s (suc n) naming (t ∷ ts) ≡ Ok (d, r) → pointer_declarator s (expr s n) (declarator s n) naming ts ≡ Ok (d, r)
+  starred_read : (naming : Naming) (n : ℕ) (t : Lexeme) (ts r : List Lexeme) (d : Declarator) → t.kind ≡ k.Mark p.Star → declarator s (suc n) naming (t ∷ ts) ≡ Ok (d, r) → pointer_declarator s (expr s n) (declarator s n) naming ts ≡ Ok (d, r)
   unfolding declarator
   starred_read naming n t ts r d e g = sym (ap (λ b. cond b (pointer_declarator s (expr s n) (declarator s n) naming ts) (and_then (core s (expr s n) (declarator s n) naming (t ∷ ts)) (λ d r. suffixes s (expr s n) (declarator s n) (length r) d r))) (is_mark_of p.Star t.kind e)) ∙ g
 
-  pub group_rule : (naming : Naming) (l t : Token) (a : List Token) (r : Token) (d : Declarator) → l.kind ≡ k.Mark p.LeftParen → t.kind ≡ k.Mark p.Star → ReadsD s naming (t ∷ a) d → r.kind ≡ k.Mark p.RightParen
+  pub group_rule : (naming : Naming) (l t : Lexeme) (a : List Lexeme) (r : Lexeme) (d : Declarator) → l.kind ≡ k.Mark p.LeftParen → t.kind ≡ k.Mark p.Star → ReadsD s naming (t ∷ a) d → r.kind ≡ k.Mark p.RightParen
       → ReachesD s naming (l ∷ t ∷ a ++ r ∷ []) d
   unfolding declarator core group_behind
   group_rule naming l t a r d lk tk h rk n u len opens = record {
@@ -139,8 +139,8 @@ module _ (s : Scope) where
   }
 
   -- one suffix more
-  suffix_rule : (naming : Naming) (a b : List Token) (l : Token) (d v : Declarator) → ReachesD s naming a d → ((r : List Token) → Opens (l ∷ b ++ r))
-      → ((n j : ℕ) (r : List Token) → length (l ∷ b ++ r) ≤ n → length (l ∷ b ++ r) ≤ suc j → suffixes s (expr s n) (declarator s n) (suc j) d (l ∷ b ++ r) ≡ suffixes s (expr s n) (declarator s n) j v r)
+  suffix_rule : (naming : Naming) (a b : List Lexeme) (l : Lexeme) (d v : Declarator) → ReachesD s naming a d → ((r : List Lexeme) → Opens (l ∷ b ++ r))
+      → ((n j : ℕ) (r : List Lexeme) → length (l ∷ b ++ r) ≤ n → length (l ∷ b ++ r) ≤ suc j → suffixes s (expr s n) (declarator s n) (suc j) d (l ∷ b ++ r) ≡ suffixes s (expr s n) (declarator s n) j v r)
       → ReachesD s naming (a ++ l ∷ b) v
   suffix_rule naming a b l d v h opens turn n r len next =
       let q : (a ++ l ∷ b) ++ r ≡ a ++ (l ∷ b ++ r) = append_assoc a (l ∷ b) r in
@@ -148,14 +148,14 @@ module _ (s : Scope) where
       let g = h n (l ∷ b ++ r) all (opens r) in
       suffix_step naming a b l d v n r g.turns g.enough (omega (arith, length-append a (l ∷ b ++ r))) (ap (declarator s (suc n) naming) q ∙ g.gives) (turn n)
     where
-      suffix_step : (naming : Naming) (a b : List Token) (l : Token) (d v : Declarator) (n : ℕ) (r : List Token) (turns : ℕ) → length (l ∷ b ++ r) ≤ turns → length (l ∷ b ++ r) ≤ n
+      suffix_step : (naming : Naming) (a b : List Lexeme) (l : Lexeme) (d v : Declarator) (n : ℕ) (r : List Lexeme) (turns : ℕ) → length (l ∷ b ++ r) ≤ turns → length (l ∷ b ++ r) ≤ n
           → declarator s (suc n) naming ((a ++ l ∷ b) ++ r) ≡ suffixes s (expr s n) (declarator s n) turns d (l ∷ b ++ r)
-          → ((j : ℕ) (r : List Token) → length (l ∷ b ++ r) ≤ n → length (l ∷ b ++ r) ≤ suc j → suffixes s (expr s n) (declarator s n) (suc j) d (l ∷ b ++ r) ≡ suffixes s (expr s n) (declarator s n) j v r)
+          → ((j : ℕ) (r : List Lexeme) → length (l ∷ b ++ r) ≤ n → length (l ∷ b ++ r) ≤ suc j → suffixes s (expr s n) (declarator s n) (suc j) d (l ∷ b ++ r) ≡ suffixes s (expr s n) (declarator s n) j v r)
           → ReachedD s n naming ((a ++ l ∷ b) ++ r) r v
       suffix_step naming a b l d v n r zero le len e turn = absurd (omega arith)
       suffix_step naming a b l d v n r (suc j) le len e turn = record { turns = j; enough = omega (arith, length-append b r); gives = e ∙ turn j r len le }
 
-  pub open_array_rule : (naming : Naming) (a : List Token) (l r : Token) (d : Declarator) → ReachesD s naming a d → l.kind ≡ k.Mark p.LeftBracket → r.kind ≡ k.Mark p.RightBracket
+  pub open_array_rule : (naming : Naming) (a : List Lexeme) (l r : Lexeme) (d : Declarator) → ReachesD s naming a d → l.kind ≡ k.Mark p.LeftBracket → r.kind ≡ k.Mark p.RightBracket
       → ReachesD s naming (a ++ l ∷ r ∷ []) (with_shape d (sh.Array None))
   unfolding suffixes length_of
   open_array_rule naming a l r d h lk rk = suffix_rule naming a (r ∷ []) l d (with_shape d (sh.Array None)) h (λ u. bracket_opens l (r ∷ u) lk) (λ n j u len le.
@@ -163,7 +163,7 @@ module _ (s : Scope) where
       let rb = is_mark_of p.RightBracket r.kind rk in
       rw (lb, rb) refl)
 
-  pub array_rule : (naming : Naming) (a : List Token) (l : Token) (b : List Token) (r : Token) (d : Declarator) (x : Expr) → ReachesD s naming a d → l.kind ≡ k.Mark p.LeftBracket → Begins s b → Reads s 4 b x → r.kind ≡ k.Mark p.RightBracket
+  pub array_rule : (naming : Naming) (a : List Lexeme) (l : Lexeme) (b : List Lexeme) (r : Lexeme) (d : Declarator) (x : Expr) → ReachesD s naming a d → l.kind ≡ k.Mark p.LeftBracket → Begins s b → Reads s 4 b x → r.kind ≡ k.Mark p.RightBracket
       → ReachesD s naming (a ++ (l ∷ b ++ r ∷ [])) (with_shape d (sh.Array (Some x)))
   unfolding suffixes length_of
   array_rule naming a l b r d x h lk f g rk = suffix_rule naming a (b ++ r ∷ []) l d (with_shape d (sh.Array (Some x))) h (λ u. bracket_opens l ((b ++ r ∷ []) ++ u) lk) (λ n j u len le.
@@ -175,7 +175,7 @@ module _ (s : Scope) where
       let c = expect_at r u p.RightBracket rk in
       rw (lb, q, nb, o, c) refl)
 
-  pub takes_rule : (naming : Naming) (a : List Token) (l : Token) (b : List Token) (r : Token) (d : Declarator) (xs : List Parameter) → ReachesD s naming a d → l.kind ≡ k.Mark p.LeftParen → ReadsParameters s b xs → r.kind ≡ k.Mark p.RightParen
+  pub takes_rule : (naming : Naming) (a : List Lexeme) (l : Lexeme) (b : List Lexeme) (r : Lexeme) (d : Declarator) (xs : List Parameter) → ReachesD s naming a d → l.kind ≡ k.Mark p.LeftParen → ReadsParameters s b xs → r.kind ≡ k.Mark p.RightParen
       → ReachesD s naming (a ++ (l ∷ b ++ r ∷ [])) (with_shape d (sh.Takes (without_void xs)))
   unfolding suffixes
   takes_rule naming a l b r d xs h lk g rk = suffix_rule naming a (b ++ r ∷ []) l d (with_shape d (sh.Takes (without_void xs))) h (λ u. paren_opens l ((b ++ r ∷ []) ++ u) lk (ap (λ z. is_mark p.Star (kind_at z)) (append_assoc b (r ∷ []) u) ∙ g.no_star r u rk)) (λ n j u len le.
@@ -190,7 +190,7 @@ module _ (s : Scope) where
   unfolding parameters
   no_parameter_rule = record { no_star = λ r u e. ap (is_mark p.Star) e; gives = λ n r u e len. let rp = is_mark_of p.RightParen r.kind e in rw rp refl }
 
-  pub parameters_rule : (a : List Token) (xs : List Parameter) → BeginsType s a → ReadsPListed s a xs → ReadsParameters s a xs
+  pub parameters_rule : (a : List Lexeme) (xs : List Parameter) → BeginsType s a → ReadsPListed s a xs → ReadsParameters s a xs
   unfolding parameters
   parameters_rule a xs b h = record {
     no_star = λ r u e. type_no_mark s (a ++ r ∷ u) p.Star (b.1 (r ∷ u));
@@ -201,13 +201,13 @@ module _ (s : Scope) where
         rw (no, g, o) refl;
   }
 
-  pub one_parameter_rule : (a : List Token) (x : Parameter) → 0 < length a → ReadsP s a x → ReadsPListed s a (x ∷ [])
+  pub one_parameter_rule : (a : List Lexeme) (x : Parameter) → 0 < length a → ReadsP s a x → ReadsPListed s a (x ∷ [])
   one_parameter_rule a x some h n j found r len le ends nc = listed_last (parameter s (expr s n) (declarator s n)) j found (a ++ r) r x (omega (arith, length-append a r)) (h n r len ends) nc
 
   comma_ends : (kind : TokenKind) → kind ≡ k.Mark p.Comma → EndsKind kind
   comma_ends kind e = subst EndsKind (sym e) (record { no_star = refl; no_paren = refl; no_bracket = refl; no_name = refl; stops = refl })
 
-  pub more_parameters_rule : (a : List Token) (t : Token) (b : List Token) (x : Parameter) (xs : List Parameter) → 0 < length a → ReadsP s a x → t.kind ≡ k.Mark p.Comma → ReadsPListed s b xs → ReadsPListed s (a ++ t ∷ b) (x ∷ xs)
+  pub more_parameters_rule : (a : List Lexeme) (t : Lexeme) (b : List Lexeme) (x : Parameter) (xs : List Parameter) → 0 < length a → ReadsP s a x → t.kind ≡ k.Mark p.Comma → ReadsPListed s b xs → ReadsPListed s (a ++ t ∷ b) (x ∷ xs)
   more_parameters_rule a t b x xs some h kind g n zero found r len le ends nc = absurd (omega (arith, length-append (a ++ t ∷ b) r, length-append a (t ∷ b)))
   more_parameters_rule a t b x xs some h kind g n (suc j) found r len le ends nc =
       let q = append_assoc a (t ∷ b) r in
@@ -215,10 +215,10 @@ module _ (s : Scope) where
       let all : length (a ++ (t ∷ b ++ r)) ≤ n = subst (λ z. length z ≤ n) q len in
       let fit : length (a ++ (t ∷ b ++ r)) ≤ suc j = subst (λ z. length z ≤ suc j) q le in
       let o = h n (t ∷ b ++ r) all (comma_ends t.kind kind) in
-      ap (listed_from (parameter s (expr s n) (declarator s n)) (suc j) found) q ∙ listed_more (parameter s (expr s n) (declarator s n)) j found (a ++ (t ∷ b ++ r)) t (b ++ r) x o kind
+      ap (list_from (parameter s (expr s n) (declarator s n)) (suc j) found) q ∙ listed_more (parameter s (expr s n) (declarator s n)) j found (a ++ (t ∷ b ++ r)) t (b ++ r) x o kind
       ∙ g n j (found ++ x ∷ []) r (omega arith) (omega arith) ends nc ∙ ap (λ z. Ok (z, r)) (append_assoc found (x ∷ []) xs)
 
-  pub parameter_rule : (a b : List Token) (ty : TypeNode) (d : Declarator) → IsPlain s a ty → ((r : List Token) → Stops r → Stops (b ++ r)) → ReadsD s nm.Optional b d → ReadsP s (a ++ b) (parameter_of (place a) ty d)
+  pub parameter_rule : (a b : List Lexeme) (ty : TypeNode) (d : Declarator) → IsPlain s a ty → ((r : List Lexeme) → Stops r → Stops (b ++ r)) → ReadsD s nm.Optional b d → ReadsP s (a ++ b) (parameter_of (place a) ty d)
   unfolding parameter
   parameter_rule a b ty d h stops g n r len ends =
       let q = append_assoc a b r in
@@ -228,7 +228,7 @@ module _ (s : Scope) where
       let c = g n r (omega (arith, length-append a (b ++ r))) ends in
       rw (q, o, c) (ap (λ at. Ok (parameter_of at ty d, r)) (place-append a (b ++ r) some))
 
-  pub type_rule : (a b : List Token) (ty : TypeNode) (d : Declarator) → IsPlain s a ty → ((r : List Token) → Stops r → Stops (b ++ r)) → ReadsD s nm.Refused b d → ReadsType s (a ++ b) (record { at = place a; ty = with_shapes d.shapes ty })
+  pub type_rule : (a b : List Lexeme) (ty : TypeNode) (d : Declarator) → IsPlain s a ty → ((r : List Lexeme) → Stops r → Stops (b ++ r)) → ReadsD s nm.Refused b d → ReadsType s (a ++ b) (record { at = place a; ty = with_shapes d.shapes ty })
   unfolding type_name typed
   type_rule a b ty d h stops g n r len ends =
       let q = append_assoc a b r in

@@ -3,80 +3,80 @@ use Rattle.std.proofs.Common.{◌≡◌, Bool, true, false, cond, List, [], ◌�
 use Rattle.c_lexer.specs.declared.token.TokenKind.TheVariants as k
 use Rattle.c_lexer.specs.declared.token.Keyword.{Keyword}
 use Rattle.c_lexer.specs.declared.token.Punct.{Punct}
-use Rattle.c_lexer.specs.declared.token.Token.{Token}
+use Rattle.c_lexer.specs.Pieces.{Lexeme}
 use Rattle.c_grammar.specs.Tokens.{is_mark, is_word}
 use Rattle.c_grammar.specs.Parser.{ParseOutcome, IsEnd, Parser, and_then, expect, expect_word}
 use Rattle.c_grammar.proofs.Outcomes.{no_ok, no_err, same_ok, same_err, mark_is, word_is}
 use Rattle.c_grammar.proofs.Says.{Says}
 
 -- Where the outcome is a tree and the tokens behind it, those before them, the tree and those behind are so related.
-pub record SaysR {A : Type 0} (o : ParseOutcome A) (ts : List Token) (T : List Token → A → List Token → Type 0) : Type 0 where
-  pub by : (q : A × List Token) → o ≡ Ok q → (a : List Token) × (ts ≡ a ++ q.1) × T a q.0 q.1
-  pub stops : (r : List Token) → o ≡ Err r → IsEnd r ts
+pub record SaysR {A : Type 0} (o : ParseOutcome A) (ts : List Lexeme) (T : List Lexeme → A → List Lexeme → Type 0) : Type 0 where
+  pub by : (q : A × List Lexeme) → o ≡ Ok q → (a : List Lexeme) × (ts ≡ a ++ q.1) × T a q.0 q.1
+  pub stops : (r : List Lexeme) → o ≡ Err r → IsEnd r ts
 
-pub ok_r : {A : Type 0} (x : A) (ts : List Token) (T : List Token → A → List Token → Type 0) → T [] x ts → SaysR (Ok (x, ts)) ts T
-ok_r x ts T h = record { by = λ q e. subst (λ q. (a : List Token) × (ts ≡ a ++ q.1) × T a q.0 q.1) (same_ok e) ([], refl, h); stops = λ r e. no_err e }
+pub ok_r : {A : Type 0} (x : A) (ts : List Lexeme) (T : List Lexeme → A → List Lexeme → Type 0) → T [] x ts → SaysR (Ok (x, ts)) ts T
+ok_r x ts T h = record { by = λ q e. subst (λ q. (a : List Lexeme) × (ts ≡ a ++ q.1) × T a q.0 q.1) (same_ok e) ([], refl, h); stops = λ r e. no_err e }
 
 -- the first token is refused
-pub refused_r : {A : Type 0} (ts : List Token) (T : List Token → A → List Token → Type 0) → SaysR (Err ts) ts T
+pub refused_r : {A : Type 0} (ts : List Lexeme) (T : List Lexeme → A → List Lexeme → Type 0) → SaysR (Err ts) ts T
 refused_r ts T = record { by = λ q e. no_ok e; stops = λ q e. subst (λ z. IsEnd z ts) (same_err e) ([], refl) }
 
-bound : {A B : Type 0} (o : ParseOutcome A) (f : A → Parser B) (ts : List Token) (R : List Token → A → List Token → Type 0) (T : List Token → B → List Token → Type 0) → SaysR o ts R
-    → ((a : List Token) (x : A) (r : List Token) → R a x r → SaysR (f x r) r (λ b z u. T (a ++ b) z u))
-    → (q : B × List Token) → and_then o f ≡ Ok q → (c : List Token) × (ts ≡ c ++ q.1) × T c q.0 q.1
+bound : {A B : Type 0} (o : ParseOutcome A) (f : A → Parser B) (ts : List Lexeme) (R : List Lexeme → A → List Lexeme → Type 0) (T : List Lexeme → B → List Lexeme → Type 0) → SaysR o ts R
+    → ((a : List Lexeme) (x : A) (r : List Lexeme) → R a x r → SaysR (f x r) r (λ b z u. T (a ++ b) z u))
+    → (q : B × List Lexeme) → and_then o f ≡ Ok q → (c : List Lexeme) × (ts ≡ c ++ q.1) × T c q.0 q.1
 bound (Ok (x, r)) f ts R T h g q e =
     let u = h.by (x, r) refl in
     let v = (g u.0 x r u.2).by q e in
     (u.0 ++ v.0, u.1 ∙ ap (λ z. u.0 ++ z) v.1 ∙ sym (append_assoc u.0 v.0 q.1), v.2)
 bound (Err r) f ts R T h g q e = no_ok e
 
-bound_end : {A B : Type 0} (o : ParseOutcome A) (f : A → Parser B) (ts : List Token) (R : List Token → A → List Token → Type 0) (T : List Token → B → List Token → Type 0) → SaysR o ts R
-    → ((a : List Token) (x : A) (r : List Token) → R a x r → SaysR (f x r) r (λ b z u. T (a ++ b) z u))
-    → (q : List Token) → and_then o f ≡ Err q → IsEnd q ts
+bound_end : {A B : Type 0} (o : ParseOutcome A) (f : A → Parser B) (ts : List Lexeme) (R : List Lexeme → A → List Lexeme → Type 0) (T : List Lexeme → B → List Lexeme → Type 0) → SaysR o ts R
+    → ((a : List Lexeme) (x : A) (r : List Lexeme) → R a x r → SaysR (f x r) r (λ b z u. T (a ++ b) z u))
+    → (q : List Lexeme) → and_then o f ≡ Err q → IsEnd q ts
 bound_end (Ok (x, r)) f ts R T h g q e =
     let u = h.by (x, r) refl in
     let v = (g u.0 x r u.2).stops q e in
     (u.0 ++ v.0, u.1 ∙ ap (λ z. u.0 ++ z) v.1 ∙ sym (append_assoc u.0 v.0 q))
 bound_end (Err r) f ts R T h g q e = subst (λ z. IsEnd z ts) (same_err e) (h.stops r refl)
 
-pub bind_r : {A B : Type 0} (o : ParseOutcome A) (f : A → Parser B) (ts : List Token) (R : List Token → A → List Token → Type 0) (T : List Token → B → List Token → Type 0) → SaysR o ts R
-    → ((a : List Token) (x : A) (r : List Token) → R a x r → SaysR (f x r) r (λ b z u. T (a ++ b) z u)) → SaysR (and_then o f) ts T
+pub bind_r : {A B : Type 0} (o : ParseOutcome A) (f : A → Parser B) (ts : List Lexeme) (R : List Lexeme → A → List Lexeme → Type 0) (T : List Lexeme → B → List Lexeme → Type 0) → SaysR o ts R
+    → ((a : List Lexeme) (x : A) (r : List Lexeme) → R a x r → SaysR (f x r) r (λ b z u. T (a ++ b) z u)) → SaysR (and_then o f) ts T
 bind_r o f ts R T h g = record { by = bound o f ts R T h g; stops = bound_end o f ts R T h g }
 
-pub lift : {A : Type 0} (o : ParseOutcome A) (ts : List Token) (R : List Token → A → Type 0) → Says o ts R → SaysR o ts (λ a x r. R a x)
+pub lift : {A : Type 0} (o : ParseOutcome A) (ts : List Lexeme) (R : List Lexeme → A → Type 0) → Says o ts R → SaysR o ts (λ a x r. R a x)
 lift o ts R h = record { by = λ q e. h.by q e; stops = h.stops }
 
-pub drop : {A : Type 0} (o : ParseOutcome A) (ts : List Token) (R : List Token → A → Type 0) → SaysR o ts (λ a x r. R a x) → Says o ts R
+pub drop : {A : Type 0} (o : ParseOutcome A) (ts : List Lexeme) (R : List Lexeme → A → Type 0) → SaysR o ts (λ a x r. R a x) → Says o ts R
 drop o ts R h = record { by = λ q e. h.by q e; stops = h.stops }
 
-pub weaker_r : {A : Type 0} (o : ParseOutcome A) (ts : List Token) (R T : List Token → A → List Token → Type 0) → ((a : List Token) (x : A) (r : List Token) → R a x r → T a x r) → SaysR o ts R → SaysR o ts T
+pub weaker_r : {A : Type 0} (o : ParseOutcome A) (ts : List Lexeme) (R T : List Lexeme → A → List Lexeme → Type 0) → ((a : List Lexeme) (x : A) (r : List Lexeme) → R a x r → T a x r) → SaysR o ts R → SaysR o ts T
 weaker_r o ts R T f h = record { by = λ q e. let u = h.by q e in (u.0, u.1, f u.0 q.0 q.1 u.2); stops = h.stops }
 
 -- behind what says nothing of the tokens behind it
-pub then_r : {A B : Type 0} (o : ParseOutcome A) (f : A → Parser B) (ts : List Token) (R : List Token → A → Type 0) (T : List Token → B → List Token → Type 0) → Says o ts R
-    → ((a : List Token) (x : A) (r : List Token) → R a x → SaysR (f x r) r (λ b z u. T (a ++ b) z u)) → SaysR (and_then o f) ts T
+pub then_r : {A B : Type 0} (o : ParseOutcome A) (f : A → Parser B) (ts : List Lexeme) (R : List Lexeme → A → Type 0) (T : List Lexeme → B → List Lexeme → Type 0) → Says o ts R
+    → ((a : List Lexeme) (x : A) (r : List Lexeme) → R a x → SaysR (f x r) r (λ b z u. T (a ++ b) z u)) → SaysR (and_then o f) ts T
 then_r o f ts R T h g = bind_r o f ts (λ a x r. R a x) T (lift o ts R h) g
 
-pub if_r : {A : Type 0} (b : Bool) (x v : ParseOutcome A) (ts : List Token) (T : List Token → A → List Token → Type 0) → (b ≡ true → SaysR x ts T) → (b ≡ false → SaysR v ts T) → SaysR (cond b x v) ts T
+pub if_r : {A : Type 0} (b : Bool) (x v : ParseOutcome A) (ts : List Lexeme) (T : List Lexeme → A → List Lexeme → Type 0) → (b ≡ true → SaysR x ts T) → (b ≡ false → SaysR v ts T) → SaysR (cond b x v) ts T
 if_r true x v ts T f g = f refl
 if_r false x v ts T f g = g refl
 
-pub token_r : {A : Type 0} (o : ParseOutcome A) (t : Token) (r : List Token) (T : List Token → A → List Token → Type 0) → SaysR o r (λ b z u. T (t ∷ b) z u) → SaysR o (t ∷ r) T
+pub token_r : {A : Type 0} (o : ParseOutcome A) (t : Lexeme) (r : List Lexeme) (T : List Lexeme → A → List Lexeme → Type 0) → SaysR o r (λ b z u. T (t ∷ b) z u) → SaysR o (t ∷ r) T
 token_r o t r T h = record { by = λ q e. let u = h.by q e in (t ∷ u.0, ap (λ z. t ∷ z) u.1, u.2); stops = λ q e. let u = h.stops q e in (t ∷ u.0, ap (λ z. t ∷ z) u.1) }
 
-pub done_r : {A : Type 0} (x : A) (a ts : List Token) (T : List Token → A → List Token → Type 0) → T a x ts → SaysR (Ok (x, ts)) ts (λ b z u. T (a ++ b) z u)
+pub done_r : {A : Type 0} (x : A) (a ts : List Lexeme) (T : List Lexeme → A → List Lexeme → Type 0) → T a x ts → SaysR (Ok (x, ts)) ts (λ b z u. T (a ++ b) z u)
 done_r x a ts T h = ok_r x ts (λ b z u. T (a ++ b) z u) (subst (λ c. T c x ts) (sym (append-nil a)) h)
 
-pub expect_r : {B : Type 0} (m : Punct) (f : Unit {0} → Parser B) (ts : List Token) (T : List Token → B → List Token → Type 0)
-    → ((t : Token) (r : List Token) → t.kind ≡ k.Mark m → SaysR (f tt r) r (λ b z u. T (t ∷ b) z u)) → SaysR (and_then (expect m ts) f) ts T
+pub expect_r : {B : Type 0} (m : Punct) (f : Unit {0} → Parser B) (ts : List Lexeme) (T : List Lexeme → B → List Lexeme → Type 0)
+    → ((t : Lexeme) (r : List Lexeme) → t.kind ≡ k.Mark m → SaysR (f tt r) r (λ b z u. T (t ∷ b) z u)) → SaysR (and_then (expect m ts) f) ts T
 unfolding expect
 expect_r m f [] T g = refused_r [] T
 expect_r m f (t ∷ r) T g = bind_r (cond (is_mark m t.kind) (Ok (tt, r)) (Err (t ∷ r))) f (t ∷ r) (λ a x u. (a ≡ t ∷ []) × (t.kind ≡ k.Mark m)) T
     (if_r (is_mark m t.kind) (Ok (tt, r)) (Err (t ∷ r)) (t ∷ r) _ (λ yes. token_r (Ok (tt, r)) t r _ (ok_r tt r _ (refl, mark_is m t.kind yes))) (λ other. refused_r (t ∷ r) _))
     (λ a x u h. subst (λ a. SaysR (f x u) u (λ b z w. T (a ++ b) z w)) (sym h.0) (g t u h.1))
 
-pub expect_word_r : {B : Type 0} (m : Keyword) (f : Unit {0} → Parser B) (ts : List Token) (T : List Token → B → List Token → Type 0)
-    → ((t : Token) (r : List Token) → t.kind ≡ k.Word m → SaysR (f tt r) r (λ b z u. T (t ∷ b) z u)) → SaysR (and_then (expect_word m ts) f) ts T
+pub expect_word_r : {B : Type 0} (m : Keyword) (f : Unit {0} → Parser B) (ts : List Lexeme) (T : List Lexeme → B → List Lexeme → Type 0)
+    → ((t : Lexeme) (r : List Lexeme) → t.kind ≡ k.Word m → SaysR (f tt r) r (λ b z u. T (t ∷ b) z u)) → SaysR (and_then (expect_word m ts) f) ts T
 unfolding expect_word
 expect_word_r m f [] T g = refused_r [] T
 expect_word_r m f (t ∷ r) T g = bind_r (cond (is_word m t.kind) (Ok (tt, r)) (Err (t ∷ r))) f (t ∷ r) (λ a x u. (a ≡ t ∷ []) × (t.kind ≡ k.Word m)) T

@@ -3,7 +3,7 @@ use Rattle.std.proofs.Common.{◌≡◌, ℕ, zero, suc, Bool, true, false, cond
 use Rattle.c_lexer.specs.declared.token.TokenKind.{TokenKind}
 use Rattle.c_lexer.specs.declared.token.TokenKind.TheVariants as k
 use Rattle.c_lexer.specs.declared.token.Keyword.TheVariants as w
-use Rattle.c_lexer.specs.declared.token.Token.{Token}
+use Rattle.c_lexer.specs.Pieces.{Lexeme}
 use Rattle.c_tree.specs.declared.types.BasicType.{BasicType}
 use Rattle.c_tree.specs.declared.types.BasicType.TheVariants as bt
 use Rattle.c_tree.specs.declared.types.TypeNode.{TypeNode}
@@ -19,7 +19,7 @@ use Rattle.c_grammar.specs.declared.word_set.Sign.TheVariants as g
 use Rattle.c_grammar.specs.declared.word_set.WordSet.{WordSet}
 use Rattle.c_grammar.specs.Classes.{specifier_of}
 use Rattle.c_grammar.specs.WordSets.{no_words, with_word, basic_by, basic_of}
-use Rattle.c_grammar.specs.Tokens.{Scope, spelling, is_type, is_name, behind, place}
+use Rattle.c_grammar.specs.Tokens.{TypeNames, is_type, is_name, behind, place}
 use Rattle.c_grammar.specs.Grammar.{AreConsts, AreWords, IsPlain}
 use Rattle.c_grammar.specs.Parser.{Parser, consts}
 use Rattle.c_grammar.specs.ParseExpr.{settle, word_by, named_type, tag_type, tag, specifier_by, specifier_from, plain}
@@ -118,42 +118,42 @@ word_spells x t.Unsigned v e = where_fits _ (record x { sign = Some g.Unsigned }
 -- ---- the loop
 
 -- What is read from a set on: more words, or with none yet what `U` says of the token in their place.
-pub data From (U : Token → List Token → TypeNode → Type 0) : WordSet → List Token → TypeNode → Type 0 where
-  words : {x : WordSet} (a : List Token) (z : WordSet) (y' : BasicType) → AreWords x a z → basic_of z ≡ Some y' → From U x a (y.Basic y')
-  tail : {x : WordSet} (a : List Token) (u : Token) (r : List Token) (ty : TypeNode) → basic_of x ≡ None → AreConsts a → U u r ty → From U x (a ++ u ∷ r) ty
+pub data From (U : Lexeme → List Lexeme → TypeNode → Type 0) : WordSet → List Lexeme → TypeNode → Type 0 where
+  words : {x : WordSet} (a : List Lexeme) (z : WordSet) (y' : BasicType) → AreWords x a z → basic_of z ≡ Some y' → From U x a (y.Basic y')
+  tail : {x : WordSet} (a : List Lexeme) (u : Lexeme) (r : List Lexeme) (ty : TypeNode) → basic_of x ≡ None → AreConsts a → U u r ty → From U x (a ++ u ∷ r) ty
 
-module _ (s : Scope) (on : Specifier → ℕ → Parser TypeNode) (U : Token → List Token → TypeNode → Type 0) where
-  past_const : {x : WordSet} {a : List Token} {ty : TypeNode} (u : Token) → u.kind ≡ k.Word w.Const → From U x a ty → From U x (u ∷ a) ty
+module _ (s : TypeNames) (on : Specifier → ℕ → Parser TypeNode) (U : Lexeme → List Lexeme → TypeNode → Type 0) where
+  past_const : {x : WordSet} {a : List Lexeme} {ty : TypeNode} (u : Lexeme) → u.kind ≡ k.Word w.Const → From U x a ty → From U x (u ∷ a) ty
   past_const u e (From.words a z v h g) = From.words (u ∷ a) z v (AreWords.const u a z e h) g
   past_const u e (From.tail a v r ty n c h) = From.tail (u ∷ a) v r ty n (AreConsts.more u a e c) h
 
-  past_word : {v : WordSet} {a : List Token} {ty : TypeNode} (x : WordSet) (u : Token) (word : TypeWord) → specifier_of u.kind ≡ c.Word word → with_word x word ≡ Some v → From U v a ty → From U x (u ∷ a) ty
+  past_word : {v : WordSet} {a : List Lexeme} {ty : TypeNode} (x : WordSet) (u : Lexeme) (word : TypeWord) → specifier_of u.kind ≡ c.Word word → with_word x word ≡ Some v → From U v a ty → From U x (u ∷ a) ty
   past_word x u word e f (From.words {x = v} a z q h g) = From.words (u ∷ a) z q (AreWords.more u word a v z e f h) g
   past_word x u word e f (From.tail {x = v} a q r ty n c h) = let o = word_spells x word v f in no_some (sym n ∙ o.1)
 
-  settle_says : (o : Option BasicType) (other : Parser TypeNode) (ts : List Token) (T : List Token → TypeNode → Type 0) → ((q : BasicType) → o ≡ Some q → T [] (y.Basic q)) → (o ≡ None → Says (other ts) ts T) → Says (settle o other ts) ts T
+  settle_says : (o : Option BasicType) (other : Parser TypeNode) (ts : List Lexeme) (T : List Lexeme → TypeNode → Type 0) → ((q : BasicType) → o ≡ Some q → T [] (y.Basic q)) → (o ≡ None → Says (other ts) ts T) → Says (settle o other ts) ts T
   settle_says (Some q) other ts T f g = ok_says (y.Basic q) ts T (f q refl)
   settle_says None other ts T f g = g refl
 
   -- the words before this token are all
-  stop_says : (x : WordSet) (other : Parser TypeNode) (ts : List Token) → (basic_of x ≡ None → Says (other ts) ts (λ a ty. From U x a ty)) → Says (settle (basic_of x) other ts) ts (λ a ty. From U x a ty)
+  stop_says : (x : WordSet) (other : Parser TypeNode) (ts : List Lexeme) → (basic_of x ≡ None → Says (other ts) ts (λ a ty. From U x a ty)) → Says (settle (basic_of x) other ts) ts (λ a ty. From U x a ty)
   stop_says x other ts g = settle_says (basic_of x) other ts _ (λ q e. From.words [] x q AreWords.none e) g
 
-  word_says : (o : Option WordSet) (go : WordSet → Parser TypeNode) (x : WordSet) (u : Token) (r : List Token) (word : TypeWord) → specifier_of u.kind ≡ c.Word word → with_word x word ≡ o
+  word_says : (o : Option WordSet) (go : WordSet → Parser TypeNode) (x : WordSet) (u : Lexeme) (r : List Lexeme) (word : TypeWord) → specifier_of u.kind ≡ c.Word word → with_word x word ≡ o
       → ((v : WordSet) → Says (go v r) r (λ a ty. From U v a ty)) → Says (word_by o go x (u ∷ r)) (u ∷ r) (λ a ty. From U x a ty)
   word_says (Some v) go x u r word e f h = token_says (go v r) u r _ (weaker (go v r) r _ _ (λ a ty q. past_word x u word e f q) (h v))
   word_says None go x u r word e f h = stop_says x (λ r. Err r) (u ∷ r) (λ n. refused_says (u ∷ r) _)
 
-  module _ (struct_says : (u : Token) (r : List Token) → u.kind ≡ k.Word w.Struct → Says (on c.Struct u.at r) r (λ b ty. U u b ty))
-      (enum_says : (u : Token) (r : List Token) → u.kind ≡ k.Word w.Enum → Says (on c.Enum u.at r) r (λ b ty. U u b ty))
-      (named : (u : Token) (b : List Token) → u.kind ≡ k.Name → is_type s u ≡ true → AreConsts b → U u b (y.Named (spelling s u))) where
-    named_says : (x : WordSet) (u : Token) (r : List Token) → u.kind ≡ k.Name → basic_of x ≡ None → Says (named_type s (u ∷ r)) (u ∷ r) (λ a ty. From U x a ty)
+  module _ (struct_says : (u : Lexeme) (r : List Lexeme) → u.kind ≡ k.Word w.Struct → Says (on c.Struct u.at r) r (λ b ty. U u b ty))
+      (enum_says : (u : Lexeme) (r : List Lexeme) → u.kind ≡ k.Word w.Enum → Says (on c.Enum u.at r) r (λ b ty. U u b ty))
+      (named : (u : Lexeme) (b : List Lexeme) → u.kind ≡ k.Name → is_type s u ≡ true → AreConsts b → U u b (y.Named u.spelling)) where
+    named_says : (x : WordSet) (u : Lexeme) (r : List Lexeme) → u.kind ≡ k.Name → basic_of x ≡ None → Says (named_type s (u ∷ r)) (u ∷ r) (λ a ty. From U x a ty)
     unfolding named_type
     named_says x u r e n = if_says (is_type s u) _ _ (u ∷ r) _
-        (λ yes. token_says _ u r _ (bind_says (consts (length r) r) _ r (λ a q. AreConsts a) _ (consts_says (length r) r) (λ a q v h. done_says (y.Named (spelling s u)) a v (λ a ty. From U x (u ∷ a) ty) (From.tail [] u a (y.Named (spelling s u)) n AreConsts.none (named u a e yes h)))))
+        (λ yes. token_says _ u r _ (bind_says (consts (length r) r) _ r (λ a q. AreConsts a) _ (consts_says (length r) r) (λ a q v h. done_says (y.Named u.spelling) a v (λ a ty. From U x (u ∷ a) ty) (From.tail [] u a (y.Named u.spelling) n AreConsts.none (named u a e yes h)))))
         (λ other. refused_says (u ∷ r) _)
 
-    by_says : (go : WordSet → Parser TypeNode) (x : WordSet) (class : Specifier) (u : Token) (r : List Token) → specifier_of u.kind ≡ class → ((v : WordSet) → Says (go v r) r (λ a ty. From U v a ty))
+    by_says : (go : WordSet → Parser TypeNode) (x : WordSet) (class : Specifier) (u : Lexeme) (r : List Lexeme) → specifier_of u.kind ≡ class → ((v : WordSet) → Says (go v r) r (λ a ty. From U v a ty))
         → Says (specifier_by s on go x class (u ∷ r)) (u ∷ r) (λ a ty. From U x a ty)
     by_says go x c.Const u r e h = token_says (go x r) u r _ (weaker (go x r) r _ _ (λ a ty q. past_const u (const_is u.kind e) q) (h x))
     by_says go x (c.Word word) u r e h = word_says (with_word x word) go x u r word e refl h
@@ -162,7 +162,7 @@ module _ (s : Scope) (on : Specifier → ℕ → Parser TypeNode) (U : Token →
     by_says go x c.Name u r e h = stop_says x (named_type s) (u ∷ r) (λ n. named_says x u r (named_is u.kind e) n)
     by_says go x c.Nothing u r e h = stop_says x (λ r. Err r) (u ∷ r) (λ n. refused_says (u ∷ r) _)
 
-    pub specifier_says : (j : ℕ) (x : WordSet) (ts : List Token) → Says (specifier_from s on j x ts) ts (λ a ty. From U x a ty)
+    pub specifier_says : (j : ℕ) (x : WordSet) (ts : List Lexeme) → Says (specifier_from s on j x ts) ts (λ a ty. From U x a ty)
     unfolding specifier_from
     specifier_says zero x ts = stop_says x (λ r. Err r) ts (λ n. refused_says ts _)
     specifier_says (suc j) x [] = stop_says x (λ r. Err r) [] (λ n. refused_says [] _)
@@ -171,29 +171,29 @@ module _ (s : Scope) (on : Specifier → ℕ → Parser TypeNode) (U : Token →
 -- ---- without braces
 
 -- what stands in the place of words
-pub data IsTail (s : Scope) (u : Token) : List Token → TypeNode → Type 0 where
-  named : (a : List Token) → u.kind ≡ k.Name → is_type s u ≡ true → AreConsts a → IsTail s u a (y.Named (spelling s u))
-  struct : (v : Token) (a : List Token) → u.kind ≡ k.Word w.Struct → v.kind ≡ k.Name → AreConsts a → IsTail s u (v ∷ a) (y.Struct v.at (Some (spelling s v)) None)
-  enum : (v : Token) (a : List Token) → u.kind ≡ k.Word w.Enum → v.kind ≡ k.Name → AreConsts a → IsTail s u (v ∷ a) (y.Enum v.at (Some (spelling s v)) None)
+pub data IsTail (s : TypeNames) (u : Lexeme) : List Lexeme → TypeNode → Type 0 where
+  named : (a : List Lexeme) → u.kind ≡ k.Name → is_type s u ≡ true → AreConsts a → IsTail s u a (y.Named u.spelling)
+  struct : (v : Lexeme) (a : List Lexeme) → u.kind ≡ k.Word w.Struct → v.kind ≡ k.Name → AreConsts a → IsTail s u (v ∷ a) (y.Struct v.at (Some v.spelling) None)
+  enum : (v : Lexeme) (a : List Lexeme) → u.kind ≡ k.Word w.Enum → v.kind ≡ k.Name → AreConsts a → IsTail s u (v ∷ a) (y.Enum v.at (Some v.spelling) None)
 
-pub tag_says : (s : Scope) (class : Specifier) (ts : List Token) (T : List Token → TypeNode → Type 0) → ((v : Token) (a : List Token) → v.kind ≡ k.Name → AreConsts a → T (v ∷ a) (tag_type class v.at (spelling s v))) → Says (tag s class ts) ts T
+pub tag_says : (s : TypeNames) (class : Specifier) (ts : List Lexeme) (T : List Lexeme → TypeNode → Type 0) → ((v : Lexeme) (a : List Lexeme) → v.kind ≡ k.Name → AreConsts a → T (v ∷ a) (tag_type class v.at v.spelling)) → Says (tag s class ts) ts T
 unfolding tag
 tag_says s class [] T h = refused_says [] T
 tag_says s class (v ∷ r) T h = if_says (is_name v.kind) _ _ (v ∷ r) T
-    (λ yes. token_says _ v r T (bind_says (consts (length r) r) _ r (λ a q. AreConsts a) _ (consts_says (length r) r) (λ a q z g. done_says (tag_type class v.at (spelling s v)) a z (λ a ty. T (v ∷ a) ty) (h v a (name_is v.kind yes) g))))
+    (λ yes. token_says _ v r T (bind_says (consts (length r) r) _ r (λ a q. AreConsts a) _ (consts_says (length r) r) (λ a q z g. done_says (tag_type class v.at v.spelling) a z (λ a ty. T (v ∷ a) ty) (h v a (name_is v.kind yes) g))))
     (λ other. refused_says (v ∷ r) T)
 
-is_plain : (s : Scope) {a : List Token} {ty : TypeNode} → From (IsTail s) no_words a ty → IsPlain s a ty
+is_plain : (s : TypeNames) {a : List Lexeme} {ty : TypeNode} → From (IsTail s) no_words a ty → IsPlain s a ty
 is_plain s (From.words a z q h e) = IsPlain.words a z q h e
-is_plain s (From.tail a u r ty n c (IsTail.named b kind listed h)) = IsPlain.named a u b c kind listed h
+is_plain s (From.tail a u r ty n c (IsTail.type_name b kind listed h)) = IsPlain.type_name a u b c kind listed h
 is_plain s (From.tail a u r ty n c (IsTail.struct v b kind vk h)) = IsPlain.struct a u v b c kind vk h
 is_plain s (From.tail a u r ty n c (IsTail.enum v b kind vk h)) = IsPlain.enum a u v b c kind vk h
 
-pub plain_says : (s : Scope) (ts : List Token) → Says (plain s ts) ts (λ a ty. IsPlain s a ty)
+pub plain_says : (s : TypeNames) (ts : List Lexeme) → Says (plain s ts) ts (λ a ty. IsPlain s a ty)
 unfolding plain
 plain_says s ts = weaker (specifier_from s (λ word at. tag s word) (length ts) no_words ts) ts _ _ (λ a ty h. is_plain s h)
     (specifier_says s (λ word at. tag s word) (IsTail s)
     (λ u r e. tag_says s c.Struct r (λ b ty. IsTail s u b ty) (λ v a vk h. IsTail.struct v a e vk h))
     (λ u r e. tag_says s c.Enum r (λ b ty. IsTail s u b ty) (λ v a vk h. IsTail.enum v a e vk h))
-    (λ u b e listed h. IsTail.named b e listed h)
+    (λ u b e listed h. IsTail.type_name b e listed h)
     (length ts) no_words ts)

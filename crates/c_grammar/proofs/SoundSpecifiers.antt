@@ -3,7 +3,7 @@ use Rattle.std.proofs.Common.{◌≡◌, ℕ, zero, suc, false, cond, List, [], 
 use Rattle.c_lexer.specs.declared.token.TokenKind.TheVariants as k
 use Rattle.c_lexer.specs.declared.token.Keyword.TheVariants as w
 use Rattle.c_lexer.specs.declared.token.Punct.TheVariants as p
-use Rattle.c_lexer.specs.declared.token.Token.{Token}
+use Rattle.c_lexer.specs.Pieces.{Lexeme}
 use Rattle.c_tree.specs.declared.types.TypeNode.{TypeNode}
 use Rattle.c_tree.specs.declared.types.TypeNode as y
 use Rattle.c_tree.specs.declared.types.Declaration.{Declaration}
@@ -11,17 +11,17 @@ use Rattle.c_tree.specs.declared.types.Constant.{Constant}
 use Rattle.c_grammar.specs.declared.classes.Specifier.{Specifier}
 use Rattle.c_grammar.specs.declared.classes.Specifier.TheVariants as c
 use Rattle.c_grammar.specs.declared.shapes.Shape.{Shape}
-use Rattle.c_grammar.specs.declared.shapes.Named.{Named}
+use Rattle.c_grammar.specs.declared.shapes.DeclaredName.{DeclaredName}
 use Rattle.c_grammar.specs.declared.shapes.Naming.{Naming}
 use Rattle.c_grammar.specs.declared.shapes.Naming.TheVariants as nm
 use Rattle.c_grammar.specs.WordSets.{no_words}
-use Rattle.c_grammar.specs.Tokens.{Scope, spelling, is_type, is_mark, is_name, kind_at, behind}
+use Rattle.c_grammar.specs.Tokens.{TypeNames, is_type, is_mark, is_name, kind_at, behind}
 use Rattle.c_grammar.specs.Types.{declaration_of, bare}
 use Rattle.c_grammar.specs.Grammar.{AreConsts, IsPlain, IsExpr, IsDeclarator}
 use Rattle.c_grammar.specs.Specifiers.{IsTag, IsDeclared, AreDeclared, IsConstant, AreConstants, IsSpecifier, AreMembers, IsMember}
 use Rattle.c_grammar.specs.Parser.{Parser, consts}
 use Rattle.c_grammar.specs.ParseExpr.{tag_type, specifier_from, expr, declarator}
-use Rattle.c_grammar.specs.ParseSpecifiers.{named_by, declaration, braced_from, constant_value, constant, declared_from, member, members_from, braces, tag_or_body, specifier}
+use Rattle.c_grammar.specs.ParseSpecifiers.{named_by, declaration, braced_list_from, constant_value, constant, declarators_from, member, members_from, braces, tag_or_body, specifier}
 use Rattle.c_grammar.proofs.Outcomes.{mark_is, name_is}
 use Rattle.c_grammar.proofs.Says.{Says, ok_says, refused_says, bind_says, if_says, token_says, done_says, expect_says, consts_says, after_says, weaker}
 use Rattle.c_grammar.proofs.SoundPlain.{From, IsTail, specifier_says}
@@ -29,26 +29,26 @@ use Rattle.c_grammar.proofs.SoundExpr.{four_wanted, sound_expr, sound_declarator
 
 -- ---- declarators with their type
 
-named_says : (s : Scope) (naming : Naming) (ty : TypeNode) (a : List Token) (o : Option Named) (shapes : List Shape) (r : List Token) → IsDeclarator s naming 0 a (record { name = o; shapes = shapes }) → Says (named_by ty o shapes r) r (λ b z. IsDeclared s naming ty (a ++ b) z)
+named_says : (s : TypeNames) (naming : Naming) (ty : TypeNode) (a : List Lexeme) (o : Option DeclaredName) (shapes : List Shape) (r : List Lexeme) → IsDeclarator s naming 0 a (record { name = o; shapes = shapes }) → Says (named_by ty o shapes r) r (λ b z. IsDeclared s naming ty (a ++ b) z)
 named_says s naming ty a (Some u) shapes r h = done_says (declaration_of ty u shapes) a r (λ a z. IsDeclared s naming ty a z) (IsDeclared.of a u shapes h)
 named_says s naming ty a None shapes r h = refused_says r _
 
-pub declaration_says : (s : Scope) (n : ℕ) (naming : Naming) (ty : TypeNode) (ts : List Token) → Says (declaration s n naming ty ts) ts (λ a d. IsDeclared s naming ty a d)
+pub declaration_says : (s : TypeNames) (n : ℕ) (naming : Naming) (ty : TypeNode) (ts : List Lexeme) → Says (declaration s n naming ty ts) ts (λ a d. IsDeclared s naming ty a d)
 unfolding declaration
 declaration_says s n naming ty ts = bind_says (declarator s n naming ts) _ ts (λ a d. IsDeclarator s naming 0 a d) _ (sound_declarator s n naming ts) (λ a d r h. named_says s naming ty a d.name d.shapes r h)
 
-declared_says : (s : Scope) (n j : ℕ) (ty : TypeNode) (found : List Declaration) (ts : List Token) → Says (declared_from s n j ty found ts) ts (λ a ys. (xs : List Declaration) × (ys ≡ found ++ xs) × AreDeclared s ty a xs)
-unfolding declared_from
+declared_says : (s : TypeNames) (n j : ℕ) (ty : TypeNode) (found : List Declaration) (ts : List Lexeme) → Says (declarators_from s n j ty found ts) ts (λ a ys. (xs : List Declaration) × (ys ≡ found ++ xs) × AreDeclared s ty a xs)
+unfolding declarators_from
 declared_says s n zero ty found ts = refused_says ts _
 declared_says s n (suc j) ty found ts = bind_says (declaration s n nm.Member ty ts) _ ts (λ a d. IsDeclared s nm.Member ty a d) _ (declaration_says s n nm.Member ty ts) (λ a d r h.
-    after_says (λ a xs. AreDeclared s ty a xs) (declared_from s n j (bare ty) (found ++ d ∷ [])) found d a r (AreDeclared.one a d h) (λ t u kind.
-    weaker (declared_from s n j (bare ty) (found ++ d ∷ []) u) u _ _ (λ b ys q. (q.0, q.1, AreDeclared.more a t b d q.0 h kind q.2)) (declared_says s n j (bare ty) (found ++ d ∷ []) u)))
+    after_says (λ a xs. AreDeclared s ty a xs) (declarators_from s n j (bare ty) (found ++ d ∷ [])) found d a r (AreDeclared.one a d h) (λ t u kind.
+    weaker (declarators_from s n j (bare ty) (found ++ d ∷ []) u) u _ _ (λ b ys q. (q.0, q.1, AreDeclared.more a t b d q.0 h kind q.2)) (declared_says s n j (bare ty) (found ++ d ∷ []) u)))
 
 -- ---- lists up to a brace
 
 -- behind an element: a comma and more, a comma alone, or nothing
-braced_after : {A : Type 0} (L : List Token → List A → Type 0) (go : Parser (List A)) (found : List A) (x : A) (a r : List Token) → L a (x ∷ []) → ((t : Token) → t.kind ≡ k.Mark p.Comma → L (a ++ t ∷ []) (x ∷ []))
-    → ((t : Token) (u : List Token) → t.kind ≡ k.Mark p.Comma → Says (go u) u (λ b ys. (xs : List A) × (ys ≡ (found ++ x ∷ []) ++ xs) × L (a ++ t ∷ b) (x ∷ xs)))
+braced_after : {A : Type 0} (L : List Lexeme → List A → Type 0) (go : Parser (List A)) (found : List A) (x : A) (a r : List Lexeme) → L a (x ∷ []) → ((t : Lexeme) → t.kind ≡ k.Mark p.Comma → L (a ++ t ∷ []) (x ∷ []))
+    → ((t : Lexeme) (u : List Lexeme) → t.kind ≡ k.Mark p.Comma → Says (go u) u (λ b ys. (xs : List A) × (ys ≡ (found ++ x ∷ []) ++ xs) × L (a ++ t ∷ b) (x ∷ xs)))
     → Says (cond (is_mark p.Comma (kind_at r)) (cond (is_mark p.RightBrace (kind_at (behind r))) (Ok (found ++ x ∷ [], behind r)) (go (behind r))) (Ok (found ++ x ∷ [], r))) r (λ b ys. (xs : List A) × (ys ≡ found ++ xs) × L (a ++ b) xs)
 braced_after L go found x a [] one last more = done_says (found ++ x ∷ []) a [] (λ a ys. (xs : List _) × (ys ≡ found ++ xs) × L a xs) (x ∷ [], refl, one)
 braced_after L go found x a (t ∷ r) one last more = if_says (is_mark p.Comma t.kind) _ (Ok (found ++ x ∷ [], t ∷ r)) (t ∷ r) _
@@ -57,28 +57,28 @@ braced_after L go found x a (t ∷ r) one last more = if_says (is_mark p.Comma t
     (λ goes. weaker (go r) r _ _ (λ b ys q. (x ∷ q.0, q.1 ∙ append_assoc found (x ∷ []) q.0, q.2)) (more t r (mark_is p.Comma t.kind yes)))))
     (λ other. done_says (found ++ x ∷ []) a (t ∷ r) (λ a ys. (xs : List _) × (ys ≡ found ++ xs) × L a xs) (x ∷ [], refl, one))
 
-pub braced_says : {A : Type 0} (item : Parser A) (R : List Token → A → Type 0) (L : List Token → List A → Type 0)
-    → ((ts : List Token) → Says (item ts) ts R)
-    → ((a : List Token) (x : A) → R a x → L a (x ∷ []))
-    → ((a : List Token) (t : Token) (x : A) → R a x → t.kind ≡ k.Mark p.Comma → L (a ++ t ∷ []) (x ∷ []))
-    → ((a : List Token) (t : Token) (b : List Token) (x : A) (xs : List A) → R a x → t.kind ≡ k.Mark p.Comma → L b xs → L (a ++ t ∷ b) (x ∷ xs))
-    → (j : ℕ) (found : List A) (ts : List Token) → Says (braced_from item j found ts) ts (λ a ys. (xs : List A) × (ys ≡ found ++ xs) × L a xs)
-unfolding braced_from
+pub braced_says : {A : Type 0} (item : Parser A) (R : List Lexeme → A → Type 0) (L : List Lexeme → List A → Type 0)
+    → ((ts : List Lexeme) → Says (item ts) ts R)
+    → ((a : List Lexeme) (x : A) → R a x → L a (x ∷ []))
+    → ((a : List Lexeme) (t : Lexeme) (x : A) → R a x → t.kind ≡ k.Mark p.Comma → L (a ++ t ∷ []) (x ∷ []))
+    → ((a : List Lexeme) (t : Lexeme) (b : List Lexeme) (x : A) (xs : List A) → R a x → t.kind ≡ k.Mark p.Comma → L b xs → L (a ++ t ∷ b) (x ∷ xs))
+    → (j : ℕ) (found : List A) (ts : List Lexeme) → Says (braced_list_from item j found ts) ts (λ a ys. (xs : List A) × (ys ≡ found ++ xs) × L a xs)
+unfolding braced_list_from
 braced_says item R L h one last more zero found ts = refused_says ts _
 braced_says item R L h one last more (suc j) found ts = bind_says (item ts) _ ts R _ (h ts) (λ a x r g.
-    braced_after L (braced_from item j (found ++ x ∷ [])) found x a r (one a x g) (λ t kind. last a t x g kind) (λ t u kind.
-    weaker (braced_from item j (found ++ x ∷ []) u) u _ _ (λ b ys q. (q.0, q.1, more a t b x q.0 g kind q.2)) (braced_says item R L h one last more j (found ++ x ∷ []) u)))
+    braced_after L (braced_list_from item j (found ++ x ∷ [])) found x a r (one a x g) (λ t kind. last a t x g kind) (λ t u kind.
+    weaker (braced_list_from item j (found ++ x ∷ []) u) u _ _ (λ b ys q. (q.0, q.1, more a t b x q.0 g kind q.2)) (braced_says item R L h one last more j (found ++ x ∷ []) u)))
 
 -- ---- enumeration constants
 
-valued_says : (s : Scope) (n : ℕ) (t : Token) (ts : List Token) → t.kind ≡ k.Name → is_type s t ≡ false → Says (constant_value s n t.at (spelling s t) ts) ts (λ b x. IsConstant s (t ∷ b) x)
-valued_says s n t [] kind listed = ok_says (record { at = t.at; name = spelling s t; value = None }) [] _ (IsConstant.plain t kind listed)
+valued_says : (s : TypeNames) (n : ℕ) (t : Lexeme) (ts : List Lexeme) → t.kind ≡ k.Name → is_type s t ≡ false → Says (constant_value s n t.at t.spelling ts) ts (λ b x. IsConstant s (t ∷ b) x)
+valued_says s n t [] kind listed = ok_says (record { at = t.at; name = t.spelling; value = None }) [] _ (IsConstant.plain t kind listed)
 valued_says s n t (u ∷ r) kind listed = if_says (is_mark p.Assign u.kind) _ _ (u ∷ r) _
     (λ yes. token_says _ u r _ (bind_says (expr s n 4 r) _ r (λ a x. IsExpr s 4 a x) _ (sound_expr s n 4 r four_wanted) (λ a x v h.
-    done_says (record { at = t.at; name = spelling s t; value = Some x }) a v (λ b z. IsConstant s (t ∷ u ∷ b) z) (IsConstant.constant_value t u a x kind listed (mark_is p.Assign u.kind yes) h))))
-    (λ other. ok_says (record { at = t.at; name = spelling s t; value = None }) (u ∷ r) _ (IsConstant.plain t kind listed))
+    done_says (record { at = t.at; name = t.spelling; value = Some x }) a v (λ b z. IsConstant s (t ∷ u ∷ b) z) (IsConstant.with_value t u a x kind listed (mark_is p.Assign u.kind yes) h))))
+    (λ other. ok_says (record { at = t.at; name = t.spelling; value = None }) (u ∷ r) _ (IsConstant.plain t kind listed))
 
-constant_says : (s : Scope) (n : ℕ) (ts : List Token) → Says (constant s n ts) ts (λ a x. IsConstant s a x)
+constant_says : (s : TypeNames) (n : ℕ) (ts : List Lexeme) → Says (constant s n ts) ts (λ a x. IsConstant s a x)
 unfolding constant
 constant_says s n [] = refused_says [] _
 constant_says s n (t ∷ r) = if_says (is_name t.kind) _ _ (t ∷ r) _
@@ -88,68 +88,68 @@ constant_says s n (t ∷ r) = if_says (is_name t.kind) _ _ (t ∷ r) _
 -- ---- specifiers
 
 -- what stands in the place of words
-data IsBraced (s : Scope) (u : Token) : List Token → TypeNode → Type 0 where
-  alone : (a : List Token) (ty : TypeNode) → IsTail s u a ty → IsBraced s u a ty
-  struct : (b : List Token) (l : Token) (e : List Token) (r : Token) (d : List Token) (at : ℕ) (name : Option (List ℕ)) (ds : List Declaration) → u.kind ≡ k.Word w.Struct → IsTag s u b at name → l.kind ≡ k.Mark p.LeftBrace → AreMembers s e ds → r.kind ≡ k.Mark p.RightBrace → AreConsts d
+data IsBraced (s : TypeNames) (u : Lexeme) : List Lexeme → TypeNode → Type 0 where
+  alone : (a : List Lexeme) (ty : TypeNode) → IsTail s u a ty → IsBraced s u a ty
+  struct : (b : List Lexeme) (l : Lexeme) (e : List Lexeme) (r : Lexeme) (d : List Lexeme) (at : ℕ) (name : Option (List ℕ)) (ds : List Declaration) → u.kind ≡ k.Word w.Struct → IsTag u b at name → l.kind ≡ k.Mark p.LeftBrace → AreMembers s e ds → r.kind ≡ k.Mark p.RightBrace → AreConsts d
       → IsBraced s u (b ++ (l ∷ e ++ r ∷ d)) (y.Struct at name (Some ds))
-  enum : (b : List Token) (l : Token) (e : List Token) (r : Token) (d : List Token) (at : ℕ) (name : Option (List ℕ)) (xs : List Constant) → u.kind ≡ k.Word w.Enum → IsTag s u b at name → l.kind ≡ k.Mark p.LeftBrace → AreConstants s e xs → r.kind ≡ k.Mark p.RightBrace → AreConsts d
+  enum : (b : List Lexeme) (l : Lexeme) (e : List Lexeme) (r : Lexeme) (d : List Lexeme) (at : ℕ) (name : Option (List ℕ)) (xs : List Constant) → u.kind ≡ k.Word w.Enum → IsTag u b at name → l.kind ≡ k.Mark p.LeftBrace → AreConstants s e xs → r.kind ≡ k.Mark p.RightBrace → AreConsts d
       → IsBraced s u (b ++ (l ∷ e ++ r ∷ d)) (y.Enum at name (Some xs))
 
-is_specifier : (s : Scope) {a : List Token} {ty : TypeNode} → From (IsBraced s) no_words a ty → IsSpecifier s a ty
+is_specifier : (s : TypeNames) {a : List Lexeme} {ty : TypeNode} → From (IsBraced s) no_words a ty → IsSpecifier s a ty
 is_specifier s (From.words a z q h e) = IsSpecifier.plain a (y.Basic q) (IsPlain.words a z q h e)
-is_specifier s (From.tail a u r ty n c (IsBraced.alone b ty' (IsTail.named b' kind listed h))) = IsSpecifier.plain (a ++ u ∷ b') (y.Named (spelling s u)) (IsPlain.named a u b' c kind listed h)
-is_specifier s (From.tail a u r ty n c (IsBraced.alone b ty' (IsTail.struct v b' kind vk h))) = IsSpecifier.plain (a ++ u ∷ v ∷ b') (y.Struct v.at (Some (spelling s v)) None) (IsPlain.struct a u v b' c kind vk h)
-is_specifier s (From.tail a u r ty n c (IsBraced.alone b ty' (IsTail.enum v b' kind vk h))) = IsSpecifier.plain (a ++ u ∷ v ∷ b') (y.Enum v.at (Some (spelling s v)) None) (IsPlain.enum a u v b' c kind vk h)
+is_specifier s (From.tail a u r ty n c (IsBraced.alone b ty' (IsTail.type_name b' kind listed h))) = IsSpecifier.plain (a ++ u ∷ b') (y.Named u.spelling) (IsPlain.type_name a u b' c kind listed h)
+is_specifier s (From.tail a u r ty n c (IsBraced.alone b ty' (IsTail.struct v b' kind vk h))) = IsSpecifier.plain (a ++ u ∷ v ∷ b') (y.Struct v.at (Some v.spelling) None) (IsPlain.struct a u v b' c kind vk h)
+is_specifier s (From.tail a u r ty n c (IsBraced.alone b ty' (IsTail.enum v b' kind vk h))) = IsSpecifier.plain (a ++ u ∷ v ∷ b') (y.Enum v.at (Some v.spelling) None) (IsPlain.enum a u v b' c kind vk h)
 is_specifier s (From.tail a u r' ty n c (IsBraced.struct b l e r d at name ds kind g lk h rk o)) = IsSpecifier.struct a u b l e r d at name ds c kind g lk h rk o
 is_specifier s (From.tail a u r' ty n c (IsBraced.enum b l e r d at name xs kind g lk h rk o)) = IsSpecifier.enum a u b l e r d at name xs c kind g lk h rk o
 
-module _ (s : Scope) (n : ℕ) (spec : Parser TypeNode) (sound : (ts : List Token) → Says (spec ts) ts (λ a ty. IsSpecifier s a ty)) where
-  member_says : (ts : List Token) → Says (member s n spec ts) ts (λ a ds. IsMember s a ds)
+module _ (s : TypeNames) (n : ℕ) (spec : Parser TypeNode) (sound : (ts : List Lexeme) → Says (spec ts) ts (λ a ty. IsSpecifier s a ty)) where
+  member_says : (ts : List Lexeme) → Says (member s n spec ts) ts (λ a ds. IsMember s a ds)
   unfolding member
   member_says ts = bind_says (spec ts) _ ts (λ a ty. IsSpecifier s a ty) _ (sound ts) (λ a ty r h.
-      bind_says (declared_from s n (length r) ty [] r) _ r _ _ (declared_says s n (length r) ty [] r) (λ b ds u q. expect_says p.Semicolon _ u _ (λ t v kind.
+      bind_says (declarators_from s n (length r) ty [] r) _ r _ _ (declared_says s n (length r) ty [] r) (λ b ds u q. expect_says p.Semicolon _ u _ (λ t v kind.
       ok_says ds v _ (subst (λ z. IsMember s (a ++ (b ++ t ∷ [])) z) (sym q.1) (IsMember.member a b t ty q.0 h q.2 kind)))))
 
-  members_says : (j : ℕ) (found : List Declaration) (ts : List Token) → Says (members_from s n spec j found ts) ts (λ a ys. (xs : List Declaration) × (ys ≡ found ++ xs) × AreMembers s a xs)
+  members_says : (j : ℕ) (found : List Declaration) (ts : List Lexeme) → Says (members_from s n spec j found ts) ts (λ a ys. (xs : List Declaration) × (ys ≡ found ++ xs) × AreMembers s a xs)
   unfolding members_from
   members_says zero found ts = refused_says ts _
   members_says (suc j) found ts = bind_says (member s n spec ts) _ ts (λ a ds. IsMember s a ds) _ (member_says ts) (λ a ds r h. if_says (is_mark p.RightBrace (kind_at r)) (Ok (found ++ ds, r)) (members_from s n spec j (found ++ ds) r) r _
       (λ brace. done_says (found ++ ds) a r (λ a ys. (xs : List Declaration) × (ys ≡ found ++ xs) × AreMembers s a xs) (ds, refl, AreMembers.one a ds h))
       (λ other. weaker (members_from s n spec j (found ++ ds) r) r _ _ (λ b ys q. (ds ++ q.0, q.1 ∙ append_assoc found ds q.0, AreMembers.more a b ds q.0 h q.2)) (members_says j (found ++ ds) r)))
 
-  struct_says : (u : Token) (b : List Token) (at : ℕ) (name : Option (List ℕ)) (ts : List Token) → u.kind ≡ k.Word w.Struct → IsTag s u b at name → Says (braces s n spec c.Struct at name ts) ts (λ e ty. IsBraced s u (b ++ e) ty)
+  struct_says : (u : Lexeme) (b : List Lexeme) (at : ℕ) (name : Option (List ℕ)) (ts : List Lexeme) → u.kind ≡ k.Word w.Struct → IsTag u b at name → Says (braces s n spec c.Struct at name ts) ts (λ e ty. IsBraced s u (b ++ e) ty)
   unfolding braces
   struct_says u b at name ts kind g = expect_says p.LeftBrace _ ts _ (λ l r lk. bind_says (members_from s n spec (length r) [] r) _ r _ _ (members_says (length r) [] r) (λ e ds v q. expect_says p.RightBrace _ v _ (λ r' v' rk.
       bind_says (consts (length v') v') _ v' (λ a q. AreConsts a) _ (consts_says (length v') v') (λ d x z o.
       done_says (y.Struct at name (Some ds)) d z (λ d ty. IsBraced s u (b ++ (l ∷ (e ++ (r' ∷ d)))) ty) (subst (λ m. IsBraced s u (b ++ (l ∷ (e ++ (r' ∷ d)))) (y.Struct at name (Some m))) (sym q.1) (IsBraced.struct b l e r' d at name q.0 kind g lk q.2 rk o))))))
 
-  enum_says : (u : Token) (b : List Token) (at : ℕ) (name : Option (List ℕ)) (ts : List Token) → u.kind ≡ k.Word w.Enum → IsTag s u b at name → Says (braces s n spec c.Enum at name ts) ts (λ e ty. IsBraced s u (b ++ e) ty)
+  enum_says : (u : Lexeme) (b : List Lexeme) (at : ℕ) (name : Option (List ℕ)) (ts : List Lexeme) → u.kind ≡ k.Word w.Enum → IsTag u b at name → Says (braces s n spec c.Enum at name ts) ts (λ e ty. IsBraced s u (b ++ e) ty)
   unfolding braces
-  enum_says u b at name ts kind g = expect_says p.LeftBrace _ ts _ (λ l r lk. bind_says (braced_from (constant s n) (length r) [] r) _ r _ _
+  enum_says u b at name ts kind g = expect_says p.LeftBrace _ ts _ (λ l r lk. bind_says (braced_list_from (constant s n) (length r) [] r) _ r _ _
       (braced_says (constant s n) (λ a x. IsConstant s a x) (λ a xs. AreConstants s a xs) (constant_says s n) (λ a x h. AreConstants.one a x h) (λ a t x h kind. AreConstants.last a t x h kind) (λ a t b x xs h kind g. AreConstants.more a t b x xs h kind g) (length r) [] r) (λ e xs v q. expect_says p.RightBrace _ v _ (λ r' v' rk.
       bind_says (consts (length v') v') _ v' (λ a q. AreConsts a) _ (consts_says (length v') v') (λ d x z o.
       done_says (y.Enum at name (Some xs)) d z (λ d ty. IsBraced s u (b ++ (l ∷ (e ++ (r' ∷ d)))) ty) (subst (λ m. IsBraced s u (b ++ (l ∷ (e ++ (r' ∷ d)))) (y.Enum at name (Some m))) (sym q.1) (IsBraced.enum b l e r' d at name q.0 kind g lk q.2 rk o))))))
 
   -- behind the word
-  on_says : (class : Specifier) (u : Token) (ts : List Token)
-      → ((b : List Token) (at : ℕ) (name : Option (List ℕ)) (ts : List Token) → IsTag s u b at name → Says (braces s n spec class at name ts) ts (λ e ty. IsBraced s u (b ++ e) ty))
-      → ((v : Token) (a : List Token) → v.kind ≡ k.Name → AreConsts a → IsTail s u (v ∷ a) (tag_type class v.at (spelling s v)))
+  on_says : (class : Specifier) (u : Lexeme) (ts : List Lexeme)
+      → ((b : List Lexeme) (at : ℕ) (name : Option (List ℕ)) (ts : List Lexeme) → IsTag u b at name → Says (braces s n spec class at name ts) ts (λ e ty. IsBraced s u (b ++ e) ty))
+      → ((v : Lexeme) (a : List Lexeme) → v.kind ≡ k.Name → AreConsts a → IsTail s u (v ∷ a) (tag_type class v.at v.spelling))
       → Says (tag_or_body s n spec class u.at ts) ts (λ b ty. IsBraced s u b ty)
   unfolding tag_or_body
   on_says class u [] h g = h [] u.at None [] IsTag.none
   on_says class u (v ∷ r) h g = if_says (is_name v.kind) _ _ (v ∷ r) _
       (λ yes. token_says _ v r _ (if_says (is_mark p.LeftBrace (kind_at r)) _ _ r _
-      (λ brace. h (v ∷ []) v.at (Some (spelling s v)) r (IsTag.some v (name_is v.kind yes)))
+      (λ brace. h (v ∷ []) v.at (Some v.spelling) r (IsTag.some v (name_is v.kind yes)))
       (λ other. bind_says (consts (length r) r) _ r (λ a q. AreConsts a) _ (consts_says (length r) r) (λ a x z o.
-      done_says (tag_type class v.at (spelling s v)) a z (λ a ty. IsBraced s u (v ∷ a) ty) (IsBraced.alone (v ∷ a) (tag_type class v.at (spelling s v)) (g v a (name_is v.kind yes) o))))))
+      done_says (tag_type class v.at v.spelling) a z (λ a ty. IsBraced s u (v ∷ a) ty) (IsBraced.alone (v ∷ a) (tag_type class v.at v.spelling) (g v a (name_is v.kind yes) o))))))
       (λ other. h [] u.at None (v ∷ r) IsTag.none)
 
-pub sound_specifier : (s : Scope) (n : ℕ) (ts : List Token) → Says (specifier s n ts) ts (λ a ty. IsSpecifier s a ty)
+pub sound_specifier : (s : TypeNames) (n : ℕ) (ts : List Lexeme) → Says (specifier s n ts) ts (λ a ty. IsSpecifier s a ty)
 unfolding specifier
 sound_specifier s zero ts = refused_says ts _
 sound_specifier s (suc n) ts = weaker (specifier_from s (tag_or_body s n (specifier s n)) (length ts) no_words ts) ts _ _ (λ a ty h. is_specifier s h)
     (specifier_says s (tag_or_body s n (specifier s n)) (IsBraced s)
     (λ u r e. on_says s n (specifier s n) (sound_specifier s n) c.Struct u r (λ b at name ts g. struct_says s n (specifier s n) (sound_specifier s n) u b at name ts e g) (λ v a vk h. IsTail.struct v a e vk h))
     (λ u r e. on_says s n (specifier s n) (sound_specifier s n) c.Enum u r (λ b at name ts g. enum_says s n (specifier s n) (sound_specifier s n) u b at name ts e g) (λ v a vk h. IsTail.enum v a e vk h))
-    (λ u b e listed h. IsBraced.alone b (y.Named (spelling s u)) (IsTail.named b e listed h))
+    (λ u b e listed h. IsBraced.alone b (y.Named u.spelling) (IsTail.type_name b e listed h))
     (length ts) no_words ts)

@@ -4,7 +4,7 @@ use Rattle.c_lexer.specs.declared.token.TokenKind.{TokenKind}
 use Rattle.c_lexer.specs.declared.token.TokenKind.TheVariants as k
 use Rattle.c_lexer.specs.declared.token.Keyword.TheVariants as w
 use Rattle.c_lexer.specs.declared.token.Punct.TheVariants as p
-use Rattle.c_lexer.specs.declared.token.Token.{Token}
+use Rattle.c_lexer.specs.Pieces.{Lexeme}
 use Rattle.c_tree.specs.declared.types.TypeNode.{TypeNode}
 use Rattle.c_tree.specs.declared.types.Declaration.{Declaration}
 use Rattle.c_tree.specs.declared.statements.Stmt.{Stmt}
@@ -17,11 +17,11 @@ use Rattle.c_tree.specs.declared.declarations.External.{External}
 use Rattle.c_tree.specs.declared.declarations.External.TheVariants as x
 use Rattle.c_tree.specs.declared.declarations.TranslationUnit.{TranslationUnit}
 use Rattle.c_grammar.specs.declared.shapes.Shape.{Shape}
-use Rattle.c_grammar.specs.declared.shapes.Named.{Named}
+use Rattle.c_grammar.specs.declared.shapes.DeclaredName.{DeclaredName}
 use Rattle.c_grammar.specs.declared.shapes.Declarator.{Declarator}
 use Rattle.c_grammar.specs.declared.shapes.Naming.TheVariants as nm
 use Rattle.c_grammar.specs.Classes.{opening_of}
-use Rattle.c_grammar.specs.Tokens.{Scope, is_mark, kind_at, behind}
+use Rattle.c_grammar.specs.Tokens.{TypeNames, is_mark, kind_at, behind}
 use Rattle.c_grammar.specs.Types.{declaration_of, bare}
 use Rattle.c_grammar.specs.Grammar.{IsExpr, IsDeclarator}
 use Rattle.c_grammar.specs.Specifiers.{IsDeclared, IsSpecifier}
@@ -29,7 +29,7 @@ use Rattle.c_grammar.specs.Statements.{AreItems}
 use Rattle.c_grammar.specs.Units.{IsInit, AreInits, IsStorage, end_by, external_by, IsObject, AreObjects, with_type, AreTypedefs, IsExternal, AreExternals}
 use Rattle.c_grammar.specs.Parser.{ParseOutcome, IsEnd, Parser, and_then, ◌>>=◌, pure, expect}
 use Rattle.c_grammar.specs.ParseExpr.{expr, declarator}
-use Rattle.c_grammar.specs.ParseSpecifiers.{declaration, braced_from, specifier}
+use Rattle.c_grammar.specs.ParseSpecifiers.{declaration, braced_list_from, specifier}
 use Rattle.c_grammar.specs.ParseStatements.{items_from, stmt}
 use Rattle.c_grammar.specs.ParseUnits.{init_list, init_value, init, typedefs_from, typedefs, object_by, object_named, objects_from, objects_behind, body_behind, objects_named, objects_by, behind_type, stored, external_at, external, externals_behind, externals_from, unit_of, unit}
 use Rattle.c_grammar.specs.Units as units
@@ -42,16 +42,16 @@ use Rattle.c_grammar.proofs.ReadUnits.{complete, external_some}
 
 -- ---- initialisers
 
-init_value_says : (s : Scope) (n : ℕ) (rec : Parser Init) (ts : List Token) → Says (init_value s n rec ts) ts (λ a v. IsInit s a v)
+init_value_says : (s : TypeNames) (n : ℕ) (rec : Parser Init) (ts : List Lexeme) → Says (init_value s n rec ts) ts (λ a v. IsInit s a v)
 unfolding init_value
 init_value_says s n rec ts = bind_says (expr s n 2 ts) _ ts (λ a v. IsExpr s 2 a v) _ (sound_expr s n 2 ts two_wanted) (λ a v r h. done_says (i.Value v) a r (λ a v. IsInit s a v) (IsInit.value a v h))
 
-init_list_says : (s : Scope) (n : ℕ) (rec : Parser Init) (l : Token) (ts : List Token) → ((ts : List Token) → Says (rec ts) ts (λ a v. IsInit s a v)) → l.kind ≡ k.Mark p.LeftBrace → Says (init_list s n rec l.at ts) ts (λ a v. IsInit s (l ∷ a) v)
+init_list_says : (s : TypeNames) (n : ℕ) (rec : Parser Init) (l : Lexeme) (ts : List Lexeme) → ((ts : List Lexeme) → Says (rec ts) ts (λ a v. IsInit s a v)) → l.kind ≡ k.Mark p.LeftBrace → Says (init_list s n rec l.at ts) ts (λ a v. IsInit s (l ∷ a) v)
 unfolding init_list
-init_list_says s n rec l ts h lk = bind_says (braced_from rec (length ts) [] ts) _ ts _ _ (braced_says rec (λ a v. IsInit s a v) (λ a vs. AreInits s a vs) h (λ a v g. AreInits.one a v g) (λ a t v g kind. AreInits.last a t v g kind) (λ a t b v vs g kind o. AreInits.more a t b v vs g kind o) (length ts) [] ts) (λ a vs r q.
+init_list_says s n rec l ts h lk = bind_says (braced_list_from rec (length ts) [] ts) _ ts _ _ (braced_says rec (λ a v. IsInit s a v) (λ a vs. AreInits s a vs) h (λ a v g. AreInits.one a v g) (λ a t v g kind. AreInits.last a t v g kind) (λ a t b v vs g kind o. AreInits.more a t b v vs g kind o) (length ts) [] ts) (λ a vs r q.
     expect_says p.RightBrace _ r _ (λ r' u rk. ok_says (i.List l.at vs) u _ (subst (λ z. IsInit s (l ∷ (a ++ r' ∷ [])) (i.List l.at z)) (sym q.1) (IsInit.list l a r' q.0 lk q.2 rk))))
 
-sound_init : (s : Scope) (n : ℕ) (ts : List Token) → Says (init s n ts) ts (λ a v. IsInit s a v)
+sound_init : (s : TypeNames) (n : ℕ) (ts : List Lexeme) → Says (init s n ts) ts (λ a v. IsInit s a v)
 unfolding init
 sound_init s zero ts = refused_says ts _
 sound_init s (suc n) [] = init_value_says s (suc n) (init s n) []
@@ -59,18 +59,18 @@ sound_init s (suc n) (l ∷ ts) = if_says (is_mark p.LeftBrace l.kind) _ _ (l �
 
 -- ---- typedefs
 
-abbrev Typedefs : Scope → TypeNode → List External → List Token → List External × Scope → Type 0
+abbrev Typedefs : TypeNames → TypeNode → List External → List Lexeme → List External × TypeNames → Type 0
 Typedefs s ty found a q = (vs : List External) × (q.0 ≡ found ++ vs) × AreTypedefs s ty a vs q.1
 
-typedef_after : (s : Scope) (ty : TypeNode) (found : List External) (a r : List Token) (d : Declaration) (go : Parser (List External × Scope)) → IsDeclared s nm.Required ty a d
-    → ((ts : List Token) → Says (go ts) ts (Typedefs (with_type s d.name) (bare ty) (found ++ x.Typedef d ∷ [])))
+typedef_after : (s : TypeNames) (ty : TypeNode) (found : List External) (a r : List Lexeme) (d : Declaration) (go : Parser (List External × TypeNames)) → IsDeclared s nm.Required ty a d
+    → ((ts : List Lexeme) → Says (go ts) ts (Typedefs (with_type s d.name) (bare ty) (found ++ x.Typedef d ∷ [])))
     → Says (cond (is_mark p.Comma (kind_at r)) (go (behind r)) (Ok ((found ++ x.Typedef d ∷ [], with_type s d.name), r))) r (λ b q. Typedefs s ty found (a ++ b) q)
 typedef_after s ty found a [] d go h g = done_says (found ++ x.Typedef d ∷ [], with_type s d.name) a [] (Typedefs s ty found) (x.Typedef d ∷ [], refl, AreTypedefs.one a d h)
 typedef_after s ty found a (t ∷ r) d go h g = if_says (is_mark p.Comma t.kind) (go r) (Ok ((found ++ x.Typedef d ∷ [], with_type s d.name), t ∷ r)) (t ∷ r) _
     (λ yes. token_says (go r) t r _ (weaker (go r) r _ _ (λ b q o. (x.Typedef d ∷ o.0, o.1 ∙ append_assoc found (x.Typedef d ∷ []) o.0, AreTypedefs.more a t b d o.0 q.1 h (mark_is p.Comma t.kind yes) o.2)) (g r)))
     (λ other. done_says (found ++ x.Typedef d ∷ [], with_type s d.name) a (t ∷ r) (Typedefs s ty found) (x.Typedef d ∷ [], refl, AreTypedefs.one a d h))
 
-typedefs_says : (n j : ℕ) (s : Scope) (ty : TypeNode) (found : List External) (ts : List Token) → Says (typedefs_from s n j ty found ts) ts (Typedefs s ty found)
+typedefs_says : (n j : ℕ) (s : TypeNames) (ty : TypeNode) (found : List External) (ts : List Lexeme) → Says (typedefs_from s n j ty found ts) ts (Typedefs s ty found)
 unfolding typedefs_from
 typedefs_says n zero s ty found ts = refused_says ts _
 typedefs_says n (suc j) s ty found ts = bind_says (declaration s n nm.Required ty ts) _ ts (λ a d. IsDeclared s nm.Required ty a d) _ (declaration_says s n nm.Required ty ts) (λ a d r h.
@@ -79,26 +79,26 @@ typedefs_says n (suc j) s ty found ts = bind_says (declaration s n nm.Required t
 -- ---- objects
 
 -- what stands behind a type
-data IsBehind (s : Scope) (storage : Option Storage) (ty : TypeNode) : List Token → List External → Type 0 where
-  tags : (r : Token) → r.kind ≡ k.Mark p.Semicolon → IsBehind s storage ty (r ∷ []) (x.Tags storage ty ∷ [])
-  objects : (c : List Token) (r : Token) (vs : List External) → AreObjects s storage ty c vs → r.kind ≡ k.Mark p.Semicolon → IsBehind s storage ty (c ++ r ∷ []) vs
-  function : (c : List Token) (l : Token) (e : List Token) (r : Token) (d : Declaration) (body : List Stmt) → IsDeclared s nm.Required ty c d → l.kind ≡ k.Mark p.LeftBrace → AreItems s e body → r.kind ≡ k.Mark p.RightBrace
+data IsBehind (s : TypeNames) (storage : Option Storage) (ty : TypeNode) : List Lexeme → List External → Type 0 where
+  tags : (r : Lexeme) → r.kind ≡ k.Mark p.Semicolon → IsBehind s storage ty (r ∷ []) (x.Tags storage ty ∷ [])
+  objects : (c : List Lexeme) (r : Lexeme) (vs : List External) → AreObjects s storage ty c vs → r.kind ≡ k.Mark p.Semicolon → IsBehind s storage ty (c ++ r ∷ []) vs
+  function : (c : List Lexeme) (l : Lexeme) (e : List Lexeme) (r : Lexeme) (d : Declaration) (body : List Stmt) → IsDeclared s nm.Required ty c d → l.kind ≡ k.Mark p.LeftBrace → AreItems s e body → r.kind ≡ k.Mark p.RightBrace
       → IsBehind s storage ty (c ++ (l ∷ e ++ r ∷ [])) (x.Function d storage (f.Body body) ∷ [])
 
-module _ (s : Scope) (n : ℕ) (storage : Option Storage) where
-  object_says : (ty : TypeNode) (u : Named) (shapes : List Shape) (a r : List Token) → IsDeclarator s nm.Required 0 a (record { name = Some u; shapes = shapes }) → Says (object_by s n storage ty u shapes r) r (λ b v. IsObject s storage ty (a ++ b) v)
+module _ (s : TypeNames) (n : ℕ) (storage : Option Storage) where
+  object_says : (ty : TypeNode) (u : DeclaredName) (shapes : List Shape) (a r : List Lexeme) → IsDeclarator s nm.Required 0 a (record { name = Some u; shapes = shapes }) → Says (object_by s n storage ty u shapes r) r (λ b v. IsObject s storage ty (a ++ b) v)
   unfolding object_by
-  object_says ty u shapes a [] h = done_says (external_by shapes (declaration_of ty u shapes) storage None) a [] (λ a v. IsObject s storage ty a v) (IsObject.plain a u shapes h)
+  object_says ty u shapes a [] h = done_says (external_of (is_function shapes) (declaration_of ty u shapes) storage None) a [] (λ a v. IsObject s storage ty a v) (IsObject.plain a u shapes h)
   object_says ty u shapes a (t ∷ r) h = if_says (is_mark p.Assign t.kind) _ _ (t ∷ r) _
       (λ yes. token_says _ t r _ (bind_says (init s n r) _ r (λ b v. IsInit s b v) _ (sound_init s n r) (λ b v z g.
-      done_says (external_by shapes (declaration_of ty u shapes) storage (Some v)) b z (λ b w'. IsObject s storage ty (a ++ t ∷ b) w') (IsObject.given a t b u shapes v h (mark_is p.Assign t.kind yes) g))))
-      (λ other. done_says (external_by shapes (declaration_of ty u shapes) storage None) a (t ∷ r) (λ a v. IsObject s storage ty a v) (IsObject.plain a u shapes h))
+      done_says (external_of (is_function shapes) (declaration_of ty u shapes) storage (Some v)) b z (λ b w'. IsObject s storage ty (a ++ t ∷ b) w') (IsObject.with_init a t b u shapes v h (mark_is p.Assign t.kind yes) g))))
+      (λ other. done_says (external_of (is_function shapes) (declaration_of ty u shapes) storage None) a (t ∷ r) (λ a v. IsObject s storage ty a v) (IsObject.plain a u shapes h))
 
-  named_says : (ty : TypeNode) (o' : Option Named) (shapes : List Shape) (a r : List Token) → IsDeclarator s nm.Required 0 a (record { name = o'; shapes = shapes }) → Says (object_named s n storage ty o' shapes r) r (λ b v. IsObject s storage ty (a ++ b) v)
+  named_says : (ty : TypeNode) (o' : Option DeclaredName) (shapes : List Shape) (a r : List Lexeme) → IsDeclarator s nm.Required 0 a (record { name = o'; shapes = shapes }) → Says (object_named s n storage ty o' shapes r) r (λ b v. IsObject s storage ty (a ++ b) v)
   named_says ty (Some u) shapes a r h = object_says ty u shapes a r h
   named_says ty None shapes a r h = refused_says r _
 
-  objects_says : (j : ℕ) (ty : TypeNode) (found : List External) (ts : List Token) → Says (objects_from s n storage j ty found ts) ts (λ a zs. (vs : List External) × (zs ≡ found ++ vs) × AreObjects s storage ty a vs)
+  objects_says : (j : ℕ) (ty : TypeNode) (found : List External) (ts : List Lexeme) → Says (objects_from s n storage j ty found ts) ts (λ a zs. (vs : List External) × (zs ≡ found ++ vs) × AreObjects s storage ty a vs)
   unfolding objects_from
   objects_says zero ty found ts = refused_says ts _
   objects_says (suc j) ty found ts = bind_says (declarator s n nm.Required ts) _ ts (λ a d. IsDeclarator s nm.Required 0 a d) _ (sound_declarator s n nm.Required ts) (λ a d r h.
@@ -107,25 +107,25 @@ module _ (s : Scope) (n : ℕ) (storage : Option Storage) where
       (after_says (λ a vs. AreObjects s storage ty a vs) (objects_from s n storage j (bare ty) (found ++ v ∷ [])) found v (a ++ b) z (AreObjects.one (a ++ b) v g) (λ t u kind.
       weaker (objects_from s n storage j (bare ty) (found ++ v ∷ []) u) u _ _ (λ c zs q. (q.0, q.1, AreObjects.more (a ++ b) t c v q.0 g kind q.2)) (objects_says j (bare ty) (found ++ v ∷ []) u)))))
 
-  objects_behind_says : (ty : TypeNode) (u : Named) (shapes : List Shape) (a r : List Token) → IsDeclarator s nm.Required 0 a (record { name = Some u; shapes = shapes }) → Says (objects_behind s n storage ty u shapes r) r (λ b vs. AreObjects s storage ty (a ++ b) vs)
+  objects_behind_says : (ty : TypeNode) (u : DeclaredName) (shapes : List Shape) (a r : List Lexeme) → IsDeclarator s nm.Required 0 a (record { name = Some u; shapes = shapes }) → Says (objects_behind s n storage ty u shapes r) r (λ b vs. AreObjects s storage ty (a ++ b) vs)
   unfolding objects_behind
   objects_behind_says ty u shapes a r h = bind_says (object_by s n storage ty u shapes r) _ r (λ b v. IsObject s storage ty (a ++ b) v) _ (object_says ty u shapes a r h) (λ b v z g.
       weaker _ z _ _ (λ c zs q. subst (λ y. AreObjects s storage ty y zs) (append_assoc a b c) (subst (λ y. AreObjects s storage ty ((a ++ b) ++ c) y) (sym q.1) q.2))
       (after_says (λ a vs. AreObjects s storage ty a vs) (λ y. objects_from s n storage (length y) (bare ty) (v ∷ []) y) [] v (a ++ b) z (AreObjects.one (a ++ b) v g) (λ t y kind.
       weaker (objects_from s n storage (length y) (bare ty) (v ∷ []) y) y _ _ (λ c zs q. (q.0, q.1, AreObjects.more (a ++ b) t c v q.0 g kind q.2)) (objects_says (length y) (bare ty) (v ∷ []) y))))
 
-  body_says : (ty : TypeNode) (d : Declaration) (a : List Token) (l : Token) (r : List Token) → IsDeclared s nm.Required ty a d → l.kind ≡ k.Mark p.LeftBrace → Says (body_behind s n storage d r) r (λ b vs. IsBehind s storage ty (a ++ (l ∷ b)) vs)
+  body_says : (ty : TypeNode) (d : Declaration) (a : List Lexeme) (l : Lexeme) (r : List Lexeme) → IsDeclared s nm.Required ty a d → l.kind ≡ k.Mark p.LeftBrace → Says (body_behind s n storage d r) r (λ b vs. IsBehind s storage ty (a ++ (l ∷ b)) vs)
   unfolding body_behind
   body_says ty d a l r h lk = bind_says (items_from s n (stmt s n) (length r) [] r) _ r _ _ (items_says s n (stmt s n) (sound_stmt s n) (length r) [] r) (λ b body z q.
       let c = q.2 in
       done_says (x.Function d storage (f.Body body) ∷ []) b z (λ b vs. IsBehind s storage ty (a ++ (l ∷ b)) vs) (subst (λ y. IsBehind s storage ty (a ++ (l ∷ b)) (x.Function d storage (f.Body y) ∷ [])) (sym q.1)
       (subst (λ y. IsBehind s storage ty (a ++ (l ∷ y)) (x.Function d storage (f.Body q.0) ∷ [])) (sym c.all_is) (IsBehind.function a l c.inner c.close d q.0 h lk c.are c.close_is))))
 
-  rest_says : (ty : TypeNode) (u : Named) (shapes : List Shape) (a r : List Token) → IsDeclarator s nm.Required 0 a (record { name = Some u; shapes = shapes }) → Says (and_then (objects_behind s n storage ty u shapes r) (λ vs. expect p.Semicolon >>= λ _. pure vs)) r (λ b vs. IsBehind s storage ty (a ++ b) vs)
+  rest_says : (ty : TypeNode) (u : DeclaredName) (shapes : List Shape) (a r : List Lexeme) → IsDeclarator s nm.Required 0 a (record { name = Some u; shapes = shapes }) → Says (and_then (objects_behind s n storage ty u shapes r) (λ vs. expect p.Semicolon >>= λ _. pure vs)) r (λ b vs. IsBehind s storage ty (a ++ b) vs)
   rest_says ty u shapes a r h = bind_says (objects_behind s n storage ty u shapes r) _ r (λ b vs. AreObjects s storage ty (a ++ b) vs) _ (objects_behind_says ty u shapes a r h) (λ b vs z g. expect_says p.Semicolon _ z _ (λ t y kind.
       ok_says vs y _ (subst (λ c. IsBehind s storage ty c vs) (append_assoc a b (t ∷ [])) (IsBehind.objects (a ++ b) t vs g kind))))
 
-  first_says : (ty : TypeNode) (d : Declarator) (o' : Option Named) (a r : List Token) → IsDeclarator s nm.Required 0 a (record { name = o'; shapes = d.shapes }) → Says (objects_by s n storage ty d o' r) r (λ b vs. IsBehind s storage ty (a ++ b) vs)
+  first_says : (ty : TypeNode) (d : Declarator) (o' : Option DeclaredName) (a r : List Lexeme) → IsDeclarator s nm.Required 0 a (record { name = o'; shapes = d.shapes }) → Says (objects_by s n storage ty d o' r) r (λ b vs. IsBehind s storage ty (a ++ b) vs)
   unfolding objects_named
   first_says ty d (Some u) a [] h = rest_says ty u d.shapes a [] h
   first_says ty d (Some u) a (l ∷ r) h = if_says (is_mark p.LeftBrace l.kind) _ _ (l ∷ r) _
@@ -133,50 +133,50 @@ module _ (s : Scope) (n : ℕ) (storage : Option Storage) where
       (λ other. rest_says ty u d.shapes a (l ∷ r) h)
   first_says ty d None a r h = refused_says r _
 
-  declared_says : (ty : TypeNode) (ts : List Token) → Says (and_then (declarator s n nm.Required ts) (λ d. objects_by s n storage ty d d.name)) ts (λ a vs. IsBehind s storage ty a vs)
+  declared_says : (ty : TypeNode) (ts : List Lexeme) → Says (and_then (declarator s n nm.Required ts) (λ d. objects_by s n storage ty d d.name)) ts (λ a vs. IsBehind s storage ty a vs)
   declared_says ty ts = bind_says (declarator s n nm.Required ts) _ ts (λ a d. IsDeclarator s nm.Required 0 a d) _ (sound_declarator s n nm.Required ts) (λ a d r h. first_says ty d d.name a r h)
 
-  behind_says : (ty : TypeNode) (ts : List Token) → Says (behind_type s n storage ty ts) ts (λ a vs. IsBehind s storage ty a vs)
+  behind_says : (ty : TypeNode) (ts : List Lexeme) → Says (behind_type s n storage ty ts) ts (λ a vs. IsBehind s storage ty a vs)
   unfolding behind_type
   behind_says ty [] = declared_says ty []
   behind_says ty (t ∷ r) = if_says (is_mark p.Semicolon t.kind) (Ok (x.Tags storage ty ∷ [], r)) _ (t ∷ r) _ (λ yes. token_says (Ok (x.Tags storage ty ∷ [], r)) t r _ (ok_says (x.Tags storage ty ∷ []) r _ (IsBehind.tags t (mark_is p.Semicolon t.kind yes)))) (λ other. declared_says ty (t ∷ r))
 
-  external_of : {ty : TypeNode} {a b c : List Token} {vs : List External} → IsStorage a storage → IsSpecifier s b ty → IsBehind s storage ty c vs → IsExternal s (a ++ (b ++ c)) vs s
+  external_of : {ty : TypeNode} {a b c : List Lexeme} {vs : List External} → IsStorage a storage → IsSpecifier s b ty → IsBehind s storage ty c vs → IsExternal s (a ++ (b ++ c)) vs s
   external_of {ty} {a} {b} h g (IsBehind.tags r kind) = IsExternal.tags a b r storage ty h g kind
   external_of {ty} {a} {b} h g (IsBehind.objects c r vs o' kind) = IsExternal.objects a b c r storage ty vs h g o' kind
   external_of {ty} {a} {b} h g (IsBehind.function c l e r d body o' lk q rk) = IsExternal.function a b c l e r storage ty d body h g o' lk q rk
 
-  stored_says : (a ts : List Token) → IsStorage a storage → Says (stored s n storage ts) ts (λ b q. IsExternal s (a ++ b) q.0 q.1)
+  stored_says : (a ts : List Lexeme) → IsStorage a storage → Says (stored s n storage ts) ts (λ b q. IsExternal s (a ++ b) q.0 q.1)
   unfolding stored
   stored_says a ts h = bind_says (specifier s n ts) _ ts (λ b ty. IsSpecifier s b ty) _ (sound_specifier s n ts) (λ b ty r g. bind_says (behind_type s n storage ty r) _ r (λ c vs. IsBehind s storage ty c vs) _ (behind_says ty r) (λ c vs z o'.
       done_says (vs, s) c z (λ c q. IsExternal s (a ++ (b ++ c)) q.0 q.1) (external_of h g o')))
 
 -- ---- external declarations
 
-typedefs_line : (s : Scope) (n : ℕ) (t : Token) (ts : List Token) → t.kind ≡ k.Word w.Typedef → Says (typedefs s n ts) ts (λ b q. IsExternal s (t ∷ b) q.0 q.1)
+typedefs_line : (s : TypeNames) (n : ℕ) (t : Lexeme) (ts : List Lexeme) → t.kind ≡ k.Word w.Typedef → Says (typedefs s n ts) ts (λ b q. IsExternal s (t ∷ b) q.0 q.1)
 unfolding typedefs
 typedefs_line s n t ts kind = bind_says (specifier s n ts) _ ts (λ a ty. IsSpecifier s a ty) _ (sound_specifier s n ts) (λ a ty r h. bind_says (typedefs_from s n (length r) ty [] r) _ r (Typedefs s ty []) _ (typedefs_says n (length r) s ty [] r) (λ b q z g. expect_says p.Semicolon _ z _ (λ e u ek.
     ok_says q u _ (subst (λ y. IsExternal s (t ∷ (a ++ (b ++ e ∷ []))) y q.1) (sym g.1) (IsExternal.typedefs t a b e ty g.0 q.1 kind h g.2 ek)))))
 
-by_says : (s : Scope) (n : ℕ) (kind : TokenKind) (t : Token) (ts : List Token) → t.kind ≡ kind → Says (external_at s n (opening_of kind) (t ∷ ts)) (t ∷ ts) (λ a q. IsExternal s a q.0 q.1)
+by_says : (s : TypeNames) (n : ℕ) (kind : TokenKind) (t : Lexeme) (ts : List Lexeme) → t.kind ≡ kind → Says (external_at s n (opening_of kind) (t ∷ ts)) (t ∷ ts) (λ a q. IsExternal s a q.0 q.1)
 by_says s n (k.Word w.Typedef) t ts kind = token_says _ t ts _ (typedefs_line s n t ts kind)
 by_says s n (k.Word w.Static) t ts kind = token_says _ t ts _ (stored_says s n (Some g.Static) (t ∷ []) ts (IsStorage.static t kind))
 by_says s n (k.Word w.Extern) t ts kind = token_says _ t ts _ (stored_says s n (Some g.Extern) (t ∷ []) ts (IsStorage.extern t kind))
 by_says s n (k.Word _) t ts kind = stored_says s n None [] (t ∷ ts) IsStorage.none
 by_says s n _ t ts kind = stored_says s n None [] (t ∷ ts) IsStorage.none
 
-external_says : (s : Scope) (n : ℕ) (t : Token) (ts : List Token) → Says (external s n (t ∷ ts)) (t ∷ ts) (λ a q. IsExternal s a q.0 q.1)
+external_says : (s : TypeNames) (n : ℕ) (t : Lexeme) (ts : List Lexeme) → Says (external s n (t ∷ ts)) (t ∷ ts) (λ a q. IsExternal s a q.0 q.1)
 unfolding external
 external_says s n t ts = by_says s n t.kind t ts refl
 
-split : (o' : ParseOutcome (List External × Scope)) (go : List External × Scope → List Token → Result (List External) (List Token)) (ys : List External) → externals_behind o' go ≡ Ok ys → (q : (List External × Scope) × List Token) × (o' ≡ Ok q) × (go q.0 q.1 ≡ Ok ys)
+split : (o' : ParseOutcome (List External × TypeNames)) (go : List External × TypeNames → List Lexeme → Result (List External) (List Lexeme)) (ys : List External) → externals_behind o' go ≡ Ok ys → (q : (List External × TypeNames) × List Lexeme) × (o' ≡ Ok q) × (go q.0 q.1 ≡ Ok ys)
 split (Ok q) go ys e = (q, refl, e)
 split (Err r) go ys e = cc
 
-same_list : {xs ys : List External} → ◌≡◌ {A = Result (List External) (List Token)} (Ok xs) (Ok ys) → xs ≡ ys
+same_list : {xs ys : List External} → ◌≡◌ {A = Result (List External) (List Lexeme)} (Ok xs) (Ok ys) → xs ≡ ys
 same_list e = cc
 
-externals_sound : (j : ℕ) (s : Scope) (found ys : List External) (ts : List Token) → length ts ≤ j → externals_from j s found ts ≡ Ok ys → (vs : List External) × (ys ≡ found ++ vs) × AreExternals s ts vs
+externals_sound : (j : ℕ) (s : TypeNames) (found ys : List External) (ts : List Lexeme) → length ts ≤ j → externals_from j s found ts ≡ Ok ys → (vs : List External) × (ys ≡ found ++ vs) × AreExternals s ts vs
 unfolding externals_from
 externals_sound zero s found ys [] le e = ([], sym (same_list e) ∙ sym (append-nil found), AreExternals.none)
 externals_sound zero s found ys (t ∷ ts) le e = absurd (omega arith)
@@ -190,15 +190,15 @@ externals_sound (suc j) s found ys (t ∷ ts) le e =
     (q.0.0.0 ++ o'.0, o'.1 ∙ append_assoc found q.0.0.0 o'.0, subst (λ z. AreExternals s z (q.0.0.0 ++ o'.0)) (sym h.1) (AreExternals.more h.0 q.0.1 q.0.0.0 o'.0 q.0.0.1 h.2 o'.2))
 
 -- the same of a refusal
-stops_split : (o' : ParseOutcome (List External × Scope)) (go : List External × Scope → List Token → Result (List External) (List Token)) (ts r : List Token) → ((q : List Token) → o' ≡ Err q → IsEnd q ts)
-    → ((q : (List External × Scope) × List Token) → o' ≡ Ok q → go q.0 q.1 ≡ Err r → IsEnd r ts) → externals_behind o' go ≡ Err r → IsEnd r ts
+stops_split : (o' : ParseOutcome (List External × TypeNames)) (go : List External × TypeNames → List Lexeme → Result (List External) (List Lexeme)) (ts r : List Lexeme) → ((q : List Lexeme) → o' ≡ Err q → IsEnd q ts)
+    → ((q : (List External × TypeNames) × List Lexeme) → o' ≡ Ok q → go q.0 q.1 ≡ Err r → IsEnd r ts) → externals_behind o' go ≡ Err r → IsEnd r ts
 stops_split (Ok q) go ts r f g e = g q refl e
 stops_split (Err z) go ts r f g e = subst (λ w. IsEnd w ts) (same_end e) (f z refl)
   where
-    same_end : {z r : List Token} → ◌≡◌ {A = Result (List External) (List Token)} (Err z) (Err r) → z ≡ r
+    same_end : {z r : List Lexeme} → ◌≡◌ {A = Result (List External) (List Lexeme)} (Err z) (Err r) → z ≡ r
     same_end e = cc
 
-externals_end : (j : ℕ) (s : Scope) (found : List External) (ts r : List Token) → externals_from j s found ts ≡ Err r → IsEnd r ts
+externals_end : (j : ℕ) (s : TypeNames) (found : List External) (ts r : List Lexeme) → externals_from j s found ts ≡ Err r → IsEnd r ts
 unfolding externals_from
 externals_end zero s found ts r e = cc
 externals_end (suc j) s found [] r e = cc
@@ -209,21 +209,21 @@ externals_end (suc j) s found (t ∷ ts) r e =
     let v = externals_end j q.0.1 (found ++ q.0.0) q.1 r more in
     (u.0 ++ v.0, u.1 ∙ ap (λ z. u.0 ++ z) v.1 ∙ sym (append_assoc u.0 v.0 r))) e
 
-unit_end : (size : ℕ) (o' : Result (List External) (List Token)) (tokens r : List Token) → ((q : List Token) → o' ≡ Err q → IsEnd q tokens) → unit_of size o' ≡ Err r → IsEnd r tokens
+unit_end : (size : ℕ) (o' : Result (List External) (List Lexeme)) (tokens r : List Lexeme) → ((q : List Lexeme) → o' ≡ Err q → IsEnd q tokens) → unit_of size o' ≡ Err r → IsEnd r tokens
 unit_end size (Ok vs) tokens r f e = cc
 unit_end size (Err z) tokens r f e = subst (λ w. IsEnd w tokens) (same_end e) (f z refl)
   where
-    same_end : {z r : List Token} → ◌≡◌ {A = Result TranslationUnit (List Token)} (Err z) (Err r) → z ≡ r
+    same_end : {z r : List Lexeme} → ◌≡◌ {A = Result TranslationUnit (List Lexeme)} (Err z) (Err r) → z ≡ r
     same_end e = cc
 
 -- The tokens from the refused one on are the last of them.
-pub refused_end : (text : List ℕ) (tokens r : List Token) → unit text tokens ≡ Err r → IsEnd r tokens
+pub refused_end : (text : List ℕ) (tokens r : List Lexeme) → unit text tokens ≡ Err r → IsEnd r tokens
 refused_end text tokens r e = unit_end (length text) (externals_from (length tokens) (record { text = text; types = [] }) [] tokens) tokens r (λ q. externals_end (length tokens) (record { text = text; types = [] }) [] tokens q) e
 
-same_tree : {t u : TranslationUnit} → ◌≡◌ {A = Result TranslationUnit (List Token)} (Ok t) (Ok u) → t ≡ u
+same_tree : {t u : TranslationUnit} → ◌≡◌ {A = Result TranslationUnit (List Lexeme)} (Ok t) (Ok u) → t ≡ u
 same_tree e = cc
 
-unit_sound : (text : List ℕ) (tokens : List Token) (tree : TranslationUnit) (o' : Result (List External) (List Token)) → externals_from (length tokens) (record { text = text; types = [] }) [] tokens ≡ o' → unit_of (length text) o' ≡ Ok tree → units.Reads text tokens tree
+unit_sound : (text : List ℕ) (tokens : List Lexeme) (tree : TranslationUnit) (o' : Result (List External) (List Lexeme)) → externals_from (length tokens) (record { text = text; types = [] }) [] tokens ≡ o' → unit_of (length text) o' ≡ Ok tree → units.Reads text tokens tree
 unit_sound text tokens tree (Ok vs) e g =
     let h = externals_sound (length tokens) (record { text = text; types = [] }) [] vs tokens (omega arith) e in
     let made : units.Reads text tokens (record { externals = vs; length = length text }) = record { externals = subst (λ z. AreExternals (record { text = text; types = [] }) tokens z) (sym h.1) h.2; length = refl } in
@@ -231,9 +231,9 @@ unit_sound text tokens tree (Ok vs) e g =
 unit_sound text tokens tree (Err r) e g = cc
 
 -- The unit that is read is that of the tokens.
-pub sound : (text : List ℕ) (tokens : List Token) (tree : TranslationUnit) → unit text tokens ≡ Ok tree → units.Reads text tokens tree
+pub sound : (text : List ℕ) (tokens : List Lexeme) (tree : TranslationUnit) → unit text tokens ≡ Ok tree → units.Reads text tokens tree
 sound text tokens tree e = unit_sound text tokens tree (externals_from (length tokens) (record { text = text; types = [] }) [] tokens) refl e
 
 -- A token list has at most one reading.
-pub one_reading : (text : List ℕ) (tokens : List Token) (t u : TranslationUnit) → units.Reads text tokens t → units.Reads text tokens u → t ≡ u
+pub one_reading : (text : List ℕ) (tokens : List Lexeme) (t u : TranslationUnit) → units.Reads text tokens t → units.Reads text tokens u → t ≡ u
 one_reading text tokens t u h g = same_tree (sym (complete text tokens t h) ∙ complete text tokens u g)

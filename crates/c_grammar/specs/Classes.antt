@@ -1,5 +1,5 @@
 -- What a token may be to what stands before or behind it.
-use Rattle.std.specs.Prelude.{ℕ, Bool, true, false, not}
+use Rattle.std.specs.Prelude.{Bool, true, false, not}
 use Rattle.c_lexer.specs.declared.token.TokenKind.{TokenKind}
 use Rattle.c_lexer.specs.declared.token.TokenKind.TheVariants as k
 use Rattle.c_lexer.specs.declared.token.Keyword.TheVariants as w
@@ -7,7 +7,6 @@ use Rattle.c_lexer.specs.declared.token.Punct.{Punct}
 use Rattle.c_lexer.specs.declared.token.Punct.TheVariants as p
 use Rattle.c_tree.specs.declared.expressions.UnaryOp.TheVariants as u
 use Rattle.c_tree.specs.declared.expressions.StepOp.TheVariants as s
-use Rattle.c_tree.specs.declared.expressions.BinaryOp.{BinaryOp}
 use Rattle.c_tree.specs.declared.expressions.BinaryOp.TheVariants as b
 use Rattle.c_tree.specs.declared.expressions.AssignOp.TheVariants as a
 use Rattle.c_grammar.specs.declared.classes.Infix.{Infix}
@@ -126,62 +125,14 @@ opening_of (k.Word w.Static) = o.Static
 opening_of (k.Word w.Extern) = o.Extern
 opening_of _ = o.Other
 
--- the level of an operator between two operands, from 6 to 15 (C99 6.5.5 to 6.5.14)
-abbrev pub level_of : BinaryOp → ℕ
-level_of b.LogicalOr = 6
-level_of b.LogicalAnd = 7
-level_of b.Or = 8
-level_of b.Xor = 9
-level_of b.And = 10
-level_of b.Equal = 11
-level_of b.NotEqual = 11
-level_of b.Less = 12
-level_of b.Greater = 12
-level_of b.LessEqual = 12
-level_of b.GreaterEqual = 12
-level_of b.ShiftLeft = 13
-level_of b.ShiftRight = 13
-level_of b.Add = 14
-level_of b.Subtract = 14
-level_of b.Multiply = 15
-level_of b.Divide = 15
-level_of b.Remainder = 15
-
--- The levels of expressions: 1 with commas, 2 assignments, 4 conditional, 6 to 15 binary, 16 casts,
--- 17 unary, 18 postfix, 19 primary. A token binds at the level of the expressions that it may stand
--- behind. Assignment and `?` group to the right, and so have levels of their own: 3 and 5.
-abbrev pub binds : Infix → ℕ
-binds i.Comma = 1
-binds (i.Assign op) = 3
-binds i.Conditional = 5
-binds (i.Binary op) = level_of op
-binds i.Index = 18
-binds i.Field = 18
-binds i.Arrow = 18
-binds (i.Step op) = 18
-binds i.Tight = 20
-binds i.Nothing = 0
-
--- the level that an operator demands of its left operand: a unary expression before an assignment
-abbrev pub demands : Infix → ℕ
-demands (i.Assign op) = 17
-demands i.Conditional = 6
-demands i = binds i
-
--- the level of the expression that an operator makes
-abbrev pub makes : Infix → ℕ
-makes (i.Assign op) = 2
-makes i.Conditional = 4
-makes i = binds i
-
 -- whether an expression begins with such a token, which is the name of a type or not
 abbrev pub begins_by : Prefix → Bool → Bool
-begins_by f.Name listed = not listed
-begins_by f.Nothing listed = false
-begins_by _ listed = true
+begins_by f.Name is_type = not is_type
+begins_by f.Nothing is_type = false
+begins_by _ is_type = true
 
 -- whether a type begins with such a token, which is the name of a type or not
 abbrev pub begins_type_by : Specifier → Bool → Bool
-begins_type_by c.Name listed = listed
-begins_type_by c.Nothing listed = false
-begins_type_by _ listed = true
+begins_type_by c.Name is_type = is_type
+begins_type_by c.Nothing is_type = false
+begins_type_by _ is_type = true

@@ -1,4 +1,5 @@
 pub mod Classes
+pub mod Levels
 pub mod WordSets
 pub mod Tokens
 pub mod Types

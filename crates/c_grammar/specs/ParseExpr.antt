@@ -19,71 +19,96 @@ use Rattle.c_grammar.specs.declared.shapes.Shape.TheVariants as h
 use Rattle.c_grammar.specs.declared.shapes.Declarator.{Declarator}
 use Rattle.c_grammar.specs.declared.shapes.Naming.{Naming}
 use Rattle.c_grammar.specs.declared.shapes.Naming.TheVariants as nm
-use Rattle.c_grammar.specs.Classes.{infix_of, prefix_of, specifier_of, level_of, binds, demands, makes}
+use Rattle.c_grammar.specs.declared.shapes.SpecifierStart.{SpecifierStart}
+use Rattle.c_grammar.specs.declared.shapes.SpecifierStart.TheVariants as o
+use Rattle.c_lexer.specs.Pieces.{Lexeme}
+use Rattle.c_grammar.specs.Classes.{infix_of, prefix_of, specifier_of}
+use Rattle.c_grammar.specs.Levels.{level_of, binding_level, operand_level, result_level}
 use Rattle.c_grammar.specs.WordSets.{no_words, with_word, basic_of}
-use Rattle.c_grammar.specs.Tokens.{Scope, place, is_mark, is_name, is_text, kind_at, spelling_at, behind, is_type_at, begins_type}
+use Rattle.c_grammar.specs.Levels as levels
+use Rattle.c_grammar.specs.Tokens.{TypeNames, place, is_mark, is_name, is_text, kind_at, spelling_at, behind, is_type_at, begins_type}
 use Rattle.c_grammar.specs.Types.{takes_name, may_be_nameless, nameless, with_shape, with_shapes, parameter_of, without_void, comma_of}
 use Rattle.c_grammar.specs.Parser.{Parser, and_then, ◌>>=◌, pure, expect, consts}
 
 -- ---- specifiers without braces
 
--- the type that the words spell, or else what is read here
-abbrev pub settle : Option BasicType → Parser TypeNode → Parser TypeNode
-settle (Some b) other ts = Ok (y.Basic b, ts)
-settle None other ts = other ts
+-- the set with the word that stands here, if a word of a set may stand here
+abbrev pub extend : WordSet → Specifier → Option WordSet
+extend x c.Const = Some x
+extend x (c.Word word) = with_word x word
+extend x _ = None
 
--- one word more, or the type that the words before it spell
-abbrev pub word_by : Option WordSet → (WordSet → Parser TypeNode) → WordSet → Parser TypeNode
-word_by (Some v) go x ts = go v (behind ts)
-word_by None go x ts = settle (basic_of x) (λ r. Err r) ts
+-- the type that the words before spell, or else what stands here
+abbrev pub start_of : Option BasicType → Specifier → SpecifierStart
+start_of (Some b) kind = o.Basic b
+start_of None kind = o.Other kind
+
+abbrev pub word_or_end : Option WordSet → (WordSet → SpecifierStart × List Lexeme) → SpecifierStart × List Lexeme → SpecifierStart × List Lexeme
+word_or_end (Some x) go stop = go x
+word_or_end None go stop = stop
+
+-- the words of a type, and the tokens behind them
+unfoldable pub words_from : ℕ → WordSet → List Lexeme → SpecifierStart × List Lexeme
+words_from zero x ts = (start_of (basic_of x) c.Nothing, ts)
+words_from (suc j) x ts = word_or_end (extend x (specifier_of (kind_at ts))) (λ v. words_from j v (behind ts)) (start_of (basic_of x) (specifier_of (kind_at ts)), ts)
 
 -- the name of a type
-unfoldable pub named_type : Scope → Parser TypeNode
-named_type s ts = if is_type_at s ts then and_then (consts (length (behind ts)) (behind ts)) (λ _. pure (y.Named (spelling_at s ts))) else Err ts
+unfoldable pub named_type : TypeNames → Parser TypeNode
+named_type s ts = if is_type_at s ts then and_then (consts (length (behind ts)) (behind ts)) (λ _. pure (y.Named (spelling_at ts))) else Err ts
 
 -- a tag behind its word
 abbrev pub tag_type : Specifier → ℕ → List ℕ → TypeNode
 tag_type c.Struct at name = y.Struct at (Some name) None
 tag_type _ at name = y.Enum at (Some name) None
 
-unfoldable pub tag : Scope → Specifier → Parser TypeNode
-tag s word ts = if is_name (kind_at ts) then and_then (consts (length (behind ts)) (behind ts)) (λ _. pure (tag_type word (place ts) (spelling_at s ts))) else Err ts
+unfoldable pub tag : Specifier → Parser TypeNode
+tag word ts = if is_name (kind_at ts) then and_then (consts (length (behind ts)) (behind ts)) (λ _. pure (tag_type word (place ts) (spelling_at ts))) else Err ts
 
--- The words of a type, or what stands in their place: `on` reads it behind `struct` or `enum`.
-module _ (s : Scope) (on : Specifier → ℕ → Parser TypeNode) where
-  abbrev pub specifier_by : (WordSet → Parser TypeNode) → WordSet → Specifier → Parser TypeNode
-  specifier_by go x c.Const ts = go x (behind ts)
-  specifier_by go x (c.Word word) ts = word_by (with_word x word) go x ts
-  specifier_by go x c.Struct ts = settle (basic_of x) (λ r. on c.Struct (place r) (behind r)) ts
-  specifier_by go x c.Enum ts = settle (basic_of x) (λ r. on c.Enum (place r) (behind r)) ts
-  specifier_by go x c.Name ts = settle (basic_of x) (named_type s) ts
-  specifier_by go x c.Nothing ts = settle (basic_of x) (λ r. Err r) ts
+-- The specifier that starts so: `on` reads it behind `struct` or `enum`.
+abbrev pub specifier_behind : TypeNames → (Specifier → ℕ → Parser TypeNode) → SpecifierStart → Parser TypeNode
+specifier_behind s on (o.Basic b) ts = Ok (y.Basic b, ts)
+specifier_behind s on (o.Other c.Struct) ts = on c.Struct (place ts) (behind ts)
+specifier_behind s on (o.Other c.Enum) ts = on c.Enum (place ts) (behind ts)
+specifier_behind s on (o.Other c.Name) ts = named_type s ts
+specifier_behind s on (o.Other _) ts = Err ts
 
-  unfoldable pub specifier_from : ℕ → WordSet → Parser TypeNode
-  specifier_from zero x ts = settle (basic_of x) (λ r. Err r) ts
-  specifier_from (suc j) x ts = specifier_by (specifier_from j) x (specifier_of (kind_at ts)) ts
+-- a specifier whose words so far are these
+unfoldable pub specifier_from : TypeNames → (Specifier → ℕ → Parser TypeNode) → ℕ → WordSet → Parser TypeNode
+specifier_from s on j x ts = let q = words_from j x ts in specifier_behind s on q.0 q.1
 
-unfoldable pub plain : Scope → Parser TypeNode
-plain s ts = specifier_from s (λ word at. tag s word) (length ts) no_words ts
+unfoldable pub plain : TypeNames → Parser TypeNode
+plain s ts = specifier_from s (λ word at. tag word) (length ts) no_words ts
 
 -- ---- text literals
 
-unfoldable pub texts_from : Scope → ℕ → List (List ℕ) → Parser (List (List ℕ))
-texts_from s zero found ts = Ok (found, ts)
-texts_from s (suc j) found ts = if is_text (kind_at ts) then texts_from s j (found ++ spelling_at s ts ∷ []) (behind ts) else Ok (found, ts)
+unfoldable pub texts_from : ℕ → List (List ℕ) → Parser (List (List ℕ))
+texts_from zero found ts = Ok (found, ts)
+texts_from (suc j) found ts = if is_text (kind_at ts) then texts_from j (found ++ spelling_at ts ∷ []) (behind ts) else Ok (found, ts)
 
 -- ---- expressions and declarators, over what is read a level below
 
 -- elements with commas between
-unfoldable pub listed_from : {A : Type 0} → Parser A → ℕ → List A → Parser (List A)
-listed_from item zero found ts = Err ts
-listed_from item (suc j) found ts = and_then (item ts) (λ x r.
-    if is_mark p.Comma (kind_at r) then listed_from item j (found ++ x ∷ []) (behind r) else Ok (found ++ x ∷ [], r))
+unfoldable pub list_from : {A : Type 0} → Parser A → ℕ → List A → Parser (List A)
+list_from item zero found ts = Err ts
+list_from item (suc j) found ts = and_then (item ts) (λ x r.
+    if is_mark p.Comma (kind_at r) then list_from item j (found ++ x ∷ []) (behind r) else Ok (found ++ x ∷ [], r))
 
-module _ (s : Scope) (expr : ℕ → Parser Expr) (declarator : Naming → Parser Declarator) where
+-- the name of a member
+unfoldable pub member : Parser (List ℕ)
+member ts = if is_name (kind_at ts) then Ok (spelling_at ts, behind ts) else Err ts
+
+-- where no name of a declarator stands
+abbrev pub no_name : Naming → Parser Declarator
+no_name naming ts = if may_be_nameless naming then Ok (nameless, ts) else Err ts
+
+-- at a name, which may be none of its own
+abbrev pub core_name : TypeNames → Naming → Parser Declarator
+core_name s naming ts = if takes_name naming (is_type_at s ts) then Ok (record { name = Some (record { at = place ts; name = spelling_at ts }); shapes = [] }, behind ts) else no_name naming ts
+
+module _ (s : TypeNames) (expr : ℕ → Parser Expr) (declarator : Naming → Parser Declarator) where
   -- an expression with its commas
   unfoldable pub whole : Parser Expr
-  whole ts = and_then (listed_from (expr 2) (length ts) [] ts) (λ xs. pure (comma_of (place ts) xs))
+  whole ts = and_then (list_from (expr levels.assignment) (length ts) [] ts) (λ xs. pure (comma_of (place ts) xs))
 
   unfoldable pub type_name : Parser TypeName
   type_name ts = and_then (plain s ts) (λ ty. declarator nm.Refused >>= λ d. pure (record { at = place ts; ty = with_shapes d.shapes ty }))
@@ -94,46 +119,46 @@ module _ (s : Scope) (expr : ℕ → Parser Expr) (declarator : Naming → Parse
   -- behind the bracket, up to the one that closes it
   unfoldable pub arguments : Parser (List Expr)
   arguments ts = if is_mark p.RightParen (kind_at ts) then Ok ([], behind ts)
-      else and_then (listed_from (expr 2) (length ts) [] ts) (λ xs. expect p.RightParen >>= λ _. pure xs)
+      else and_then (list_from (expr levels.assignment) (length ts) [] ts) (λ xs. expect p.RightParen >>= λ _. pure xs)
 
   unfoldable pub parameters : Parser (List Parameter)
   parameters ts = if is_mark p.RightParen (kind_at ts) then Ok ([], behind ts)
-      else and_then (listed_from parameter (length ts) [] ts) (λ xs. expect p.RightParen >>= λ _. pure xs)
+      else and_then (list_from parameter (length ts) [] ts) (λ xs. expect p.RightParen >>= λ _. pure xs)
 
   -- behind a name that is no type
-  unfoldable pub named : ℕ → List ℕ → Parser (Expr × ℕ)
-  named at name ts = if is_mark p.LeftParen (kind_at ts) then and_then (arguments (behind ts)) (λ xs. pure (e.Call at name xs, 19))
-      else Ok ((e.Name at name, 19), ts)
+  unfoldable pub behind_name : ℕ → List ℕ → Parser (Expr × ℕ)
+  behind_name at name ts = if is_mark p.LeftParen (kind_at ts) then and_then (arguments (behind ts)) (λ xs. pure (e.Call at name xs, levels.primary))
+      else Ok ((e.Name at name, levels.primary), ts)
 
   -- behind a bracket
   unfoldable pub cast_behind : ℕ → Parser (Expr × ℕ)
-  cast_behind at ts = and_then (type_name ts) (λ ty. expect p.RightParen >>= λ _. expr 16 >>= λ x. pure (e.Cast at ty x, 16))
+  cast_behind at ts = and_then (type_name ts) (λ ty. expect p.RightParen >>= λ _. expr levels.cast >>= λ x. pure (e.Cast at ty x, levels.cast))
 
   unfoldable pub brackets_behind : Parser (Expr × ℕ)
-  brackets_behind ts = and_then (whole ts) (λ x. expect p.RightParen >>= λ _. pure (x, 19))
+  brackets_behind ts = and_then (whole ts) (λ x. expect p.RightParen >>= λ _. pure (x, levels.primary))
 
   -- a cast stands where one is wanted, and not where a unary expression is
   abbrev pub bracket_operand : ℕ → ℕ → Parser (Expr × ℕ)
-  bracket_operand least at ts = if begins_type s ts then (if nat_lt least 17 then cast_behind at ts else Err ts) else brackets_behind ts
+  bracket_operand least at ts = if begins_type s ts then (if nat_lt least levels.unary then cast_behind at ts else Err ts) else brackets_behind ts
 
   -- behind `sizeof`
   unfoldable pub size_of_type : ℕ → Parser (Expr × ℕ)
-  size_of_type at ts = and_then (type_name ts) (λ ty. expect p.RightParen >>= λ _. pure (e.SizeOfType at ty, 17))
+  size_of_type at ts = and_then (type_name ts) (λ ty. expect p.RightParen >>= λ _. pure (e.SizeOfType at ty, levels.unary))
 
   unfoldable pub size_of_value : ℕ → Parser (Expr × ℕ)
-  size_of_value at ts = and_then (expr 17 ts) (λ x. pure (e.SizeOfValue at x, 17))
+  size_of_value at ts = and_then (expr levels.unary ts) (λ x. pure (e.SizeOfValue at x, levels.unary))
 
   abbrev pub size_of : ℕ → Parser (Expr × ℕ)
   size_of at ts = if is_mark p.LeftParen (kind_at ts) then (if begins_type s (behind ts) then size_of_type at (behind ts) else size_of_value at ts) else size_of_value at ts
 
   abbrev pub operand_by : ℕ → Prefix → Parser (Expr × ℕ)
-  operand_by least f.Name ts = if is_type_at s ts then Err ts else named (place ts) (spelling_at s ts) (behind ts)
-  operand_by least f.Number ts = Ok ((e.Number (place ts) (spelling_at s ts), 19), behind ts)
-  operand_by least f.Character ts = Ok ((e.Character (place ts) (spelling_at s ts), 19), behind ts)
-  operand_by least f.Text ts = and_then (texts_from s (length ts) [] ts) (λ xs. pure (e.Text (place ts) xs, 19))
+  operand_by least f.Name ts = if is_type_at s ts then Err ts else behind_name (place ts) (spelling_at ts) (behind ts)
+  operand_by least f.Number ts = Ok ((e.Number (place ts) (spelling_at ts), levels.primary), behind ts)
+  operand_by least f.Character ts = Ok ((e.Character (place ts) (spelling_at ts), levels.primary), behind ts)
+  operand_by least f.Text ts = and_then (texts_from (length ts) [] ts) (λ xs. pure (e.Text (place ts) xs, levels.primary))
   operand_by least f.Bracket ts = bracket_operand least (place ts) (behind ts)
-  operand_by least (f.Step op) ts = and_then (expr 17 (behind ts)) (λ x. pure (e.Unary (place ts) op x, 17))
-  operand_by least (f.Unary op) ts = and_then (expr 16 (behind ts)) (λ x. pure (e.Unary (place ts) op x, 17))
+  operand_by least (f.Step op) ts = and_then (expr levels.unary (behind ts)) (λ x. pure (e.Unary (place ts) op x, levels.unary))
+  operand_by least (f.Unary op) ts = and_then (expr levels.cast (behind ts)) (λ x. pure (e.Unary (place ts) op x, levels.unary))
   operand_by least f.SizeOf ts = size_of (place ts) (behind ts)
   operand_by least f.Nothing ts = Err ts
 
@@ -141,27 +166,23 @@ module _ (s : Scope) (expr : ℕ → Parser Expr) (declarator : Naming → Parse
   unfoldable pub operand : ℕ → Parser (Expr × ℕ)
   operand least ts = operand_by least (prefix_of (kind_at ts)) ts
 
-  -- the name of a member
-  unfoldable pub member : (List ℕ → Expr) → Parser Expr
-  member make ts = if is_name (kind_at ts) then Ok (make (spelling_at s ts), behind ts) else Err ts
-
   -- behind an operator, its left operand and the place of it
   abbrev pub step_by : Infix → ℕ → Expr → Parser Expr
   step_by i.Index at left ts = and_then (whole ts) (λ z. expect p.RightBracket >>= λ _. pure (e.Index at left z))
-  step_by i.Field at left ts = member (e.Field at left) ts
-  step_by i.Arrow at left ts = member (e.Arrow at left) ts
+  step_by i.Field at left ts = and_then (member ts) (λ name. pure (e.Field at left name))
+  step_by i.Arrow at left ts = and_then (member ts) (λ name. pure (e.Arrow at left name))
   step_by (i.Step op) at left ts = Ok (e.Postfix at op left, ts)
   step_by (i.Binary op) at left ts = and_then (expr (suc (level_of op)) ts) (λ z. pure (e.Binary at op left z))
-  step_by i.Conditional at left ts = and_then (whole ts) (λ v. expect p.Colon >>= λ _. expr 4 >>= λ z. pure (e.Conditional at left v z))
-  step_by (i.Assign op) at left ts = and_then (expr 2 ts) (λ z. pure (e.Assign at op left z))
+  step_by i.Conditional at left ts = and_then (whole ts) (λ v. expect p.Colon >>= λ _. expr levels.conditional >>= λ z. pure (e.Conditional at left v z))
+  step_by (i.Assign op) at left ts = and_then (expr levels.assignment ts) (λ z. pure (e.Assign at op left z))
   step_by _ at left ts = Err ts
 
   -- The operators behind an expression of this level, down to the least that is wanted.
   unfoldable pub climb : ℕ → ℕ → ℕ → ℕ → Expr → Parser Expr
   climb at least zero level left ts = Ok (left, ts)
-  climb at least (suc j) level left ts = if nat_lt (binds (infix_of (kind_at ts))) least then Ok (left, ts)
-      else if nat_lt level (demands (infix_of (kind_at ts))) then Err ts
-      else and_then (step_by (infix_of (kind_at ts)) at left (behind ts)) (climb at least j (makes (infix_of (kind_at ts))))
+  climb at least (suc j) level left ts = if nat_lt (binding_level (infix_of (kind_at ts))) least then Ok (left, ts)
+      else if nat_lt level (operand_level (infix_of (kind_at ts))) then Err ts
+      else and_then (step_by (infix_of (kind_at ts)) at left (behind ts)) (climb at least j (result_level (infix_of (kind_at ts))))
 
   abbrev pub tight : ℕ → Parser Expr
   tight least ts = and_then (operand least ts) (λ q r. climb (place ts) least (length r) q.1 q.0 r)
@@ -169,20 +190,13 @@ module _ (s : Scope) (expr : ℕ → Parser Expr) (declarator : Naming → Parse
   -- behind `[`
   unfoldable pub length_of : Declarator → Parser Declarator
   length_of d ts = if is_mark p.RightBracket (kind_at ts) then Ok (with_shape d (h.Array None), behind ts)
-      else and_then (expr 4 ts) (λ x. expect p.RightBracket >>= λ _. pure (with_shape d (h.Array (Some x))))
+      else and_then (expr levels.conditional ts) (λ x. expect p.RightBracket >>= λ _. pure (with_shape d (h.Array (Some x))))
 
   unfoldable pub suffixes : ℕ → Declarator → Parser Declarator
   suffixes zero d ts = Ok (d, ts)
   suffixes (suc j) d ts = if is_mark p.LeftBracket (kind_at ts) then and_then (length_of d (behind ts)) (suffixes j)
       else if is_mark p.LeftParen (kind_at ts) then and_then (parameters (behind ts)) (λ xs. suffixes j (with_shape d (h.Takes (without_void xs))))
       else Ok (d, ts)
-
-  -- where no name stands
-  abbrev pub no_name : Naming → Parser Declarator
-  no_name naming ts = if may_be_nameless naming then Ok (nameless, ts) else Err ts
-
-  abbrev pub core_named : Naming → Parser Declarator
-  core_named naming ts = if takes_name naming (is_type_at s ts) then Ok (record { name = Some (record { at = place ts; name = spelling_at s ts }); shapes = [] }, behind ts) else no_name naming ts
 
   -- behind a star
   unfoldable pub pointer_declarator : Naming → Parser Declarator
@@ -198,7 +212,7 @@ module _ (s : Scope) (expr : ℕ → Parser Expr) (declarator : Naming → Parse
       else if may_be_nameless naming then Ok (nameless, ts) else Err (behind ts)
 
   unfoldable pub core : Naming → Parser Declarator
-  core naming ts = if is_name (kind_at ts) then core_named naming ts
+  core naming ts = if is_name (kind_at ts) then core_name s naming ts
       else if is_mark p.LeftParen (kind_at ts) then core_bracket naming ts
       else no_name naming ts
 
@@ -208,10 +222,10 @@ module _ (s : Scope) (expr : ℕ → Parser Expr) (declarator : Naming → Parse
 
 -- The number bounds how deep the functions go: as many as there are tokens are enough.
 unfoldable mutual
-  pub expr : Scope → ℕ → ℕ → Parser Expr
+  pub expr : TypeNames → ℕ → ℕ → Parser Expr
   expr s zero least ts = Err ts
   expr s (suc n) least ts = tight s (expr s n) (declarator s n) least ts
 
-  pub declarator : Scope → ℕ → Naming → Parser Declarator
+  pub declarator : TypeNames → ℕ → Naming → Parser Declarator
   declarator s zero naming ts = Err ts
   declarator s (suc n) naming ts = shaping s (expr s n) (declarator s n) naming ts

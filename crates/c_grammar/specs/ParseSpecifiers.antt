@@ -8,48 +8,49 @@ use Rattle.c_tree.specs.declared.types.Constant.{Constant}
 use Rattle.c_grammar.specs.declared.classes.Specifier.{Specifier}
 use Rattle.c_grammar.specs.declared.classes.Specifier.TheVariants as c
 use Rattle.c_grammar.specs.declared.shapes.Shape.{Shape}
-use Rattle.c_grammar.specs.declared.shapes.Named.{Named}
+use Rattle.c_grammar.specs.declared.shapes.DeclaredName.{DeclaredName}
 use Rattle.c_grammar.specs.declared.shapes.Naming.{Naming}
 use Rattle.c_grammar.specs.declared.shapes.Naming.TheVariants as nm
 use Rattle.c_grammar.specs.WordSets.{no_words}
-use Rattle.c_grammar.specs.Tokens.{Scope, place, is_mark, is_name, kind_at, spelling_at, behind, is_type_at}
+use Rattle.c_grammar.specs.Levels as levels
+use Rattle.c_grammar.specs.Tokens.{TypeNames, place, is_mark, is_name, kind_at, spelling_at, behind, is_type_at}
 use Rattle.c_grammar.specs.Types.{declaration_of, bare}
 use Rattle.c_grammar.specs.Parser.{Parser, and_then, ◌>>=◌, pure, expect, consts}
 use Rattle.c_grammar.specs.ParseExpr.{specifier_from, tag_type, expr, declarator}
 
 -- a declarator that has a name
-abbrev pub named_by : TypeNode → Option Named → List Shape → Parser Declaration
+abbrev pub named_by : TypeNode → Option DeclaredName → List Shape → Parser Declaration
 named_by ty (Some u) shapes ts = Ok (declaration_of ty u shapes, ts)
 named_by ty None shapes ts = Err ts
 
-unfoldable pub declaration : Scope → ℕ → Naming → TypeNode → Parser Declaration
+unfoldable pub declaration : TypeNames → ℕ → Naming → TypeNode → Parser Declaration
 declaration s n naming ty ts = and_then (declarator s n naming ts) (λ d. named_by ty d.name d.shapes)
 
 -- elements with commas between, and perhaps one before the brace that closes
-unfoldable pub braced_from : {A : Type 0} → Parser A → ℕ → List A → Parser (List A)
-braced_from item zero found ts = Err ts
-braced_from item (suc j) found ts = and_then (item ts) (λ x r.
-    if is_mark p.Comma (kind_at r) then (if is_mark p.RightBrace (kind_at (behind r)) then Ok (found ++ x ∷ [], behind r) else braced_from item j (found ++ x ∷ []) (behind r))
+unfoldable pub braced_list_from : {A : Type 0} → Parser A → ℕ → List A → Parser (List A)
+braced_list_from item zero found ts = Err ts
+braced_list_from item (suc j) found ts = and_then (item ts) (λ x r.
+    if is_mark p.Comma (kind_at r) then (if is_mark p.RightBrace (kind_at (behind r)) then Ok (found ++ x ∷ [], behind r) else braced_list_from item j (found ++ x ∷ []) (behind r))
     else Ok (found ++ x ∷ [], r))
 
-module _ (s : Scope) (n : ℕ) where
+module _ (s : TypeNames) (n : ℕ) where
   abbrev pub constant_value : ℕ → List ℕ → Parser Constant
-  constant_value at name ts = if is_mark p.Assign (kind_at ts) then and_then (expr s n 4 (behind ts)) (λ x. pure (record { at = at; name = name; value = Some x }))
+  constant_value at name ts = if is_mark p.Assign (kind_at ts) then and_then (expr s n levels.conditional (behind ts)) (λ x. pure (record { at = at; name = name; value = Some x }))
       else Ok (record { at = at; name = name; value = None }, ts)
 
   unfoldable pub constant : Parser Constant
-  constant ts = if is_name (kind_at ts) then (if is_type_at s ts then Err ts else constant_value (place ts) (spelling_at s ts) (behind ts)) else Err ts
+  constant ts = if is_name (kind_at ts) then (if is_type_at s ts then Err ts else constant_value (place ts) (spelling_at ts) (behind ts)) else Err ts
 
   -- the declarators of members
-  unfoldable pub declared_from : ℕ → TypeNode → List Declaration → Parser (List Declaration)
-  declared_from zero ty found ts = Err ts
-  declared_from (suc j) ty found ts = and_then (declaration s n nm.Member ty ts) (λ d r.
-      if is_mark p.Comma (kind_at r) then declared_from j (bare ty) (found ++ d ∷ []) (behind r) else Ok (found ++ d ∷ [], r))
+  unfoldable pub declarators_from : ℕ → TypeNode → List Declaration → Parser (List Declaration)
+  declarators_from zero ty found ts = Err ts
+  declarators_from (suc j) ty found ts = and_then (declaration s n nm.Member ty ts) (λ d r.
+      if is_mark p.Comma (kind_at r) then declarators_from j (bare ty) (found ++ d ∷ []) (behind r) else Ok (found ++ d ∷ [], r))
 
   -- over specifiers that are read a level below
   module _ (specifier : Parser TypeNode) where
     unfoldable pub member : Parser (List Declaration)
-    member ts = and_then (specifier ts) (λ ty r. and_then (declared_from (length r) ty [] r) (λ ds. expect p.Semicolon >>= λ _. pure ds))
+    member ts = and_then (specifier ts) (λ ty r. and_then (declarators_from (length r) ty [] r) (λ ds. expect p.Semicolon >>= λ _. pure ds))
 
     -- up to the brace that closes
     unfoldable pub members_from : ℕ → List Declaration → Parser (List Declaration)
@@ -59,7 +60,7 @@ module _ (s : Scope) (n : ℕ) where
     -- behind the brace that opens
     abbrev pub body : Specifier → ℕ → Option (List ℕ) → Parser TypeNode
     body c.Struct at name ts = and_then (members_from (length ts) [] ts) (λ ds. expect p.RightBrace >>= λ _ r. and_then (consts (length r) r) (λ _. pure (y.Struct at name (Some ds))))
-    body _ at name ts = and_then (braced_from constant (length ts) [] ts) (λ xs. expect p.RightBrace >>= λ _ r. and_then (consts (length r) r) (λ _. pure (y.Enum at name (Some xs))))
+    body _ at name ts = and_then (braced_list_from constant (length ts) [] ts) (λ xs. expect p.RightBrace >>= λ _ r. and_then (consts (length r) r) (λ _. pure (y.Enum at name (Some xs))))
 
     unfoldable pub braces : Specifier → ℕ → Option (List ℕ) → Parser TypeNode
     braces word at name ts = and_then (expect p.LeftBrace ts) (λ _. body word at name)
@@ -70,8 +71,8 @@ module _ (s : Scope) (n : ℕ) where
 
     -- behind `struct` or `enum`
     unfoldable pub tag_or_body : Specifier → ℕ → Parser TypeNode
-    tag_or_body word at ts = if is_name (kind_at ts) then behind_tag word (place ts) (spelling_at s ts) (behind ts) else braces word at None ts
+    tag_or_body word at ts = if is_name (kind_at ts) then behind_tag word (place ts) (spelling_at ts) (behind ts) else braces word at None ts
 
-unfoldable pub specifier : Scope → ℕ → Parser TypeNode
+unfoldable pub specifier : TypeNames → ℕ → Parser TypeNode
 specifier s zero ts = Err ts
 specifier s (suc n) ts = specifier_from s (tag_or_body s n (specifier s n)) (length ts) no_words ts

@@ -2,7 +2,7 @@
 use Rattle.std.specs.Prelude.{ℕ, zero, suc, Bool, if◌then◌else◌, ◌||◌, List, [], ◌∷◌, ◌++◌, length, Option, Some, None, Ok, Err}
 use Rattle.c_lexer.specs.declared.token.Keyword.TheVariants as w
 use Rattle.c_lexer.specs.declared.token.Punct.TheVariants as p
-use Rattle.c_lexer.specs.declared.token.Token.{Token}
+use Rattle.c_lexer.specs.Pieces.{Lexeme}
 use Rattle.c_tree.specs.declared.expressions.Expr.{Expr}
 use Rattle.c_tree.specs.declared.types.TypeNode.{TypeNode}
 use Rattle.c_tree.specs.declared.types.Declaration.{Declaration}
@@ -19,26 +19,31 @@ use Rattle.c_grammar.specs.declared.classes.Head.{Head}
 use Rattle.c_grammar.specs.declared.classes.Head.TheVariants as h
 use Rattle.c_grammar.specs.declared.shapes.Naming.TheVariants as nm
 use Rattle.c_grammar.specs.Classes.{head_of}
-use Rattle.c_grammar.specs.Tokens.{Scope, place, is_mark, is_word, kind_at, behind, begins_type}
+use Rattle.c_grammar.specs.Levels as levels
+use Rattle.c_grammar.specs.Tokens.{TypeNames, place, is_mark, is_word, kind_at, behind, begins_type}
 use Rattle.c_grammar.specs.Statements.{locals_of}
 use Rattle.c_grammar.specs.Parser.{Parser, and_then, ◌>>=◌, pure, expect, expect_word}
-use Rattle.c_grammar.specs.ParseExpr.{plain, listed_from, whole, expr, declarator}
+use Rattle.c_grammar.specs.ParseExpr.{plain, list_from, whole, expr, declarator}
 use Rattle.c_grammar.specs.ParseSpecifiers.{declaration}
 
-module _ (s : Scope) (n : ℕ) where
+-- whether the statements under a label end here
+abbrev pub ends_section : List Lexeme → Bool
+ends_section ts = is_mark p.RightBrace (kind_at ts) || (is_word w.Case (kind_at ts) || is_word w.Default (kind_at ts))
+
+module _ (s : TypeNames) (n : ℕ) where
   -- an expression with its commas
   abbrev pub expression : Parser Expr
   expression = whole s (expr s n) (declarator s n)
 
   abbrev pub local_by : Declaration → Parser Local
-  local_by d ts = if is_mark p.Assign (kind_at ts) then and_then (expr s n 2 (behind ts)) (λ x. pure (record { declaration = d; init = Some x }))
+  local_by d ts = if is_mark p.Assign (kind_at ts) then and_then (expr s n levels.assignment (behind ts)) (λ x. pure (record { declaration = d; init = Some x }))
       else Ok (record { declaration = d; init = None }, ts)
 
   unfoldable pub local : TypeNode → Parser Local
   local ty ts = and_then (declaration s n nm.Required ty ts) local_by
 
   unfoldable pub line : Parser (List Local)
-  line ts = and_then (plain s ts) (λ ty r. and_then (listed_from (local ty) (length r) [] r) (λ xs. expect p.Semicolon >>= λ _. pure xs))
+  line ts = and_then (plain s ts) (λ ty r. and_then (list_from (local ty) (length r) [] r) (λ xs. expect p.Semicolon >>= λ _. pure xs))
 
   -- an expression that is missing where this mark stands
   unfoldable pub optional : Punct → Parser (Option Expr)
@@ -55,11 +60,18 @@ module _ (s : Scope) (n : ℕ) where
       else if begins_type s ts then and_then (line ts) (λ xs. pure (f.Locals xs)) else first_value ts
 
   unfoldable pub case_label : ℕ → Parser Label
-  case_label at ts = and_then (expr s n 4 ts) (λ x. expect p.Colon >>= λ _. pure (l.Case at x))
+  case_label at ts = and_then (expr s n levels.conditional ts) (λ x. expect p.Colon >>= λ _. pure (l.Case at x))
 
   unfoldable pub label : Parser Label
   label ts = if is_word w.Case (kind_at ts) then case_label (place ts) (behind ts)
       else and_then (expect_word w.Default ts) (λ _. expect p.Colon >>= λ _. pure (l.Default (place ts)))
+
+  -- behind `return`
+  unfoldable pub return : ℕ → Parser Stmt
+  return at ts = and_then (optional p.Semicolon ts) (λ x. expect p.Semicolon >>= λ _. pure (u.Return at x))
+
+  unfoldable pub value : Parser Stmt
+  value ts = and_then (expression ts) (λ x. expect p.Semicolon >>= λ _. pure (u.Expression x))
 
   -- over statements that are read a level below
   module _ (stmt : Parser Stmt) where
@@ -69,10 +81,6 @@ module _ (s : Scope) (n : ℕ) where
     items_from (suc j) found ts = if is_mark p.RightBrace (kind_at ts) then Ok (found, behind ts)
         else if begins_type s ts then and_then (line ts) (λ xs. items_from j (found ++ locals_of xs))
         else and_then (stmt ts) (λ x. items_from j (found ++ x ∷ []))
-
-    -- whether the statements under a label end here
-    abbrev pub ends_section : List Token → Bool
-    ends_section ts = is_mark p.RightBrace (kind_at ts) || (is_word w.Case (kind_at ts) || is_word w.Default (kind_at ts))
 
     unfoldable pub stmts_from : ℕ → List Stmt → Parser (List Stmt)
     stmts_from zero found ts = Err ts
@@ -89,14 +97,14 @@ module _ (s : Scope) (n : ℕ) where
     unfoldable pub alternative : Expr → Stmt → Parser Stmt
     alternative x v ts = if is_word w.Else (kind_at ts) then and_then (stmt (behind ts)) (λ z. pure (u.If x v (Some z))) else Ok (u.If x v None, ts)
 
-    unfoldable pub choice : Parser Stmt
-    choice ts = and_then (condition ts) (λ x. stmt >>= λ v. alternative x v)
+    unfoldable pub if_else : Parser Stmt
+    if_else ts = and_then (condition ts) (λ x. stmt >>= λ v. alternative x v)
 
     unfoldable pub while : Parser Stmt
     while ts = and_then (condition ts) (λ x. stmt >>= λ v. pure (u.While x v))
 
-    unfoldable pub until : Parser Stmt
-    until ts = and_then (stmt ts) (λ v. expect_word w.While >>= λ _. condition >>= λ x. expect p.Semicolon >>= λ _. pure (u.Do v x))
+    unfoldable pub do_while : Parser Stmt
+    do_while ts = and_then (stmt ts) (λ v. expect_word w.While >>= λ _. condition >>= λ x. expect p.Semicolon >>= λ _. pure (u.Do v x))
 
     unfoldable pub for : Parser Stmt
     for ts = and_then (expect p.LeftParen ts) (λ _. first >>= λ x. optional p.Semicolon >>= λ y. expect p.Semicolon >>= λ _. optional p.RightParen >>= λ z. expect p.RightParen >>= λ _. stmt >>= λ v. pure (u.For x y z v))
@@ -104,18 +112,12 @@ module _ (s : Scope) (n : ℕ) where
     unfoldable pub switch : Parser Stmt
     switch ts = and_then (condition ts) (λ x. expect p.LeftBrace >>= λ _ r. and_then (sections_from (length r) [] r) (λ xs. pure (u.Switch x xs)))
 
-    unfoldable pub return : ℕ → Parser Stmt
-    return at ts = and_then (optional p.Semicolon ts) (λ x. expect p.Semicolon >>= λ _. pure (u.Return at x))
-
-    unfoldable pub value : Parser Stmt
-    value ts = and_then (expression ts) (λ x. expect p.Semicolon >>= λ _. pure (u.Expression x))
-
     abbrev pub stmt_by : Head → Parser Stmt
     stmt_by h.Block ts = and_then (items_from (length (behind ts)) [] (behind ts)) (λ xs. pure (u.Block xs))
     stmt_by h.Empty ts = Ok (u.Empty, behind ts)
-    stmt_by h.If ts = choice (behind ts)
+    stmt_by h.If ts = if_else (behind ts)
     stmt_by h.While ts = while (behind ts)
-    stmt_by h.Do ts = until (behind ts)
+    stmt_by h.Do ts = do_while (behind ts)
     stmt_by h.For ts = for (behind ts)
     stmt_by h.Switch ts = switch (behind ts)
     stmt_by h.Break ts = and_then (expect p.Semicolon (behind ts)) (λ _. pure (u.Break (place ts)))
@@ -123,6 +125,6 @@ module _ (s : Scope) (n : ℕ) where
     stmt_by h.Return ts = return (place ts) (behind ts)
     stmt_by h.Other ts = value ts
 
-unfoldable pub stmt : Scope → ℕ → Parser Stmt
+unfoldable pub stmt : TypeNames → ℕ → Parser Stmt
 stmt s zero ts = Err ts
 stmt s (suc n) ts = stmt_by s (suc n) (stmt s n) (head_of (kind_at ts)) ts

@@ -1,21 +1,21 @@
 -- Functions that read the front of a token list: what they read and the tokens behind it, or the tokens
--- from the refused one on. They look one token ahead, and refuse the first one that no reading goes on with.
+-- from the refused one on. They look one token ahead.
 use Rattle.std.specs.Prelude.{◌≡◌, ℕ, zero, suc, if◌then◌else◌, List, ◌++◌, Result, Ok, Err}
 use Rattle.c_lexer.specs.declared.token.Keyword.TheVariants as w
 use Rattle.c_lexer.specs.declared.token.Keyword.{Keyword}
 use Rattle.c_lexer.specs.declared.token.Punct.{Punct}
-use Rattle.c_lexer.specs.declared.token.Token.{Token}
+use Rattle.c_lexer.specs.Pieces.{Lexeme}
 use Rattle.c_grammar.specs.Tokens.{is_mark, is_word, kind_at, behind}
 
 abbrev pub ParseOutcome : Type 0 → Type 0
-ParseOutcome A = Result (A × List Token) (List Token)
+ParseOutcome A = Result (A × List Lexeme) (List Lexeme)
 
 -- these tokens are the last of those
-abbrev pub IsEnd : List Token → List Token → Type 0
-IsEnd rest ts = (front : List Token) × (ts ≡ front ++ rest)
+abbrev pub IsEnd : List Lexeme → List Lexeme → Type 0
+IsEnd rest ts = (front : List Lexeme) × (ts ≡ front ++ rest)
 
 abbrev pub Parser : Type 0 → Type 0
-Parser A = List Token → ParseOutcome A
+Parser A = List Lexeme → ParseOutcome A
 
 abbrev pub and_then : {A B : Type 0} → ParseOutcome A → (A → Parser B) → ParseOutcome B
 and_then (Ok p) f = f p.0 p.1

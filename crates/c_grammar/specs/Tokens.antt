@@ -1,5 +1,5 @@
--- Tokens in their text, and the names of types so far.
-use Rattle.std.specs.Prelude.{ℕ, Bool, true, false, List, [], ◌∷◌, take, drop, bytes_eq}
+-- Tokens with their spellings, and the names of types so far.
+use Rattle.std.specs.Prelude.{ℕ, Bool, true, false, List, [], ◌∷◌, bytes_eq}
 use Rattle.std.specs.List.{list_any}
 use denote.Enum.Bare.{sameb}
 use Rattle.c_lexer.specs.contracts.token.Keyword as keyword
@@ -8,27 +8,22 @@ use Rattle.c_lexer.specs.declared.token.TokenKind.{TokenKind}
 use Rattle.c_lexer.specs.declared.token.TokenKind.TheVariants as k
 use Rattle.c_lexer.specs.declared.token.Keyword.{Keyword}
 use Rattle.c_lexer.specs.declared.token.Punct.{Punct}
-use Rattle.c_lexer.specs.declared.token.Token.{Token}
+use Rattle.c_lexer.specs.Pieces.{Lexeme}
 use Rattle.c_grammar.specs.Classes.{prefix_of, specifier_of, begins_by, begins_type_by}
 
--- The text that the tokens are of, and the names that `typedef` has made so far.
-pub record Scope : Type 0 where
-  pub text : List ℕ
-  pub types : List (List ℕ)
-
--- the bytes of a token
-unfoldable pub spelling : Scope → Token → List ℕ
-spelling s t = take t.len (drop t.at s.text)
+-- The names that `typedef` has made so far.
+abbrev pub TypeNames : Type 0
+TypeNames = List (List ℕ)
 
 -- whether a name is that of a type
-unfoldable pub is_listed : Scope → List ℕ → Bool
-is_listed s name = list_any (λ x. bytes_eq x name) s.types
+unfoldable pub is_type_name : TypeNames → List ℕ → Bool
+is_type_name s name = list_any (λ x. bytes_eq x name) s
 
-abbrev pub is_type : Scope → Token → Bool
-is_type s t = is_listed s (spelling s t)
+abbrev pub is_type : TypeNames → Lexeme → Bool
+is_type s t = is_type_name s t.spelling
 
 -- where the first of the tokens stands
-abbrev pub place : List Token → ℕ
+abbrev pub place : List Lexeme → ℕ
 place [] = 0
 place (t ∷ ts) = t.at
 
@@ -49,24 +44,24 @@ is_text k.Text = true
 is_text _ = false
 
 -- the kind of the first token, or the end
-abbrev pub kind_at : List Token → TokenKind
+abbrev pub kind_at : List Lexeme → TokenKind
 kind_at [] = k.End
 kind_at (t ∷ ts) = t.kind
 
-abbrev pub spelling_at : Scope → List Token → List ℕ
-spelling_at s [] = []
-spelling_at s (t ∷ ts) = spelling s t
+abbrev pub spelling_at : List Lexeme → List ℕ
+spelling_at [] = []
+spelling_at (t ∷ ts) = t.spelling
 
-abbrev pub behind : List Token → List Token
+abbrev pub behind : List Lexeme → List Lexeme
 behind [] = []
 behind (t ∷ ts) = ts
 
-abbrev pub is_type_at : Scope → List Token → Bool
-is_type_at s ts = is_listed s (spelling_at s ts)
+abbrev pub is_type_at : TypeNames → List Lexeme → Bool
+is_type_at s ts = is_type_name s (spelling_at ts)
 
 -- whether an expression begins here, and whether a type does
-abbrev pub begins : Scope → List Token → Bool
+abbrev pub begins : TypeNames → List Lexeme → Bool
 begins s ts = begins_by (prefix_of (kind_at ts)) (is_type_at s ts)
 
-abbrev pub begins_type : Scope → List Token → Bool
+abbrev pub begins_type : TypeNames → List Lexeme → Bool
 begins_type s ts = begins_type_by (specifier_of (kind_at ts)) (is_type_at s ts)

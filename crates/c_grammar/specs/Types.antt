@@ -9,7 +9,7 @@ use Rattle.c_tree.specs.declared.types.Declaration.{Declaration}
 use Rattle.c_tree.specs.declared.types.Parameter.{Parameter}
 use Rattle.c_grammar.specs.declared.shapes.Shape.{Shape}
 use Rattle.c_grammar.specs.declared.shapes.Shape.TheVariants as h
-use Rattle.c_grammar.specs.declared.shapes.Named.{Named}
+use Rattle.c_grammar.specs.declared.shapes.DeclaredName.{DeclaredName}
 use Rattle.c_grammar.specs.declared.shapes.Declarator.{Declarator}
 use Rattle.c_grammar.specs.declared.shapes.Naming.{Naming}
 use Rattle.c_grammar.specs.declared.shapes.Naming.TheVariants as nm
@@ -22,10 +22,10 @@ with_shape d s = record { name = d.name; shapes = d.shapes ++ s ∷ [] }
 
 -- whether a declarator may have this name, which is one of a type or not
 abbrev pub takes_name : Naming → Bool → Bool
-takes_name nm.Required listed = not listed
-takes_name nm.Member listed = true
-takes_name nm.Optional listed = not listed
-takes_name nm.Refused listed = false
+takes_name nm.Required is_type = not is_type
+takes_name nm.Member is_type = true
+takes_name nm.Optional is_type = not is_type
+takes_name nm.Refused is_type = false
 
 abbrev pub may_be_nameless : Naming → Bool
 may_be_nameless nm.Required = false
@@ -49,11 +49,11 @@ bare (y.Enum' at tag constants) = y.Enum at tag None
 bare (y.Struct' at tag members) = y.Struct at tag None
 bare ty = ty
 
-abbrev pub declaration_of : TypeNode → Named → List Shape → Declaration
+abbrev pub declaration_of : TypeNode → DeclaredName → List Shape → Declaration
 declaration_of ty n shapes = record { at = n.at; name = n.name; ty = with_shapes shapes ty }
 
 -- a parameter at its name, or at the place of its declaration
-abbrev pub parameter_by : ℕ → TypeNode → Option Named → Parameter
+abbrev pub parameter_by : ℕ → TypeNode → Option DeclaredName → Parameter
 parameter_by at ty (Some n) = record { at = n.at; name = Some n.name; ty = ty }
 parameter_by at ty None = record { at = at; name = None; ty = ty }
 

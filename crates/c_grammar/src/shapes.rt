@@ -1,6 +1,14 @@
-//! Declarators, before they meet the type that they stand behind.
+//! Parts of declarations: the start of a specifier, and declarators before they meet their type.
 
-use c_tree::{Expr, Name, Parameter, Seq};
+use crate::Specifier;
+use c_tree::{BasicType, Expr, Name, Parameter, Seq};
+
+/// What a specifier starts with: the basic type that its words spell, or what stands where there are none.
+#[derive(Clone, Copy, Debug, PartialEq, Eq)]
+pub enum SpecifierStart {
+    Basic(BasicType),
+    Other(Specifier),
+}
 
 /// What a declarator makes of the type that it stands behind.
 #[derive(Drop)]
@@ -12,7 +20,7 @@ pub enum Shape {
 
 /// A declared name at its place.
 #[derive(Drop)]
-pub struct Named {
+pub struct DeclaredName {
     pub at: u32,
     pub name: Name,
 }
@@ -20,7 +28,7 @@ pub struct Named {
 /// A declarator: its name, if it has one, and its shapes from the name outwards (C99 6.7.5).
 #[derive(Drop)]
 pub struct Declarator {
-    pub name: Option<Named>,
+    pub name: Option<DeclaredName>,
     pub shapes: Seq<Shape>,
 }
 

@@ -3,9 +3,8 @@
 ghost use Rattle.std.specs.Prelude.{◌≡◌, ◌++◌, [], length, OnOk};
 ghost use Rattle.c_grammar.specs.Types.{bare};
 ghost use Rattle.c_grammar.specs.Statements.{locals_of};
-ghost use Rattle.c_grammar.specs.ParseExpr.{listed_from};
+ghost use Rattle.c_grammar.specs.ParseExpr.{list_from};
 ghost use Rattle.c_grammar.specs.ParseStatements as model;
-ghost use Rattle.c_parser.specs.Blocks.{returned, value, ends_section};
 ghost use Rattle.c_expression_parser.specs.Answers.{Answers};
 
 use c_expression_parser::{SpecifierType, Fault, Scope, Tokens, declaration, expr, plain, whole};
@@ -48,7 +47,7 @@ fn locals(
     base: SpecifierType,
 ) -> Result<Seq<Local>, Fault>
     requires { bare base ≡ base }
-    ensures { Answers (listed_from (model.local scope.now depth base) (length tokens.old) [] tokens.old) result tokens.new }
+    ensures { Answers (list_from (model.local scope.now depth base) (length tokens.old) [] tokens.old) result tokens.new }
 {
     let mut found = Seq::new(alloc);
     for _turn in 0..tokens.left() {
@@ -183,7 +182,7 @@ fn returned(
     depth: usize,
     at: u32,
 ) -> Result<Stmt, Fault>
-    ensures { Answers (returned scope.now depth at tokens.old) result tokens.new }
+    ensures { Answers (model.return scope.now depth at tokens.old) result tokens.new }
 {
     let value = optional(alloc, scope, tokens, depth, Punct::Semicolon)?;
     tokens.expect(Punct::Semicolon)?;
@@ -197,7 +196,7 @@ fn value(
     tokens: &mut Tokens<'_>,
     depth: usize,
 ) -> Result<Stmt, Fault>
-    ensures { Answers (value scope.now depth tokens.old) result tokens.new }
+    ensures { Answers (model.value scope.now depth tokens.old) result tokens.new }
 {
     let found = whole(alloc, scope, tokens, depth)?;
     tokens.expect(Punct::Semicolon)?;
@@ -206,7 +205,7 @@ fn value(
 
 /// Whether the statements under a label end here.
 fn ends_section(tokens: &Tokens<'_>) -> bool
-    ensures { result ≡ ends_section tokens.now }
+    ensures { result ≡ model.ends_section tokens.now }
 {
     tokens.sees(Punct::RightBrace)
         || tokens.sees_word(Keyword::Case)
@@ -346,7 +345,7 @@ fn choice(
     depth: usize,
     inner: usize,
 ) -> Result<Stmt, Fault>
-    ensures { Answers (model.choice scope.now depth (model.stmt scope.now inner) tokens.old) result tokens.new }
+    ensures { Answers (model.if_else scope.now depth (model.stmt scope.now inner) tokens.old) result tokens.new }
 {
     let condition = condition(alloc, scope, tokens, depth)?;
     let then = Box::new(alloc, stmt(alloc, scope, tokens, inner)?)?;
@@ -378,7 +377,7 @@ fn do_loop(
     depth: usize,
     inner: usize,
 ) -> Result<Stmt, Fault>
-    ensures { Answers (model.until scope.now depth (model.stmt scope.now inner) tokens.old) result tokens.new }
+    ensures { Answers (model.do_while scope.now depth (model.stmt scope.now inner) tokens.old) result tokens.new }
 {
     let body = Box::new(alloc, stmt(alloc, scope, tokens, inner)?)?;
     tokens.expect_word(Keyword::While)?;

@@ -1,17 +1,17 @@
 //! Units.
 
 ghost use Rattle.std.specs.Prelude.{◌≡◌, [], length, IfOk};
-ghost use Rattle.c_grammar.specs.ParseSpecifiers.{braced_from};
+ghost use Rattle.c_grammar.specs.ParseSpecifiers.{braced_list_from};
 ghost use Rattle.c_grammar.specs.Types as types;
 ghost use Rattle.c_grammar.specs.ParseUnits as model;
 ghost use Rattle.c_expression_parser.specs.Answers.{Answers, AnswersIn, AnswersUnit};
-ghost use Rattle.c_parser.specs.Objects.{external_of, is_function};
+ghost use Rattle.c_grammar.specs.Units.{external_of, is_function};
 
 use crate::statements::items;
 use c_expression_parser::{
     SpecifierType, Fault, Scope, Tokens, append, declaration, declarator, expr, with_shapes, specifier,
 };
-use c_grammar::{Declarator, Named, Naming, Opening, Shape, opening_of};
+use c_grammar::{Declarator, DeclaredName, Naming, Opening, Shape, opening_of};
 use c_lexer::Punct;
 use c_tree::{Declaration, External, FunctionEnd, Init, Seq, Storage, TypeNode};
 use std::alloc::{AllocError, Global};
@@ -24,7 +24,7 @@ fn inits(
     tokens: &mut Tokens<'_>,
     depth: usize,
 ) -> Result<Seq<Init>, Fault>
-    ensures { Answers (braced_from (model.init scope.now depth) (length tokens.old) [] tokens.old) result tokens.new }
+    ensures { Answers (braced_list_from (model.init scope.now depth) (length tokens.old) [] tokens.old) result tokens.new }
 {
     let mut found = Seq::new(alloc);
     for _turn in 0..tokens.left() {
@@ -109,7 +109,7 @@ fn typedefs(
 #[derive(Drop)]
 struct DeclaratorParts {
     ty: TypeNode,
-    named: Named,
+    named: DeclaredName,
     shapes: Seq<Shape>,
 }
 
@@ -330,7 +330,7 @@ fn stored(
     depth: usize,
     storage: Option<Storage>,
 ) -> Result<Seq<External>, Fault>
-    ensures { AnswersIn (model.stored scope.now depth storage tokens.old) result scope.now tokens.new }
+    ensures { AnswersIn (model.behind_storage scope.now depth storage tokens.old) result scope.now tokens.new }
 {
     let base = specifier(alloc, scope, tokens, depth)?;
     behind_type(alloc, scope, tokens, depth, storage, base)

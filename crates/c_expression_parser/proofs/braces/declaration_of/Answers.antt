@@ -1,41 +1,41 @@
 use Rattle.std.proofs.Common.{rules, arith}
 use Rattle.std.proofs.lemmas.Grind.{common_steps}
-use Rattle.c_grammar.specs.ParseSpecifiers.{declared_from}
+use Rattle.c_grammar.specs.ParseSpecifiers.{declarators_from}
 use Rattle.c_expression_parser.proofs.Turns.{one_more, no_more}
 use Rattle.c_expression_parser.proofs.braces.declaration_of.Goals as goal
 
 pub returns-in_err-bare : goal.returns-in_err-bare
-unfolding declared_from
+unfolding declarators_from
 returns-in_err-bare c =
-    let e = one_more (λ n. declared_from c.args.scope.now c.args.depth n c.loop-turn.ty c.loop-turn.found c.loop-turn.tokens) _ c.loop-turn._turn c.loop-turn-test.true c.loop-turn.invariant in
+    let e = one_more (λ n. declarators_from c.args.scope.now c.args.depth n c.loop-turn.ty c.loop-turn.found c.loop-turn.tokens) _ c.loop-turn._turn c.loop-turn-test.true c.loop-turn.invariant in
     first_of (search rules, grind (arith, common_steps))
 
 pub returns-in_err-declaration : goal.returns-in_err-declaration
-unfolding declared_from
+unfolding declarators_from
 returns-in_err-declaration c =
-    let e = one_more (λ n. declared_from c.args.scope.now c.args.depth n c.loop-turn.ty c.loop-turn.found c.loop-turn.tokens) _ c.loop-turn._turn c.loop-turn-test.true c.loop-turn.invariant in
+    let e = one_more (λ n. declarators_from c.args.scope.now c.args.depth n c.loop-turn.ty c.loop-turn.found c.loop-turn.tokens) _ c.loop-turn._turn c.loop-turn-test.true c.loop-turn.invariant in
     first_of (search rules, grind (arith, common_steps))
 
 pub returns-in_err-push : goal.returns-in_err-push
-unfolding declared_from
+unfolding declarators_from
 returns-in_err-push c =
-    let e = one_more (λ n. declared_from c.args.scope.now c.args.depth n c.loop-turn.ty c.loop-turn.found c.loop-turn.tokens) _ c.loop-turn._turn c.loop-turn-test.true c.loop-turn.invariant in
+    let e = one_more (λ n. declarators_from c.args.scope.now c.args.depth n c.loop-turn.ty c.loop-turn.found c.loop-turn.tokens) _ c.loop-turn._turn c.loop-turn-test.true c.loop-turn.invariant in
     first_of (search rules, grind (arith, common_steps))
 
 pub returns-then-not-sees : goal.returns-then-not-sees
-unfolding declared_from
+unfolding declarators_from
 returns-then-not-sees c =
-    let e = one_more (λ n. declared_from c.args.scope.now c.args.depth n c.loop-turn.ty c.loop-turn.found c.loop-turn.tokens) _ c.loop-turn._turn c.loop-turn-test.true c.loop-turn.invariant in
+    let e = one_more (λ n. declarators_from c.args.scope.now c.args.depth n c.loop-turn.ty c.loop-turn.found c.loop-turn.tokens) _ c.loop-turn._turn c.loop-turn-test.true c.loop-turn.invariant in
     first_of (search rules, grind (arith, common_steps))
 
 pub loop-turn-preserved : goal.loop-turn-preserved
-unfolding declared_from
+unfolding declarators_from
 loop-turn-preserved c =
-    let e = one_more (λ n. declared_from c.args.scope.now c.args.depth n c.loop-turn.ty c.loop-turn.found c.loop-turn.tokens) _ c.loop-turn._turn c.loop-turn-test.true c.loop-turn.invariant in
+    let e = one_more (λ n. declarators_from c.args.scope.now c.args.depth n c.loop-turn.ty c.loop-turn.found c.loop-turn.tokens) _ c.loop-turn._turn c.loop-turn-test.true c.loop-turn.invariant in
     first_of (search rules, grind (arith, common_steps))
 
 pub returns : goal.returns
-unfolding declared_from
+unfolding declarators_from
 returns c =
-    let e = no_more (λ n. declared_from c.args.scope.now c.args.depth n c.loop-turn.ty c.loop-turn.found c.loop-turn.tokens) _ c.loop-turn._turn c.loop-turn-test.false c.loop-turn.invariant in
+    let e = no_more (λ n. declarators_from c.args.scope.now c.args.depth n c.loop-turn.ty c.loop-turn.found c.loop-turn.tokens) _ c.loop-turn._turn c.loop-turn-test.false c.loop-turn.invariant in
     first_of (search rules, grind (arith, common_steps))

@@ -1,6 +1,6 @@
 use Rattle.std.proofs.Common.{rules, arith}
 use Rattle.std.proofs.lemmas.Grind.{common_steps}
-use Rattle.c_grammar.specs.ParseExpr.{listed_from, whole, type_name, parameter, arguments, parameters, named, cast_behind, brackets_behind, size_of_type, size_of_value, operand, member, climb, length_of, suffixes, group_behind, core, pointer_declarator, expr, declarator}
+use Rattle.c_grammar.specs.ParseExpr.{list_from, whole, type_name, parameter, arguments, parameters, named, cast_behind, brackets_behind, size_of_type, size_of_value, operand, member, climb, length_of, suffixes, group_behind, core, pointer_declarator, expr, declarator}
 use Rattle.c_expression_parser.proofs.Operands.{at_size_of}
 use Rattle.c_expression_parser.proofs.Turns.{one_more, no_more, deeper}
 use Rattle.c_expression_parser.proofs.expressions.+expr.Goals as goal
@@ -202,33 +202,33 @@ unfolding length_of
 length_of-returns-then-sees t c = first_of (search rules, grind (arith, common_steps))
 
 pub listed-loop-turn-preserved : goal.listed-loop-turn-preserved
-unfolding listed_from
+unfolding list_from
 listed-loop-turn-preserved t c =
-    let e = one_more (λ n. listed_from (expr c.args.scope.now c.args.depth 2) n c.loop-turn.found c.loop-turn.tokens) _ c.loop-turn._turn c.loop-turn-test.true c.loop-turn.invariant in
+    let e = one_more (λ n. list_from (expr c.args.scope.now c.args.depth 2) n c.loop-turn.found c.loop-turn.tokens) _ c.loop-turn._turn c.loop-turn-test.true c.loop-turn.invariant in
     first_of (search rules, grind (arith, common_steps))
 
 pub listed-returns : goal.listed-returns
-unfolding listed_from
+unfolding list_from
 listed-returns t c =
-    let e = no_more (λ n. listed_from (expr c.args.scope.now c.args.depth 2) n c.loop-turn.found c.loop-turn.tokens) _ c.loop-turn._turn c.loop-turn-test.false c.loop-turn.invariant in
+    let e = no_more (λ n. list_from (expr c.args.scope.now c.args.depth 2) n c.loop-turn.found c.loop-turn.tokens) _ c.loop-turn._turn c.loop-turn-test.false c.loop-turn.invariant in
     first_of (search rules, grind (arith, common_steps))
 
 pub listed-returns-in_err-expr : goal.listed-returns-in_err-expr
-unfolding listed_from
+unfolding list_from
 listed-returns-in_err-expr t c =
-    let e = one_more (λ n. listed_from (expr c.args.scope.now c.args.depth 2) n c.loop-turn.found c.loop-turn.tokens) _ c.loop-turn._turn c.loop-turn-test.true c.loop-turn.invariant in
+    let e = one_more (λ n. list_from (expr c.args.scope.now c.args.depth 2) n c.loop-turn.found c.loop-turn.tokens) _ c.loop-turn._turn c.loop-turn-test.true c.loop-turn.invariant in
     first_of (search rules, grind (arith, common_steps))
 
 pub listed-returns-in_err-push : goal.listed-returns-in_err-push
-unfolding listed_from
+unfolding list_from
 listed-returns-in_err-push t c =
-    let e = one_more (λ n. listed_from (expr c.args.scope.now c.args.depth 2) n c.loop-turn.found c.loop-turn.tokens) _ c.loop-turn._turn c.loop-turn-test.true c.loop-turn.invariant in
+    let e = one_more (λ n. list_from (expr c.args.scope.now c.args.depth 2) n c.loop-turn.found c.loop-turn.tokens) _ c.loop-turn._turn c.loop-turn-test.true c.loop-turn.invariant in
     first_of (search rules, grind (arith, common_steps))
 
 pub listed-returns-then-not-sees : goal.listed-returns-then-not-sees
-unfolding listed_from
+unfolding list_from
 listed-returns-then-not-sees t c =
-    let e = one_more (λ n. listed_from (expr c.args.scope.now c.args.depth 2) n c.loop-turn.found c.loop-turn.tokens) _ c.loop-turn._turn c.loop-turn-test.true c.loop-turn.invariant in
+    let e = one_more (λ n. list_from (expr c.args.scope.now c.args.depth 2) n c.loop-turn.found c.loop-turn.tokens) _ c.loop-turn._turn c.loop-turn-test.true c.loop-turn.invariant in
     first_of (search rules, grind (arith, common_steps))
 
 pub named-returns : goal.named-returns
@@ -276,33 +276,33 @@ unfolding parameters
 parameters-returns-then-sees t c = first_of (search rules, grind (arith, common_steps))
 
 pub parameters_listed-loop-turn-preserved : goal.parameters_listed-loop-turn-preserved
-unfolding listed_from
+unfolding list_from
 parameters_listed-loop-turn-preserved t c =
-    let e = one_more (λ n. listed_from (parameter c.args.scope.now (expr c.args.scope.now c.args.depth) (declarator c.args.scope.now c.args.depth)) n c.loop-turn.found c.loop-turn.tokens) _ c.loop-turn._turn c.loop-turn-test.true c.loop-turn.invariant in
+    let e = one_more (λ n. list_from (parameter c.args.scope.now (expr c.args.scope.now c.args.depth) (declarator c.args.scope.now c.args.depth)) n c.loop-turn.found c.loop-turn.tokens) _ c.loop-turn._turn c.loop-turn-test.true c.loop-turn.invariant in
     first_of (search rules, grind (arith, common_steps))
 
 pub parameters_listed-returns : goal.parameters_listed-returns
-unfolding listed_from
+unfolding list_from
 parameters_listed-returns t c =
-    let e = no_more (λ n. listed_from (parameter c.args.scope.now (expr c.args.scope.now c.args.depth) (declarator c.args.scope.now c.args.depth)) n c.loop-turn.found c.loop-turn.tokens) _ c.loop-turn._turn c.loop-turn-test.false c.loop-turn.invariant in
+    let e = no_more (λ n. list_from (parameter c.args.scope.now (expr c.args.scope.now c.args.depth) (declarator c.args.scope.now c.args.depth)) n c.loop-turn.found c.loop-turn.tokens) _ c.loop-turn._turn c.loop-turn-test.false c.loop-turn.invariant in
     first_of (search rules, grind (arith, common_steps))
 
 pub parameters_listed-returns-in_err-parameter : goal.parameters_listed-returns-in_err-parameter
-unfolding listed_from
+unfolding list_from
 parameters_listed-returns-in_err-parameter t c =
-    let e = one_more (λ n. listed_from (parameter c.args.scope.now (expr c.args.scope.now c.args.depth) (declarator c.args.scope.now c.args.depth)) n c.loop-turn.found c.loop-turn.tokens) _ c.loop-turn._turn c.loop-turn-test.true c.loop-turn.invariant in
+    let e = one_more (λ n. list_from (parameter c.args.scope.now (expr c.args.scope.now c.args.depth) (declarator c.args.scope.now c.args.depth)) n c.loop-turn.found c.loop-turn.tokens) _ c.loop-turn._turn c.loop-turn-test.true c.loop-turn.invariant in
     first_of (search rules, grind (arith, common_steps))
 
 pub parameters_listed-returns-in_err-push : goal.parameters_listed-returns-in_err-push
-unfolding listed_from
+unfolding list_from
 parameters_listed-returns-in_err-push t c =
-    let e = one_more (λ n. listed_from (parameter c.args.scope.now (expr c.args.scope.now c.args.depth) (declarator c.args.scope.now c.args.depth)) n c.loop-turn.found c.loop-turn.tokens) _ c.loop-turn._turn c.loop-turn-test.true c.loop-turn.invariant in
+    let e = one_more (λ n. list_from (parameter c.args.scope.now (expr c.args.scope.now c.args.depth) (declarator c.args.scope.now c.args.depth)) n c.loop-turn.found c.loop-turn.tokens) _ c.loop-turn._turn c.loop-turn-test.true c.loop-turn.invariant in
     first_of (search rules, grind (arith, common_steps))
 
 pub parameters_listed-returns-then-not-sees : goal.parameters_listed-returns-then-not-sees
-unfolding listed_from
+unfolding list_from
 parameters_listed-returns-then-not-sees t c =
-    let e = one_more (λ n. listed_from (parameter c.args.scope.now (expr c.args.scope.now c.args.depth) (declarator c.args.scope.now c.args.depth)) n c.loop-turn.found c.loop-turn.tokens) _ c.loop-turn._turn c.loop-turn-test.true c.loop-turn.invariant in
+    let e = one_more (λ n. list_from (parameter c.args.scope.now (expr c.args.scope.now c.args.depth) (declarator c.args.scope.now c.args.depth)) n c.loop-turn.found c.loop-turn.tokens) _ c.loop-turn._turn c.loop-turn-test.true c.loop-turn.invariant in
     first_of (search rules, grind (arith, common_steps))
 
 pub size_of-returns-else-sees : goal.size_of-returns-else-sees

@@ -1,6 +1,6 @@
 use Rattle.std.proofs.Common.{rules, arith}
 use Rattle.std.proofs.lemmas.Grind.{common_steps}
-use Rattle.c_expression_parser.specs.Words.{words_from}
+use Rattle.c_grammar.specs.ParseExpr.{words_from}
 use Rattle.c_expression_parser.proofs.Turns.{one_more, no_more}
 use Rattle.c_expression_parser.proofs.specifiers.read_words.Goals as goal
 

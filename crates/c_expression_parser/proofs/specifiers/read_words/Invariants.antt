@@ -1,5 +1,5 @@
 use Rattle.std.proofs.Common.{◌≡◌, length, ◌-◌}
-use Rattle.c_expression_parser.specs.Words.{words_from}
+use Rattle.c_grammar.specs.ParseExpr.{words_from}
 use Rattle.c_grammar.specs.WordSets.{no_words}
 use Rattle.c_expression_parser.proofs.specifiers.read_words.Given as goal
 

@@ -1,8 +1,8 @@
 use Rattle.std.proofs.Common.{◌∙◌, ap, List, ℕ, bytes_eq}
 use Rattle.std.specs.List.{list_any}
-use Rattle.c_grammar.specs.Tokens.{is_listed}
-use Rattle.c_expression_parser.proofs.scope.Scope.is_listed.Goals as goal
+use Rattle.c_grammar.specs.Tokens.{is_type_name}
+use Rattle.c_expression_parser.proofs.scope.Scope.is_type_name.Goals as goal
 
 pub returns : goal.returns
-unfolding is_listed
+unfolding is_type_name
 returns c = c.contains.ensures ∙ ap (λ s. list_any (λ (x : List ℕ). bytes_eq x c.args.name.now) s.types) c.self.view_is
