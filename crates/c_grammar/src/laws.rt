@@ -1,30 +1,30 @@
 //! The laws of the grammar, on functions that do nothing.
 
 ghost use Rattle.std.specs.Prelude.{◌≡◌, ◌≤◌, ◌*◌, List, ℕ, length};
-ghost use Rattle.c_lexer.specs.Pieces.{Lexeme};
+ghost use Rattle.c_lexer.specs.Pieces.{Lexeme, Toks};
 ghost use Rattle.c_tree.specs.declared.declarations.TranslationUnit.{TranslationUnit};
 ghost use Rattle.c_tree.specs.Nodes.{unit_nodes};
 ghost use Rattle.c_grammar.specs.Units.{Reads};
 ghost use Rattle.c_grammar.specs.Parser.{IsEnd};
 ghost use Rattle.c_grammar.specs.ParseUnits.{unit};
 
-/// A token list has at most one reading.
+/// A list of tokens has at most one reading.
 pub fn one_reading()
-    ensures { (text : List ℕ) (tokens : List Lexeme) (x y : TranslationUnit) → Reads text tokens x → Reads text tokens y → x ≡ y }
+    ensures { (toks : Toks) (x y : TranslationUnit) → Reads toks x → Reads toks y → x ≡ y }
 {}
 
 /// The function `unit` of lists, which looks one token ahead, gives exactly the readings of the grammar.
 pub fn unit_is_exact()
-    ensures complete { (text : List ℕ) (tokens : List Lexeme) (x : TranslationUnit) → Reads text tokens x → unit text tokens ≡ Ok x }
-    ensures sound { (text : List ℕ) (tokens : List Lexeme) (x : TranslationUnit) → unit text tokens ≡ Ok x → Reads text tokens x }
+    ensures complete { (toks : Toks) (x : TranslationUnit) → Reads toks x → unit toks ≡ Ok x }
+    ensures sound { (toks : Toks) (x : TranslationUnit) → unit toks ≡ Ok x → Reads toks x }
 {}
 
 /// The tree of a reading has at most two nodes for each token.
 pub fn nodes_are_few()
-    ensures { (text : List ℕ) (tokens : List Lexeme) (x : TranslationUnit) → Reads text tokens x → unit_nodes x ≤ 2 * length tokens }
+    ensures { (toks : Toks) (x : TranslationUnit) → Reads toks x → unit_nodes x ≤ 2 * length toks.items }
 {}
 
 /// What the function `unit` refuses are the last of the tokens, from the refused one on.
 pub fn refused_tokens_are_the_last()
-    ensures { (text : List ℕ) (tokens rest : List Lexeme) → unit text tokens ≡ Err rest → IsEnd rest tokens }
+    ensures { (toks : Toks) (rest : List Lexeme) → unit toks ≡ Err rest → IsEnd rest toks.items }
 {}
