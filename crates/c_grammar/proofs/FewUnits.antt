@@ -1,6 +1,6 @@
 -- The same of specifiers, statements and units.
-use Rattle.std.proofs.Common.{◌≡◌, ℕ, suc, ◌+◌, ◌*◌, ◌≤◌, List, [], ◌∷◌, ◌++◌, length, Option, Some, None, refl, ap, ◌∙◌, length-append, arith}
-use Rattle.c_lexer.specs.Pieces.{Lexeme}
+use Rattle.std.proofs.Common.{◌≡◌, ℕ, Bool, true, false, suc, ◌+◌, ◌*◌, ◌≤◌, List, [], ◌∷◌, ◌++◌, length, Option, Some, None, refl, ap, ◌∙◌, length-append, arith}
+use Rattle.c_lexer.specs.Pieces.{Lexeme, Toks}
 use Rattle.c_tree.specs.declared.expressions.Expr.{Expr}
 use Rattle.c_tree.specs.declared.types.TypeNode.{TypeNode}
 use Rattle.c_tree.specs.declared.types.TypeNode as y
@@ -26,7 +26,7 @@ use Rattle.c_grammar.specs.Types.{bare, declaration_of}
 use Rattle.c_grammar.specs.Grammar.{IsPlain}
 use Rattle.c_grammar.specs.Specifiers.{IsDeclared, AreDeclared, IsConstant, AreConstants, IsSpecifier, AreMembers, IsMember}
 use Rattle.c_grammar.specs.Statements.{IsLocal, AreLocals, IsLine, IsOptional, IsFirst, IsLabel, locals_of, IsStmt, AreItems, AreSections, AreStmts}
-use Rattle.c_grammar.specs.Units.{IsInit, AreInits, external_by, IsObject, AreObjects, AreTypedefs, IsExternal, AreExternals, Reads}
+use Rattle.c_grammar.specs.Units.{IsInit, AreInits, is_function, external_of, IsObject, AreObjects, AreTypedefs, IsExternal, AreExternals, Reads}
 use Rattle.c_grammar.proofs.ReadPlain.{plain_begins}
 use Rattle.c_grammar.proofs.Few.{shaped_count, plain_count, expr_few, whole_few, declarator_few}
 
@@ -157,16 +157,14 @@ mutual
   inits_few s (AreInits.last a t v h kind) = let c = init_few s h in omega (arith, length-append a (t ∷ []))
   inits_few s (AreInits.more a t b v vs h kind g) = let c = init_few s h in let o = inits_few s g in omega (arith, length-append a (t ∷ b))
 
-external_count : (shapes : List Shape) (d : Declaration) (storage : Option Storage) (v : Option Init) → node_count (external_node (external_of (is_function shapes) d storage v)) ≡ suc (type_count d.ty + nodes_count (optional_init v))
-external_count [] d storage v = refl
-external_count (sh.Pointer ∷ shapes) d storage v = refl
-external_count (sh.Array length ∷ shapes) d storage v = refl
-external_count (sh.Takes ps ∷ shapes) d storage None = refl
-external_count (sh.Takes ps ∷ shapes) d storage (Some v) = refl
+external_count : (takes : Bool) (d : Declaration) (storage : Option Storage) (v : Option Init) → node_count (external_node (external_of takes d storage v)) ≡ suc (type_count d.ty + nodes_count (optional_init v))
+external_count false d storage v = refl
+external_count true d storage None = refl
+external_count true d storage (Some v) = refl
 
 object_few : (s : TypeNames) (storage : Option Storage) {ty : TypeNode} {a : List Lexeme} {v : External} → IsObject s storage ty a v → node_count (external_node v) + 1 ≤ 2 * length a + type_count ty
-object_few s storage {ty} (IsObject.plain a v shapes h) = let c = declarator_few s h in let o = shaped_count shapes ty in let e = external_count shapes (declaration_of ty v shapes) storage None in omega arith
-object_few s storage {ty} (IsObject.with_init a t b v shapes z h kind g) = let c = declarator_few s h in let o = shaped_count shapes ty in let d = init_few s g in let e = external_count shapes (declaration_of ty v shapes) storage (Some z) in omega (arith, length-append a (t ∷ b))
+object_few s storage {ty} (IsObject.plain a v shapes h) = let c = declarator_few s h in let o = shaped_count shapes ty in let e = external_count (is_function shapes) (declaration_of ty v shapes) storage None in omega arith
+object_few s storage {ty} (IsObject.with_init a t b v shapes z h kind g) = let c = declarator_few s h in let o = shaped_count shapes ty in let d = init_few s g in let e = external_count (is_function shapes) (declaration_of ty v shapes) storage (Some z) in omega (arith, length-append a (t ∷ b))
 
 objects_few : (s : TypeNames) (storage : Option Storage) {ty : TypeNode} {a : List Lexeme} {vs : List External} → Lone ty → AreObjects s storage ty a vs → list_count external_node vs ≤ 2 * length a + type_count ty
 objects_few s storage l (AreObjects.one a v h) = let c = object_few s storage h in omega arith
@@ -188,5 +186,5 @@ externals_few AreExternals.none = omega arith
 externals_few (AreExternals.more a b vs us z h g) = let c = external_few h in let o = externals_few g in let e = list_count-append external_node vs us in omega (arith, length-append a b)
 
 -- The tree of a reading has at most two nodes for each token.
-pub unit_few : (text : List ℕ) (tokens : List Lexeme) (tree : TranslationUnit) → Reads text tokens tree → unit_nodes tree ≤ 2 * length tokens
-unit_few text tokens tree h = externals_few h.externals
+pub unit_few : (toks : Toks) (tree : TranslationUnit) → Reads toks tree → unit_nodes tree ≤ 2 * length toks.items
+unit_few toks tree h = externals_few h.externals

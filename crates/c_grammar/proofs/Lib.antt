@@ -1,5 +1,6 @@
 pub mod Outcomes
 pub mod Facts
+pub mod Words
 pub mod ReadPlain
 pub mod Reach
 pub mod First

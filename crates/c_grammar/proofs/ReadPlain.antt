@@ -14,8 +14,9 @@ use Rattle.c_grammar.specs.WordSets.{no_words, basic_of}
 use Rattle.c_grammar.specs.Tokens.{TypeNames, is_type, is_word, kind_at, begins_type}
 use Rattle.c_grammar.specs.Grammar.{AreConsts, AreWords, IsPlain}
 use Rattle.c_grammar.specs.Parser.{Parser, consts}
-use Rattle.c_grammar.specs.ParseExpr.{settle, word_by, named_type, tag_type, tag, specifier_by, specifier_from, plain}
+use Rattle.c_grammar.specs.ParseExpr.{start_of, word_or_end, words_from, named_type, tag_type, tag, specifier_behind, specifier_from, plain}
 use Rattle.c_grammar.proofs.Outcomes.{no_true, fails, word_is, is_word_of}
+use Rattle.c_grammar.proofs.Words.{behind_words, turn}
 
 -- no specifier goes on at such a token
 abbrev pub ends_by : Specifier → Bool
@@ -44,35 +45,35 @@ no_some : {X : Type 0} {b : BasicType} → ◌≡◌ {A = Option BasicType} None
 no_some e = cc
 
 module _ (s : TypeNames) (on : Specifier → ℕ → Parser TypeNode) where
-  settled : (go : WordSet → Parser TypeNode) (x : WordSet) (b : BasicType) (class : Specifier) (r : List Lexeme) → ends_by class ≡ true → basic_of x ≡ Some b → specifier_by s on go x class r ≡ Ok (y.Basic b, r)
-  settled go x b c.Name r h e = ap (λ o. settle o (named_type s) r) e
-  settled go x b c.Nothing r h e = ap (λ o. settle o (λ r. Err r) r) e
-  settled go x b c.Const r h e = no_true h
-  settled go x b (c.Word word) r h e = no_true h
-  settled go x b c.Struct r h e = no_true h
-  settled go x b c.Enum r h e = no_true h
+  words_end : (j : ℕ) (x : WordSet) (b : BasicType) (class : Specifier) (r : List Lexeme) → ends_by class ≡ true → basic_of x ≡ Some b → turn s on j x class r ≡ Ok (y.Basic b, r)
+  words_end j x b c.Name r h e = ap (λ o. specifier_behind s on (start_of o c.Name) r) e
+  words_end j x b c.Nothing r h e = ap (λ o. specifier_behind s on (start_of o c.Nothing) r) e
+  words_end j x b c.Const r h e = no_true h
+  words_end j x b (c.Word word) r h e = no_true h
+  words_end j x b c.Struct r h e = no_true h
+  words_end j x b c.Enum r h e = no_true h
 
   pub words_read : {x z : WordSet} {a : List Lexeme} → AreWords x a z → (j : ℕ) (r : List Lexeme) (b : BasicType) → length (a ++ r) ≤ j → Stops r → basic_of z ≡ Some b → specifier_from s on j x (a ++ r) ≡ Ok (y.Basic b, r)
-  unfolding specifier_from
-  words_read AreWords.none zero r b le h e = ap (λ o. settle o (λ r. Err r) r) e
-  words_read (AreWords.none {x = x}) (suc j) r b le h e = settled (specifier_from s on j) x b (specifier_of (kind_at r)) r h e
+  unfolding specifier_from words_from
+  words_read AreWords.none zero r b le h e = ap (λ o. specifier_behind s on (start_of o c.Nothing) r) e
+  words_read (AreWords.none {x = x}) (suc j) r b le h e = words_end j x b (specifier_of (kind_at r)) r h e
   words_read (AreWords.const t a z kind g) zero r b le h e = absurd (omega arith)
   words_read (AreWords.const {x = x} t a z kind g) (suc j) r b le h e =
-      ap (λ kd. specifier_by s on (specifier_from s on j) x (specifier_of kd) (t ∷ a ++ r)) kind ∙ words_read g j r b (omega arith) h e
+      ap (λ kd. turn s on j x (specifier_of kd) (t ∷ a ++ r)) kind ∙ words_read g j r b (omega arith) h e
   words_read (AreWords.more t word a v z class fits g) zero r b le h e = absurd (omega arith)
   words_read (AreWords.more {x = x} t word a v z class fits g) (suc j) r b le h e =
-      ap (λ cl. specifier_by s on (specifier_from s on j) x cl (t ∷ a ++ r)) class ∙ ap (λ o. word_by o (specifier_from s on j) x (t ∷ a ++ r)) fits ∙ words_read g j r b (omega arith) h e
+      ap (λ cl. turn s on j x cl (t ∷ a ++ r)) class ∙ ap (λ o. behind_words s on (word_or_end o (λ v. words_from j v (a ++ r)) (start_of (basic_of x) (c.Word word), t ∷ a ++ r))) fits ∙ words_read g j r b (omega arith) h e
 
   -- past leading `const`
   pub lead : (x : WordSet) {a : List Lexeme} → AreConsts a → (j : ℕ) (t : Lexeme) (r : List Lexeme) → length (a ++ t ∷ r) ≤ j
-      → (i : ℕ) × (specifier_from s on j x (a ++ t ∷ r) ≡ specifier_by s on (specifier_from s on i) x (specifier_of t.kind) (t ∷ r))
-  unfolding specifier_from
+      → (i : ℕ) × (specifier_from s on j x (a ++ t ∷ r) ≡ turn s on i x (specifier_of t.kind) (t ∷ r))
+  unfolding specifier_from words_from
   lead x AreConsts.none zero t r le = absurd (omega arith)
   lead x AreConsts.none (suc j) t r le = (j, refl)
   lead x (AreConsts.more u a kind g) zero t r le = absurd (omega arith)
   lead x (AreConsts.more u a kind g) (suc j) t r le =
       let h = lead x g j t r (omega arith) in
-      (h.0, ap (λ kd. specifier_by s on (specifier_from s on j) x (specifier_of kd) (u ∷ a ++ t ∷ r)) kind ∙ h.1)
+      (h.0, ap (λ kd. turn s on j x (specifier_of kd) (u ∷ a ++ t ∷ r)) kind ∙ h.1)
 
   pub named_read : (a : List Lexeme) (t : Lexeme) (b : List Lexeme) → AreConsts a → t.kind ≡ k.Name → is_type s t ≡ true → AreConsts b → (j : ℕ) (r : List Lexeme) → length ((a ++ t ∷ b) ++ r) ≤ j → Stops r
       → specifier_from s on j no_words ((a ++ t ∷ b) ++ r) ≡ Ok (y.Named t.spelling, r)
@@ -81,29 +82,29 @@ module _ (s : TypeNames) (on : Specifier → ℕ → Parser TypeNode) where
       let q = append_assoc a (t ∷ b) r in
       let l = lead no_words h j t (b ++ r) (subst (λ z. length z ≤ j) q le) in
       let e = consts_all g r (no_const r stop) in
-      ap (specifier_from s on j no_words) q ∙ l.1 ∙ ap (λ kd. specifier_by s on (specifier_from s on l.0) no_words (specifier_of kd) (t ∷ b ++ r)) kind ∙ rw (listed, e) refl
+      ap (specifier_from s on j no_words) q ∙ l.1 ∙ ap (λ kd. turn s on l.0 no_words (specifier_of kd) (t ∷ b ++ r)) kind ∙ rw (listed, e) refl
 
   pub word_read : (a : List Lexeme) (t : Lexeme) (b : List Lexeme) (class : Specifier) → AreConsts a → specifier_of t.kind ≡ class → (j : ℕ) (r : List Lexeme) → length ((a ++ t ∷ b) ++ r) ≤ j
-      → (i : ℕ) × (specifier_from s on j no_words ((a ++ t ∷ b) ++ r) ≡ specifier_by s on (specifier_from s on i) no_words class (t ∷ b ++ r))
+      → (i : ℕ) × (specifier_from s on j no_words ((a ++ t ∷ b) ++ r) ≡ turn s on i no_words class (t ∷ b ++ r))
   word_read a t b class h kind j r le =
       let q = append_assoc a (t ∷ b) r in
       let l = lead no_words h j t (b ++ r) (subst (λ z. length z ≤ j) q le) in
-      (l.0, ap (specifier_from s on j no_words) q ∙ l.1 ∙ ap (λ cl. specifier_by s on (specifier_from s on l.0) no_words cl (t ∷ b ++ r)) kind)
+      (l.0, ap (specifier_from s on j no_words) q ∙ l.1 ∙ ap (λ cl. turn s on l.0 no_words cl (t ∷ b ++ r)) kind)
 
-pub tag_read : (s : TypeNames) (class : Specifier) (u : Lexeme) (b r : List Lexeme) → u.kind ≡ k.Name → AreConsts b → is_word w.Const (kind_at r) ≡ false → tag s class (u ∷ b ++ r) ≡ Ok (tag_type class u.at u.spelling, r)
+pub tag_read : (class : Specifier) (u : Lexeme) (b r : List Lexeme) → u.kind ≡ k.Name → AreConsts b → is_word w.Const (kind_at r) ≡ false → tag class (u ∷ b ++ r) ≡ Ok (tag_type class u.at u.spelling, r)
 unfolding tag
-tag_read s class u b r kind h next = let e = consts_all h r next in rw (kind, e) refl
+tag_read class u b r kind h next = let e = consts_all h r next in rw (kind, e) refl
 
 pub plain_read : (s : TypeNames) {a : List Lexeme} {ty : TypeNode} → IsPlain s a ty → (r : List Lexeme) → Stops r → plain s (a ++ r) ≡ Ok (ty, r)
 unfolding plain
-plain_read s (IsPlain.words a x b h e) r stop = words_read s (λ word at. tag s word) h (length (a ++ r)) r b (omega arith) stop e
-plain_read s (IsPlain.type_name a t b h kind listed g) r stop = named_read s (λ word at. tag s word) a t b h kind listed g (length ((a ++ t ∷ b) ++ r)) r (omega arith) stop
+plain_read s (IsPlain.words a x b h e) r stop = words_read s (λ word at. tag word) h (length (a ++ r)) r b (omega arith) stop e
+plain_read s (IsPlain.type_name a t b h kind listed g) r stop = named_read s (λ word at. tag word) a t b h kind listed g (length ((a ++ t ∷ b) ++ r)) r (omega arith) stop
 plain_read s (IsPlain.struct a t n b h kind nk g) r stop =
-    let l = word_read s (λ word at. tag s word) a t (n ∷ b) c.Struct h (ap specifier_of kind) (length ((a ++ t ∷ n ∷ b) ++ r)) r (omega arith) in
-    l.1 ∙ tag_read s c.Struct n b r nk g (no_const r stop)
+    let l = word_read s (λ word at. tag word) a t (n ∷ b) c.Struct h (ap specifier_of kind) (length ((a ++ t ∷ n ∷ b) ++ r)) r (omega arith) in
+    l.1 ∙ tag_read c.Struct n b r nk g (no_const r stop)
 plain_read s (IsPlain.enum a t n b h kind nk g) r stop =
-    let l = word_read s (λ word at. tag s word) a t (n ∷ b) c.Enum h (ap specifier_of kind) (length ((a ++ t ∷ n ∷ b) ++ r)) r (omega arith) in
-    l.1 ∙ tag_read s c.Enum n b r nk g (no_const r stop)
+    let l = word_read s (λ word at. tag word) a t (n ∷ b) c.Enum h (ap specifier_of kind) (length ((a ++ t ∷ n ∷ b) ++ r)) r (omega arith) in
+    l.1 ∙ tag_read c.Enum n b r nk g (no_const r stop)
 
 -- ---- what a specifier begins with
 

@@ -22,10 +22,11 @@ use Rattle.c_grammar.specs.Types.{may_be_nameless}
 use Rattle.c_grammar.specs.Grammar.{AreConsts, IsPlain, IsDeclarator}
 use Rattle.c_grammar.specs.Specifiers.{IsTag, IsDeclared, AreDeclared, IsConstant, AreConstants, IsSpecifier, AreMembers, IsMember}
 use Rattle.c_grammar.specs.Parser.{Parser}
-use Rattle.c_grammar.specs.ParseExpr.{tag_type, specifier_by, specifier_from}
+use Rattle.c_grammar.specs.ParseExpr.{tag_type}
 use Rattle.c_grammar.specs.ParseSpecifiers.{declaration, braced_list_from, constant, declarators_from, member, members_from, body, braces, tag_or_body, specifier}
 use Rattle.c_grammar.proofs.Outcomes.{no_true, is_mark_of, expect_at}
 use Rattle.c_grammar.proofs.Facts.{infix_at, weak, type_no_mark}
+use Rattle.c_grammar.proofs.Words.{turn}
 use Rattle.c_grammar.proofs.ReadPlain.{Stops, ends_by, no_const, consts_all, words_read, named_read, word_read, BeginsType, consts_begin, plain_begins}
 use Rattle.c_grammar.proofs.RulesExpr.{EndsKind}
 use Rattle.c_grammar.proofs.ReadExpr.{read_expr, read_declarator}
@@ -232,7 +233,7 @@ module _ (s : TypeNames) where
 
   braced_spec : (class : Specifier) (ty : TypeNode) (a : List Lexeme) (t : Lexeme) (b : List Lexeme) (l : Lexeme) (e : List Lexeme) (r : Lexeme) (d : List Lexeme) (at : ℕ) (name : Option (List ℕ))
       → AreConsts a → specifier_of t.kind ≡ class → IsTag t b at name → l.kind ≡ k.Mark p.LeftBrace
-      → ((on : Specifier → ℕ → Parser TypeNode) (go : WordSet → Parser TypeNode) (r : List Lexeme) → specifier_by s on go no_words class (t ∷ r) ≡ on class t.at r)
+      → ((on : Specifier → ℕ → Parser TypeNode) (j : ℕ) (r : List Lexeme) → turn s on j no_words class (t ∷ r) ≡ on class t.at r)
       → ((n : ℕ) (u : List Lexeme) → length (e ++ (r ∷ d ++ u)) < n → Follows u → body s n (specifier s n) class at name (e ++ (r ∷ d ++ u)) ≡ Ok (ty, u))
       → ReadsSpec s (a ++ (t ∷ b ++ (l ∷ e ++ r ∷ d))) ty
   unfolding specifier
@@ -242,7 +243,7 @@ module _ (s : TypeNames) where
       let k' = word_read s (tag_or_body s n (specifier s n)) a t (b ++ (l ∷ e ++ r ∷ d)) class c kind (length ((a ++ (t ∷ b ++ (l ∷ e ++ r ∷ d))) ++ u)) u (omega arith) in
       let inner : (b ++ (l ∷ e ++ r ∷ d)) ++ u ≡ b ++ (l ∷ (e ++ (r ∷ d ++ u))) = append_assoc b (l ∷ e ++ r ∷ d) u ∙ ap (λ z. b ++ (l ∷ z)) (append_assoc e (r ∷ d) u) in
       let all : length (a ++ (t ∷ (b ++ (l ∷ (e ++ (r ∷ d ++ u)))))) ≤ suc n = subst (λ z. length z ≤ suc n) q len in
-      k'.1 ∙ on (tag_or_body s n (specifier s n)) (specifier_from s (tag_or_body s n (specifier s n)) k'.0) ((b ++ (l ∷ e ++ r ∷ d)) ++ u) ∙ ap (tag_or_body s n (specifier s n) class t.at) inner ∙ tag_braces n class t g l (e ++ (r ∷ d ++ u)) lk
+      k'.1 ∙ on (tag_or_body s n (specifier s n)) k'.0 ((b ++ (l ∷ e ++ r ∷ d)) ++ u) ∙ ap (tag_or_body s n (specifier s n) class t.at) inner ∙ tag_braces n class t g l (e ++ (r ∷ d ++ u)) lk
       ∙ h n u (omega (arith, length-append a (t ∷ (b ++ (l ∷ (e ++ (r ∷ d ++ u))))), length-append b (l ∷ (e ++ (r ∷ d ++ u))))) next
 
   spec_begins : {a : List Lexeme} {ty : TypeNode} → IsSpecifier s a ty → BeginsType s a
@@ -289,8 +290,8 @@ module _ (s : TypeNames) where
   mutual
     pub read_specifier : {a : List Lexeme} {ty : TypeNode} → IsSpecifier s a ty → ReadsSpec s a ty
     read_specifier (IsSpecifier.plain a ty h) = plain_spec h
-    read_specifier (IsSpecifier.struct a t b l e r d at name ds h kind g lk o rk v) = braced_spec c.Struct (y.Struct at name (Some ds)) a t b l e r d at name h (ap specifier_of kind) g lk (λ on go r. refl) (λ n u len next. struct_body n at name e r d u ds (read_members o) rk v len next)
-    read_specifier (IsSpecifier.enum a t b l e r d at name xs h kind g lk o rk v) = braced_spec c.Enum (y.Enum at name (Some xs)) a t b l e r d at name h (ap specifier_of kind) g lk (λ on go r. refl) (λ n u len next. enum_body n at name e r d u xs o rk v (omega arith) next)
+    read_specifier (IsSpecifier.struct a t b l e r d at name ds h kind g lk o rk v) = braced_spec c.Struct (y.Struct at name (Some ds)) a t b l e r d at name h (ap specifier_of kind) g lk (λ on j r. refl) (λ n u len next. struct_body n at name e r d u ds (read_members o) rk v len next)
+    read_specifier (IsSpecifier.enum a t b l e r d at name xs h kind g lk o rk v) = braced_spec c.Enum (y.Enum at name (Some xs)) a t b l e r d at name h (ap specifier_of kind) g lk (λ on j r. refl) (λ n u len next. enum_body n at name e r d u xs o rk v (omega arith) next)
 
     read_members : {a : List Lexeme} {ds : List Declaration} → AreMembers s a ds → ReadsMembers s a ds
     read_members (AreMembers.one a ds h) = one_member a ds (member_begins h).0 (read_member h)

@@ -210,6 +210,6 @@ module _ (s : TypeNames) where
       let d = expect_at r z p.Colon rk in
       rw (o, e, d) refl
 
-  pub label_word : {a : List Lexeme} {v : Label} → IsLabel s a v → (0 < length a) × ((r : List Lexeme) → (is_mark p.RightBrace (kind_at (a ++ r)) ≡ false) × (ends_section s zero (stmt s zero) (a ++ r) ≡ true) × (is_word w.Else (kind_at (a ++ r)) ≡ false))
+  pub label_word : {a : List Lexeme} {v : Label} → IsLabel s a v → (0 < length a) × ((r : List Lexeme) → (is_mark p.RightBrace (kind_at (a ++ r)) ≡ false) × (ends_section (a ++ r) ≡ true) × (is_word w.Else (kind_at (a ++ r)) ≡ false))
   label_word (IsLabel.«case» t a r v kind h rk) = (omega arith, λ z. (ap (is_mark p.RightBrace) kind, ap (λ kd. is_mark p.RightBrace kd || (is_word w.Case kd || is_word w.Default kd)) kind, ap (is_word w.Else) kind))
   label_word (IsLabel.«default» t r kind rk) = (omega arith, λ z. (ap (is_mark p.RightBrace) kind, ap (λ kd. is_mark p.RightBrace kd || (is_word w.Case kd || is_word w.Default kd)) kind, ap (is_word w.Else) kind))

@@ -4,7 +4,7 @@ use Rattle.c_lexer.specs.declared.token.TokenKind.{TokenKind}
 use Rattle.c_lexer.specs.declared.token.TokenKind.TheVariants as k
 use Rattle.c_lexer.specs.declared.token.Keyword.TheVariants as w
 use Rattle.c_lexer.specs.declared.token.Punct.TheVariants as p
-use Rattle.c_lexer.specs.Pieces.{Lexeme}
+use Rattle.c_lexer.specs.Pieces.{Lexeme, Toks}
 use Rattle.c_tree.specs.declared.expressions.Expr.{Expr}
 use Rattle.c_tree.specs.declared.types.TypeNode.{TypeNode}
 use Rattle.c_tree.specs.declared.types.Declaration.{Declaration}
@@ -26,10 +26,10 @@ use Rattle.c_grammar.specs.Tokens.{TypeNames, is_mark, kind_at, is_type_at, begi
 use Rattle.c_grammar.specs.Grammar.{IsExpr}
 use Rattle.c_grammar.specs.Specifiers.{IsDeclared, IsSpecifier}
 use Rattle.c_grammar.specs.Statements.{AreItems}
-use Rattle.c_grammar.specs.Units.{IsInit, AreInits, IsStorage, end_by, external_by, IsObject, AreObjects, with_type, AreTypedefs, IsExternal, AreExternals}
+use Rattle.c_grammar.specs.Units.{IsInit, AreInits, IsStorage, end_by, is_function, external_of, IsObject, AreObjects, with_type, AreTypedefs, IsExternal, AreExternals}
 use Rattle.c_grammar.specs.ParseExpr.{declarator}
 use Rattle.c_grammar.specs.ParseSpecifiers.{braced_list_from}
-use Rattle.c_grammar.specs.ParseUnits.{init_list, init_value, init, typedefs_from, typedefs, object_by, objects_from, objects_behind, body_behind, objects_named, behind_type, stored, external_at, external, externals_behind, externals_from, unit_of, unit}
+use Rattle.c_grammar.specs.ParseUnits.{init_list, init_value, init, typedefs_from, typedefs, object_by, objects_from, objects_behind, body_behind, objects_named, behind_type, behind_storage, external_at, external, externals_behind, externals_from, unit_of, unit}
 use Rattle.c_grammar.specs.Units as units
 use Rattle.c_grammar.proofs.Outcomes.{no_true, is_mark_of, expect_at}
 use Rattle.c_grammar.proofs.Facts.{infix_at, weak, begins_no_mark}
@@ -248,9 +248,9 @@ module _ (s : TypeNames) (storage : Option Storage) where
       rw (f, e, c, o) refl
 
   -- behind the storage word
-  stored_read : {b : List Lexeme} {ty : TypeNode} → IsSpecifier s b ty → (n : ℕ) (c r : List Lexeme) (vs : List External) → length (b ++ c) ≤ n → Follows c → behind_type s n storage ty c ≡ Ok (vs, r) → stored s n storage (b ++ c) ≡ Ok ((vs, s), r)
-  unfolding stored
-  stored_read h n c r vs len next g = let e = read_specifier s h n c len next in rw (e, g) refl
+  behind_storage_read : {b : List Lexeme} {ty : TypeNode} → IsSpecifier s b ty → (n : ℕ) (c r : List Lexeme) (vs : List External) → length (b ++ c) ≤ n → Follows c → behind_type s n storage ty c ≡ Ok (vs, r) → behind_storage s n storage (b ++ c) ≡ Ok ((vs, s), r)
+  unfolding behind_storage
+  behind_storage_read h n c r vs len next g = let e = read_specifier s h n c len next in rw (e, g) refl
 
 -- ---- external declarations
 
@@ -265,7 +265,7 @@ abbrev ReadsExternal : TypeNames → List Lexeme → List External → TypeNames
 ReadsExternal s a vs z = (n : ℕ) (r : List Lexeme) → length (a ++ r) ≤ n → external s n (a ++ r) ≡ Ok ((vs, z), r)
 
 -- the storage word, if there is one, before a type
-storage_read : (s : TypeNames) {a : List Lexeme} {storage : Option Storage} → IsStorage a storage → (n : ℕ) (ts : List Lexeme) → begins_type s ts ≡ true → external s n (a ++ ts) ≡ stored s n storage ts
+storage_read : (s : TypeNames) {a : List Lexeme} {storage : Option Storage} → IsStorage a storage → (n : ℕ) (ts : List Lexeme) → begins_type s ts ≡ true → external s n (a ++ ts) ≡ behind_storage s n storage ts
 unfolding external
 storage_read s IsStorage.none n ts b = ap (λ c. external_at s n c ts) (other_opening (kind_at ts) (is_type_at s ts) b)
 storage_read s (IsStorage.static t kind) n ts b = ap (λ kd. external_at s n (opening_of kd) (t ∷ ts)) kind
@@ -285,21 +285,21 @@ external_read (IsExternal.typedefs {s = s} t a b r ty vs z kind h g rk) n u len 
 external_read (IsExternal.tags {s = s} a b r storage ty h g rk) n u len =
     let q : (a ++ (b ++ r ∷ [])) ++ u ≡ a ++ (b ++ r ∷ u) = append_assoc a (b ++ r ∷ []) u ∙ ap (λ z. a ++ z) (append_assoc b (r ∷ []) u) in
     let all : length (a ++ (b ++ r ∷ u)) ≤ n = subst (λ z. length z ≤ n) q len in
-    ap (external s n) q ∙ storage_read s h n (b ++ r ∷ u) ((specifier_begins s g).1 (r ∷ u)) ∙ stored_read s storage g n (r ∷ u) u (x.Tags storage ty ∷ []) (omega (arith, length-append a (b ++ r ∷ u))) (semicolon_follows r u rk) (tags_read s storage ty n r u rk)
+    ap (external s n) q ∙ storage_read s h n (b ++ r ∷ u) ((specifier_begins s g).1 (r ∷ u)) ∙ behind_storage_read s storage g n (r ∷ u) u (x.Tags storage ty ∷ []) (omega (arith, length-append a (b ++ r ∷ u))) (semicolon_follows r u rk) (tags_read s storage ty n r u rk)
 external_read (IsExternal.objects {s = s} a b c r storage ty vs h g o rk) n u len =
     let q : (a ++ (b ++ (c ++ r ∷ []))) ++ u ≡ a ++ (b ++ (c ++ r ∷ u)) = append_assoc a (b ++ (c ++ r ∷ [])) u ∙ ap (λ z. a ++ z) (append_assoc b (c ++ r ∷ []) u ∙ ap (λ z. b ++ z) (append_assoc c (r ∷ []) u)) in
     let all : length (a ++ (b ++ (c ++ r ∷ u))) ≤ n = subst (λ z. length z ≤ n) q len in
     let s1 = length-append a (b ++ (c ++ r ∷ u)) in
     let s2 = length-append b (c ++ r ∷ u) in
     let some = (specifier_begins s g).0 in
-    ap (external s n) q ∙ storage_read s h n (b ++ (c ++ r ∷ u)) ((specifier_begins s g).1 (c ++ r ∷ u)) ∙ stored_read s storage g n (c ++ r ∷ u) u vs (omega arith) ((objects_fronts s storage o).follows (r ∷ u)) (behind_read s storage o n r u rk (omega arith))
+    ap (external s n) q ∙ storage_read s h n (b ++ (c ++ r ∷ u)) ((specifier_begins s g).1 (c ++ r ∷ u)) ∙ behind_storage_read s storage g n (c ++ r ∷ u) u vs (omega arith) ((objects_fronts s storage o).follows (r ∷ u)) (behind_read s storage o n r u rk (omega arith))
 external_read (IsExternal.function {s = s} a b c l e r storage ty d body h g o lk i' rk) n u len =
     let q : (a ++ (b ++ (c ++ (l ∷ e ++ r ∷ [])))) ++ u ≡ a ++ (b ++ (c ++ (l ∷ (e ++ r ∷ u)))) = append_assoc a (b ++ (c ++ (l ∷ e ++ r ∷ []))) u ∙ ap (λ z. a ++ z) (append_assoc b (c ++ (l ∷ e ++ r ∷ [])) u ∙ ap (λ z. b ++ z) (append_assoc c (l ∷ e ++ r ∷ []) u ∙ ap (λ z. c ++ (l ∷ z)) (append_assoc e (r ∷ []) u))) in
     let all : length (a ++ (b ++ (c ++ (l ∷ (e ++ r ∷ u))))) ≤ n = subst (λ z. length z ≤ n) q len in
     let s1 = length-append a (b ++ (c ++ (l ∷ (e ++ r ∷ u)))) in
     let s2 = length-append b (c ++ (l ∷ (e ++ r ∷ u))) in
     let some = (specifier_begins s g).0 in
-    ap (external s n) q ∙ storage_read s h n (b ++ (c ++ (l ∷ (e ++ r ∷ u)))) ((specifier_begins s g).1 (c ++ (l ∷ (e ++ r ∷ u)))) ∙ stored_read s storage g n (c ++ (l ∷ (e ++ r ∷ u))) u (x.Function d storage (f.Body body) ∷ []) (omega arith) ((declared_fronts s refl o).follows (l ∷ (e ++ r ∷ u)))
+    ap (external s n) q ∙ storage_read s h n (b ++ (c ++ (l ∷ (e ++ r ∷ u)))) ((specifier_begins s g).1 (c ++ (l ∷ (e ++ r ∷ u)))) ∙ behind_storage_read s storage g n (c ++ (l ∷ (e ++ r ∷ u))) u (x.Function d storage (f.Body body) ∷ []) (omega arith) ((declared_fronts s refl o).follows (l ∷ (e ++ r ∷ u)))
     (function_read s storage o n l e r u body lk i' rk (omega arith))
 
 pub external_some : {s : TypeNames} {a : List Lexeme} {vs : List External} {z : TypeNames} → IsExternal s a vs z → 0 < length a
@@ -326,7 +326,7 @@ externals_read (AreExternals.more {s = s} a b vs us z h g) (suc j) found le =
     one_turn j s found (a ++ b) (omega arith) ∙ rw (e, o) (ap Ok (append_assoc found vs us))
 
 -- The unit that the tokens spell is read.
-pub complete : (text : List ℕ) (tokens : List Lexeme) (tree : TranslationUnit) → units.Reads text tokens tree → unit text tokens ≡ Ok tree
-complete text tokens tree h =
-    let e = externals_read h.externals (length tokens) [] (omega arith) in
-    ap (unit_of (length text)) e ∙ ap (λ n. Ok (record { externals = tree.externals; length = n })) (sym h.length)
+pub complete : (toks : Toks) (tree : TranslationUnit) → units.Reads toks tree → unit toks ≡ Ok tree
+complete toks tree h =
+    let e = externals_read h.externals (length toks.items) [] (omega arith) in
+    ap (unit_of toks.size) e ∙ ap (λ n. Ok (record { externals = tree.externals; length = n })) (sym h.length)

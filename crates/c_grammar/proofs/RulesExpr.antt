@@ -20,7 +20,7 @@ use Rattle.c_grammar.specs.Tokens.{TypeNames, is_type, place, is_mark, is_name, 
 use Rattle.c_grammar.specs.Types.{comma_of}
 use Rattle.c_grammar.specs.Grammar.{AreTexts}
 use Rattle.c_grammar.specs.Parser.{Parser}
-use Rattle.c_grammar.specs.ParseExpr.{texts_from, list_from, whole, type_name, arguments, named, cast_behind, brackets_behind, size_of_type, size_of_value, operand_by, operand, member, expr, declarator}
+use Rattle.c_grammar.specs.ParseExpr.{texts_from, list_from, whole, type_name, arguments, behind_name, cast_behind, brackets_behind, size_of_type, size_of_value, operand_by, operand, member, expr, declarator}
 use Rattle.c_grammar.proofs.Outcomes.{is_mark_of, expect_at}
 use Rattle.c_grammar.proofs.Facts.{infix_at, gap, no_two, no_four, no_tight, no_comma, weak, no_type, begins_no_mark}
 use Rattle.c_grammar.proofs.ReadPlain.{ends_by, BeginsType}
@@ -85,7 +85,7 @@ either false x v f = refl
 
 module _ (s : TypeNames) where
   pub name_rule : (m : ℕ) (t : Lexeme) → m ≤ 19 → t.kind ≡ k.Name → is_type s t ≡ false → Reaches s m (t ∷ []) (e.Name t.at t.spelling)
-  unfolding operand named
+  unfolding operand behind_name
   name_rule m t low kind listed = start s m 19 (t ∷ []) (e.Name t.at t.spelling) low (omega arith) (λ n least r len under next.
       let other = (no_tight (kind_at r) (omega arith)).0 in
       ap (λ kd. operand_by s (expr s n) (declarator s n) least (prefix_of kd) (t ∷ r)) kind ∙ rw (listed, other) refl)
@@ -162,7 +162,7 @@ module _ (s : TypeNames) where
 
   pub empty_call_rule : (m : ℕ) (t l r : Lexeme) → m ≤ 19 → t.kind ≡ k.Name → is_type s t ≡ false → l.kind ≡ k.Mark p.LeftParen → r.kind ≡ k.Mark p.RightParen
       → Reaches s m (t ∷ l ∷ r ∷ []) (e.Call t.at t.spelling [])
-  unfolding operand named arguments
+  unfolding operand behind_name arguments
   empty_call_rule m t l r low kind listed lk rk = start s m 19 (t ∷ l ∷ r ∷ []) (e.Call t.at t.spelling []) low (omega arith) (λ n least u len under next.
       let v = is_mark_of p.LeftParen l.kind lk in
       let d = is_mark_of p.RightParen r.kind rk in
@@ -170,7 +170,7 @@ module _ (s : TypeNames) where
 
   pub call_rule : (m : ℕ) (t l : Lexeme) (a : List Lexeme) (r : Lexeme) (xs : List Expr) → m ≤ 19 → t.kind ≡ k.Name → is_type s t ≡ false → l.kind ≡ k.Mark p.LeftParen → Begins s a → ReadsListed s a xs → r.kind ≡ k.Mark p.RightParen
       → Reaches s m (t ∷ l ∷ a ++ r ∷ []) (e.Call t.at t.spelling xs)
-  unfolding operand named arguments
+  unfolding operand behind_name arguments
   call_rule m t l a r xs low kind listed lk b h rk = start s m 19 (t ∷ l ∷ a ++ r ∷ []) (e.Call t.at t.spelling xs) low (omega arith) (λ n least u len under next.
       let q = append_assoc a (r ∷ []) u in
       let g = h n (length (a ++ r ∷ u)) [] (r ∷ u) (subst (λ z. length z ≤ n) q (omega arith)) (omega arith) (weak r u p.RightParen 1 rk (omega arith)) in

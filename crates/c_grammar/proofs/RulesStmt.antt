@@ -16,7 +16,7 @@ use Rattle.c_grammar.specs.Classes.{head_of}
 use Rattle.c_grammar.specs.Tokens.{TypeNames, is_mark, is_word, kind_at, is_type_at}
 use Rattle.c_grammar.specs.Grammar.{IsWhole}
 use Rattle.c_grammar.specs.Statements.{IsLine, IsOptional, IsFirst, IsLabel, locals_of, IsStmt, AreItems, AreSections, AreStmts}
-use Rattle.c_grammar.specs.ParseStatements.{items_from, ends_section, stmts_from, section, sections_from, alternative, choice, while, until, for, switch, return, value, stmt_by, stmt}
+use Rattle.c_grammar.specs.ParseStatements.{items_from, ends_section, stmts_from, section, sections_from, alternative, if_else, while, do_while, for, switch, return, value, stmt_by, stmt}
 use Rattle.c_grammar.proofs.Outcomes.{no_true, is_mark_of, is_word_of, expect_at, expect_word_at}
 use Rattle.c_grammar.proofs.Facts.{weak, type_no_mark}
 use Rattle.c_grammar.proofs.First.{first_whole}
@@ -40,7 +40,7 @@ ReadsSections s a vs = (d n j : ℕ) (found : List Section) (r : Lexeme) (u : Li
 
 -- the statements under a label, up to the next label or the brace
 abbrev ReadsStmts : TypeNames → List Lexeme → List Stmt → Type 0
-ReadsStmts s a vs = (d n j : ℕ) (found : List Stmt) (r : List Lexeme) → length (a ++ r) ≤ n → length (a ++ r) ≤ j → ends_section s zero (stmt s zero) r ≡ true → is_word w.Else (kind_at r) ≡ false
+ReadsStmts s a vs = (d n j : ℕ) (found : List Stmt) (r : List Lexeme) → length (a ++ r) ≤ n → length (a ++ r) ≤ j → ends_section r ≡ true → is_word w.Else (kind_at r) ≡ false
     → stmts_from s d (stmt s n) j found (a ++ r) ≡ Ok (found ++ vs, r)
 
 module _ (s : TypeNames) where
@@ -69,11 +69,11 @@ module _ (s : TypeNames) where
       let d = expect_at t z p.Semicolon kind in
       rw q (ap (λ hd. stmt_by s (suc n) (stmt s n) hd (a ++ t ∷ z)) o ∙ rw (e, d) refl)
 
-  short_rule : (m : ℕ) (t l : Lexeme) (a : List Lexeme) (r : Lexeme) (b : List Lexeme) (v : Expr) (z : Stmt) → m ≤ 0 → t.kind ≡ k.Word w.If → l.kind ≡ k.Mark p.LeftParen → IsWhole s a v → r.kind ≡ k.Mark p.RightParen
+  if_only_rule : (m : ℕ) (t l : Lexeme) (a : List Lexeme) (r : Lexeme) (b : List Lexeme) (v : Expr) (z : Stmt) → m ≤ 0 → t.kind ≡ k.Word w.If → l.kind ≡ k.Mark p.LeftParen → IsWhole s a v → r.kind ≡ k.Mark p.RightParen
       → ReadsStmt s 0 b z → ReadsStmt s m (t ∷ l ∷ a ++ r ∷ b) (u.If v z None)
-  unfolding stmt choice alternative
-  short_rule m t l a r b v z low kind lk h rk g zero y len next = absurd (omega arith)
-  short_rule m t l a r b v z low kind lk h rk g (suc n) y len next =
+  unfolding stmt if_else alternative
+  if_only_rule m t l a r b v z low kind lk h rk g zero y len next = absurd (omega arith)
+  if_only_rule m t l a r b v z low kind lk h rk g (suc n) y len next =
       let q = append_assoc a (r ∷ b) y in
       let all : length (a ++ (r ∷ b ++ y)) ≤ n = subst (λ z. length z ≤ n) q (omega arith) in
       let e = condition_read s h (suc n) l r (b ++ y) lk rk (omega arith) in
@@ -81,11 +81,11 @@ module _ (s : TypeNames) where
       let c = next low in
       ap (λ kd. stmt_by s (suc n) (stmt s n) (head_of kd) ((t ∷ l ∷ a ++ r ∷ b) ++ y)) kind ∙ rw (q, e, o, c) refl
 
-  long_rule : (m : ℕ) (t l : Lexeme) (a : List Lexeme) (r : Lexeme) (b : List Lexeme) (o : Lexeme) (c : List Lexeme) (v : Expr) (z q : Stmt) → t.kind ≡ k.Word w.If → l.kind ≡ k.Mark p.LeftParen → IsWhole s a v → r.kind ≡ k.Mark p.RightParen
+  if_else_rule : (m : ℕ) (t l : Lexeme) (a : List Lexeme) (r : Lexeme) (b : List Lexeme) (o : Lexeme) (c : List Lexeme) (v : Expr) (z q : Stmt) → t.kind ≡ k.Word w.If → l.kind ≡ k.Mark p.LeftParen → IsWhole s a v → r.kind ≡ k.Mark p.RightParen
       → ReadsStmt s 1 b z → o.kind ≡ k.Word w.Else → ReadsStmt s m c q → ReadsStmt s m (t ∷ l ∷ a ++ (r ∷ b ++ o ∷ c)) (u.If v z (Some q))
-  unfolding stmt choice alternative
-  long_rule m t l a r b o c v z q kind lk h rk g ok j zero y len next = absurd (omega arith)
-  long_rule m t l a r b o c v z q kind lk h rk g ok j (suc n) y len next =
+  unfolding stmt if_else alternative
+  if_else_rule m t l a r b o c v z q kind lk h rk g ok j zero y len next = absurd (omega arith)
+  if_else_rule m t l a r b o c v z q kind lk h rk g ok j (suc n) y len next =
       let x : (a ++ (r ∷ b ++ o ∷ c)) ++ y ≡ a ++ (r ∷ (b ++ (o ∷ (c ++ y)))) = append_assoc a (r ∷ b ++ o ∷ c) y ∙ ap (λ z. a ++ (r ∷ z)) (append_assoc b (o ∷ c) y) in
       let all : length (a ++ (r ∷ (b ++ (o ∷ (c ++ y))))) ≤ n = subst (λ z. length z ≤ n) x (omega arith) in
       let sizes = length-append a (r ∷ (b ++ (o ∷ (c ++ y)))) in
@@ -107,11 +107,11 @@ module _ (s : TypeNames) where
       let o = g n y (omega (arith, length-append a (r ∷ b ++ y))) next in
       ap (λ kd. stmt_by s (suc n) (stmt s n) (head_of kd) ((t ∷ l ∷ a ++ r ∷ b) ++ y)) kind ∙ rw (q, e, o) refl
 
-  until_rule : (m : ℕ) (t : Lexeme) (a : List Lexeme) (o l : Lexeme) (b : List Lexeme) (r e : Lexeme) (v : Expr) (z : Stmt) → t.kind ≡ k.Word w.Do → ReadsStmt s 0 a z → o.kind ≡ k.Word w.While → l.kind ≡ k.Mark p.LeftParen → IsWhole s b v
+  do_while_rule : (m : ℕ) (t : Lexeme) (a : List Lexeme) (o l : Lexeme) (b : List Lexeme) (r e : Lexeme) (v : Expr) (z : Stmt) → t.kind ≡ k.Word w.Do → ReadsStmt s 0 a z → o.kind ≡ k.Word w.While → l.kind ≡ k.Mark p.LeftParen → IsWhole s b v
       → r.kind ≡ k.Mark p.RightParen → e.kind ≡ k.Mark p.Semicolon → ReadsStmt s m (t ∷ a ++ (o ∷ l ∷ b ++ r ∷ e ∷ [])) (u.Do z v)
-  unfolding stmt until
-  until_rule m t a o l b r e v z kind h ok lk g rk ek zero y len next = absurd (omega arith)
-  until_rule m t a o l b r e v z kind h ok lk g rk ek (suc n) y len next =
+  unfolding stmt do_while
+  do_while_rule m t a o l b r e v z kind h ok lk g rk ek zero y len next = absurd (omega arith)
+  do_while_rule m t a o l b r e v z kind h ok lk g rk ek (suc n) y len next =
       let q : (a ++ (o ∷ l ∷ b ++ r ∷ e ∷ [])) ++ y ≡ a ++ (o ∷ l ∷ (b ++ (r ∷ e ∷ y))) = append_assoc a (o ∷ l ∷ b ++ r ∷ e ∷ []) y ∙ ap (λ z. a ++ (o ∷ l ∷ z)) (append_assoc b (r ∷ e ∷ []) y) in
       let all : length (a ++ (o ∷ l ∷ (b ++ (r ∷ e ∷ y)))) ≤ n = subst (λ z. length z ≤ n) q (omega arith) in
       let sizes = length-append a (o ∷ l ∷ (b ++ (r ∷ e ∷ y))) in
@@ -218,7 +218,7 @@ module _ (s : TypeNames) where
   items_no_else (AreItems.line a b vs ys h g) r y e = ap (λ z. is_word w.Else (kind_at z)) (append_assoc a b (r ∷ y)) ∙ type_no_word s (a ++ (b ++ r ∷ y)) w.Else refl ((line_begins s h).1 (b ++ r ∷ y))
   items_no_else (AreItems.statement a b v ys h g) r y e = ap (λ z. is_word w.Else (kind_at z)) (append_assoc a b (r ∷ y)) ∙ ((stmt_starts s h).1 (b ++ r ∷ y)).no_else
 
-  ends_some : (r : List Lexeme) → ends_section s zero (stmt s zero) r ≡ true → 0 < length r
+  ends_some : (r : List Lexeme) → ends_section r ≡ true → 0 < length r
   ends_some [] e = no_true e
   ends_some (t ∷ r) e = omega arith
 
@@ -227,8 +227,8 @@ module _ (s : TypeNames) where
   no_statement_rule d n zero found r ln lj ends other = let o = ends_some r ends in absurd (omega arith)
   no_statement_rule d n (suc j) found r ln lj ends other = rw ends (ap (λ z. Ok (z, r)) (sym (append-nil found)))
 
-  goes_on : (ts : List Lexeme) → Front s ts → ends_section s zero (stmt s zero) ts ≡ false
-  goes_on ts h = rw (h.no_brace, h.no_case, h.no_default) refl
+  continues : (ts : List Lexeme) → Front s ts → ends_section ts ≡ false
+  continues ts h = rw (h.no_brace, h.no_case, h.no_default) refl
 
   statements_rule : (a b : List Lexeme) (v : Stmt) (ys : List Stmt) → StartsStmt s a → ReadsStmt s 0 a v → ((r : List Lexeme) → is_word w.Else (kind_at r) ≡ false → is_word w.Else (kind_at (b ++ r)) ≡ false) → ReadsStmts s b ys → ReadsStmts s (a ++ b) (v ∷ ys)
   unfolding stmts_from
@@ -237,7 +237,7 @@ module _ (s : TypeNames) where
       let q = append_assoc a b r in
       let sizes = length-append a (b ++ r) in
       let o = f.0 in
-      let front = goes_on (a ++ (b ++ r)) (f.1 (b ++ r)) in
+      let front = continues (a ++ (b ++ r)) (f.1 (b ++ r)) in
       let fn : length (a ++ (b ++ r)) ≤ n = subst (λ z. length z ≤ n) q ln in
       let fj : length (a ++ (b ++ r)) ≤ suc j = subst (λ z. length z ≤ suc j) q lj in
       let e = h n (b ++ r) fn (λ le. c r other) in
@@ -249,7 +249,7 @@ module _ (s : TypeNames) where
 
   -- what stands behind the statements of a section
   record Ends (ts : List Lexeme) : Type 0 where
-    ends : ends_section s zero (stmt s zero) ts ≡ true
+    ends : ends_section ts ≡ true
     no_else : is_word w.Else (kind_at ts) ≡ false
 
   sections_end : {a : List Lexeme} {vs : List Section} → AreSections s a vs → (r : Lexeme) (y : List Lexeme) → r.kind ≡ k.Mark p.RightBrace → Ends (a ++ r ∷ y)
@@ -284,10 +284,10 @@ module _ (s : TypeNames) where
     read_stmt (IsStmt.block l a r xs lk h rk) = block_rule _ l a r xs lk (read_items h) rk
     read_stmt (IsStmt.empty t kind) = empty_rule _ t kind
     read_stmt (IsStmt.expression a t v h kind) = value_rule _ a t v h kind
-    read_stmt (IsStmt.if_only t l a r b v z low kind lk h rk g) = short_rule _ t l a r b v z low kind lk h rk (read_stmt g)
-    read_stmt (IsStmt.if_else t l a r b o c v z q kind lk h rk g ok j) = long_rule _ t l a r b o c v z q kind lk h rk (read_stmt g) ok (read_stmt j)
+    read_stmt (IsStmt.if_only t l a r b v z low kind lk h rk g) = if_only_rule _ t l a r b v z low kind lk h rk (read_stmt g)
+    read_stmt (IsStmt.if_else t l a r b o c v z q kind lk h rk g ok j) = if_else_rule _ t l a r b o c v z q kind lk h rk (read_stmt g) ok (read_stmt j)
     read_stmt (IsStmt.while t l a r b v z kind lk h rk g) = while_rule _ t l a r b v z kind lk h rk (read_stmt g)
-    read_stmt (IsStmt.do_while t a o l b r e v z kind h ok lk g rk ek) = until_rule _ t a o l b r e v z kind (read_stmt h) ok lk g rk ek
+    read_stmt (IsStmt.do_while t a o l b r e v z kind h ok lk g rk ek) = do_while_rule _ t a o l b r e v z kind (read_stmt h) ok lk g rk ek
     read_stmt (IsStmt.for t l a b e c r d v y z q kind lk h g ek o rk j) = for_rule _ t l a b e c r d v y z q kind lk h g ek o rk (read_stmt j)
     read_stmt (IsStmt.switch t l a r o b e v xs kind lk h rk ok g ek) = switch_rule _ t l a r o b e v xs kind lk h rk ok (read_sections g) ek
     read_stmt (IsStmt.break t r kind rk) = break_rule _ t r kind rk

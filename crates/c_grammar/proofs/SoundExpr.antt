@@ -21,8 +21,8 @@ use Rattle.c_grammar.specs.Levels.{level_of, binding_level, operand_level, resul
 use Rattle.c_grammar.specs.Tokens.{TypeNames, is_type, place, is_mark, is_name, is_text, begins_type}
 use Rattle.c_grammar.specs.Types.{takes_name, may_be_nameless, nameless, with_shape, with_shapes, parameter_of, without_void, comma_of}
 use Rattle.c_grammar.specs.Grammar.{AreConsts, IsPlain, AreTexts, IsExpr, IsWhole, AreAssignments, AreArguments, IsTypeName, IsDeclarator, AreParameters, AreSomeParameters, IsParameter}
-use Rattle.c_grammar.specs.Parser.{IsEnd, Parser, and_then, consts}
-use Rattle.c_grammar.specs.ParseExpr.{plain, texts_from, list_from, whole, type_name, parameter, arguments, parameters, named, cast_behind, brackets_behind, bracket_operand, size_of_type, size_of_value, size_of, operand_by, operand, member, step_by, climb, tight, length_of, suffixes, group_behind, core_bracket, core, pointer_declarator, shaping, expr, declarator}
+use Rattle.c_grammar.specs.Parser.{IsEnd, Parser, and_then, pure, consts}
+use Rattle.c_grammar.specs.ParseExpr.{plain, texts_from, list_from, whole, type_name, parameter, arguments, parameters, behind_name, cast_behind, brackets_behind, bracket_operand, size_of_type, size_of_value, size_of, operand_by, operand, member, step_by, climb, tight, length_of, suffixes, group_behind, core_bracket, core, pointer_declarator, shaping, expr, declarator}
 use Rattle.std.specs.Prelude.{◌≢◌}
 use Rattle.std.proofs.lemmas.Bool.{ltb-true, ltb-false}
 use Rattle.c_grammar.proofs.Outcomes.{no_true, mark_is, name_is, text_is}
@@ -220,8 +220,8 @@ module _ (s : TypeNames) where
     lone_name : (least : ℕ) (t : Lexeme) (ts : List Lexeme) → least ≤ 17 → t.kind ≡ k.Name → is_type s t ≡ false → Says (Ok ((e.Name t.at t.spelling, 19), ts)) ts (λ b q. IsOperand s least (t ∷ b) q)
     lone_name least t ts cap kind listed = ok_says (e.Name t.at t.spelling, 19) ts _ (record { wanted = omega arith; is = IsExpr.name t (omega arith) kind listed })
 
-    named_says : (least : ℕ) (t : Lexeme) (ts : List Lexeme) → least ≤ 17 → t.kind ≡ k.Name → is_type s t ≡ false → Says (named s rec dec t.at t.spelling ts) ts (λ b q. IsOperand s least (t ∷ b) q)
-    unfolding named
+    named_says : (least : ℕ) (t : Lexeme) (ts : List Lexeme) → least ≤ 17 → t.kind ≡ k.Name → is_type s t ≡ false → Says (behind_name s rec dec t.at t.spelling ts) ts (λ b q. IsOperand s least (t ∷ b) q)
+    unfolding behind_name
     named_says least t [] cap kind listed = lone_name least t [] cap kind listed
     named_says least t (l ∷ ts) cap kind listed = if_says (is_mark p.LeftParen l.kind) _ _ (l ∷ ts) _
         (λ yes. token_says _ l ts _ (bind_says (arguments s rec dec ts) _ ts _ _ (arguments_says ts) (λ a xs u q.
@@ -299,10 +299,11 @@ module _ (s : TypeNames) where
 
     -- ---- the loop over operators
 
-    member_says : (make : List ℕ → Expr) (ts : List Lexeme) (T : List Lexeme → Expr → Type 0) → ((n : Lexeme) → n.kind ≡ k.Name → T (n ∷ []) (make n.spelling)) → Says (member s rec dec make ts) ts T
+    member_says : (make : List ℕ → Expr) (ts : List Lexeme) (T : List Lexeme → Expr → Type 0) → ((n : Lexeme) → n.kind ≡ k.Name → T (n ∷ []) (make n.spelling)) → Says (and_then (member ts) (λ name. pure (make name))) ts T
     unfolding member
     member_says make [] T h = refused_says [] T
-    member_says make (n ∷ r) T h = if_says (is_name n.kind) _ _ (n ∷ r) T (λ yes. token_says _ n r T (ok_says (make n.spelling) r _ (h n (name_is n.kind yes)))) (λ other. refused_says (n ∷ r) T)
+    member_says make (n ∷ r) T h = bind_says (member (n ∷ r)) _ (n ∷ r) (λ a name. T a (make name)) T
+        (if_says (is_name n.kind) _ _ (n ∷ r) _ (λ yes. token_says _ n r _ (ok_says n.spelling r _ (h n (name_is n.kind yes)))) (λ other. refused_says (n ∷ r) _)) (λ a name u g. done_says (make name) a u T g)
 
     step_says : (class : Infix) (t : Lexeme) (level : ℕ) (done : List Lexeme) (x : Expr) (ts : List Lexeme) → infix_of t.kind ≡ class → operand_level class ≤ level → IsExpr s level done x
         → Says (step_by s rec dec class (place done) x ts) ts (λ b z. IsExpr s (result_level class) (done ++ t ∷ b) z)

@@ -22,7 +22,9 @@ use Rattle.c_grammar.specs.WordSets.{no_words, with_word, basic_by, basic_of}
 use Rattle.c_grammar.specs.Tokens.{TypeNames, is_type, is_name, behind, place}
 use Rattle.c_grammar.specs.Grammar.{AreConsts, AreWords, IsPlain}
 use Rattle.c_grammar.specs.Parser.{Parser, consts}
-use Rattle.c_grammar.specs.ParseExpr.{settle, word_by, named_type, tag_type, tag, specifier_by, specifier_from, plain}
+use Rattle.c_grammar.specs.declared.shapes.SpecifierStart.TheVariants as ss
+use Rattle.c_grammar.specs.ParseExpr.{start_of, word_or_end, words_from, named_type, tag_type, tag, specifier_behind, specifier_from, plain}
+use Rattle.c_grammar.proofs.Words.{behind_words, turn}
 use Rattle.c_grammar.proofs.Outcomes.{no_true, name_is}
 use Rattle.c_grammar.proofs.Says.{Says, ok_says, refused_says, bind_says, if_says, token_says, done_says, consts_says, weaker}
 
@@ -131,18 +133,22 @@ module _ (s : TypeNames) (on : Specifier → ℕ → Parser TypeNode) (U : Lexem
   past_word x u word e f (From.words {x = v} a z q h g) = From.words (u ∷ a) z q (AreWords.more u word a v z e f h) g
   past_word x u word e f (From.tail {x = v} a q r ty n c h) = let o = word_spells x word v f in no_some (sym n ∙ o.1)
 
-  settle_says : (o : Option BasicType) (other : Parser TypeNode) (ts : List Lexeme) (T : List Lexeme → TypeNode → Type 0) → ((q : BasicType) → o ≡ Some q → T [] (y.Basic q)) → (o ≡ None → Says (other ts) ts T) → Says (settle o other ts) ts T
-  settle_says (Some q) other ts T f g = ok_says (y.Basic q) ts T (f q refl)
-  settle_says None other ts T f g = g refl
+  start_says : (o : Option BasicType) (class : Specifier) (ts : List Lexeme) (T : List Lexeme → TypeNode → Type 0) → ((q : BasicType) → o ≡ Some q → T [] (y.Basic q))
+      → (o ≡ None → Says (specifier_behind s on (ss.Other class) ts) ts T) → Says (specifier_behind s on (start_of o class) ts) ts T
+  start_says (Some q) class ts T f g = ok_says (y.Basic q) ts T (f q refl)
+  start_says None class ts T f g = g refl
 
   -- the words before this token are all
-  stop_says : (x : WordSet) (other : Parser TypeNode) (ts : List Lexeme) → (basic_of x ≡ None → Says (other ts) ts (λ a ty. From U x a ty)) → Says (settle (basic_of x) other ts) ts (λ a ty. From U x a ty)
-  stop_says x other ts g = settle_says (basic_of x) other ts _ (λ q e. From.words [] x q AreWords.none e) g
+  stop_says : (x : WordSet) (class : Specifier) (ts : List Lexeme) → (basic_of x ≡ None → Says (specifier_behind s on (ss.Other class) ts) ts (λ a ty. From U x a ty))
+      → Says (specifier_behind s on (start_of (basic_of x) class) ts) ts (λ a ty. From U x a ty)
+  stop_says x class ts g = start_says (basic_of x) class ts _ (λ q e. From.words [] x q AreWords.none e) g
 
-  word_says : (o : Option WordSet) (go : WordSet → Parser TypeNode) (x : WordSet) (u : Lexeme) (r : List Lexeme) (word : TypeWord) → specifier_of u.kind ≡ c.Word word → with_word x word ≡ o
-      → ((v : WordSet) → Says (go v r) r (λ a ty. From U v a ty)) → Says (word_by o go x (u ∷ r)) (u ∷ r) (λ a ty. From U x a ty)
-  word_says (Some v) go x u r word e f h = token_says (go v r) u r _ (weaker (go v r) r _ _ (λ a ty q. past_word x u word e f q) (h v))
-  word_says None go x u r word e f h = stop_says x (λ r. Err r) (u ∷ r) (λ n. refused_says (u ∷ r) _)
+  word_says : (o : Option WordSet) (j : ℕ) (x : WordSet) (u : Lexeme) (r : List Lexeme) (word : TypeWord) → specifier_of u.kind ≡ c.Word word → with_word x word ≡ o
+      → ((v : WordSet) → Says (specifier_from s on j v r) r (λ a ty. From U v a ty))
+      → Says (behind_words s on (word_or_end o (λ v. words_from j v r) (start_of (basic_of x) (c.Word word), u ∷ r))) (u ∷ r) (λ a ty. From U x a ty)
+  unfolding specifier_from
+  word_says (Some v) j x u r word e f h = token_says (specifier_from s on j v r) u r _ (weaker (specifier_from s on j v r) r _ _ (λ a ty q. past_word x u word e f q) (h v))
+  word_says None j x u r word e f h = stop_says x (c.Word word) (u ∷ r) (λ n. refused_says (u ∷ r) _)
 
   module _ (struct_says : (u : Lexeme) (r : List Lexeme) → u.kind ≡ k.Word w.Struct → Says (on c.Struct u.at r) r (λ b ty. U u b ty))
       (enum_says : (u : Lexeme) (r : List Lexeme) → u.kind ≡ k.Word w.Enum → Says (on c.Enum u.at r) r (λ b ty. U u b ty))
@@ -153,33 +159,34 @@ module _ (s : TypeNames) (on : Specifier → ℕ → Parser TypeNode) (U : Lexem
         (λ yes. token_says _ u r _ (bind_says (consts (length r) r) _ r (λ a q. AreConsts a) _ (consts_says (length r) r) (λ a q v h. done_says (y.Named u.spelling) a v (λ a ty. From U x (u ∷ a) ty) (From.tail [] u a (y.Named u.spelling) n AreConsts.none (named u a e yes h)))))
         (λ other. refused_says (u ∷ r) _)
 
-    by_says : (go : WordSet → Parser TypeNode) (x : WordSet) (class : Specifier) (u : Lexeme) (r : List Lexeme) → specifier_of u.kind ≡ class → ((v : WordSet) → Says (go v r) r (λ a ty. From U v a ty))
-        → Says (specifier_by s on go x class (u ∷ r)) (u ∷ r) (λ a ty. From U x a ty)
-    by_says go x c.Const u r e h = token_says (go x r) u r _ (weaker (go x r) r _ _ (λ a ty q. past_const u (const_is u.kind e) q) (h x))
-    by_says go x (c.Word word) u r e h = word_says (with_word x word) go x u r word e refl h
-    by_says go x c.Struct u r e h = stop_says x (λ r. on c.Struct (place r) (behind r)) (u ∷ r) (λ n. token_says (on c.Struct u.at r) u r _ (weaker (on c.Struct u.at r) r _ _ (λ b ty q. From.tail [] u b ty n AreConsts.none q) (struct_says u r (struct_is u.kind e))))
-    by_says go x c.Enum u r e h = stop_says x (λ r. on c.Enum (place r) (behind r)) (u ∷ r) (λ n. token_says (on c.Enum u.at r) u r _ (weaker (on c.Enum u.at r) r _ _ (λ b ty q. From.tail [] u b ty n AreConsts.none q) (enum_says u r (enum_is u.kind e))))
-    by_says go x c.Name u r e h = stop_says x (named_type s) (u ∷ r) (λ n. named_says x u r (named_is u.kind e) n)
-    by_says go x c.Nothing u r e h = stop_says x (λ r. Err r) (u ∷ r) (λ n. refused_says (u ∷ r) _)
+    turn_says : (j : ℕ) (x : WordSet) (class : Specifier) (u : Lexeme) (r : List Lexeme) → specifier_of u.kind ≡ class → ((v : WordSet) → Says (specifier_from s on j v r) r (λ a ty. From U v a ty))
+        → Says (turn s on j x class (u ∷ r)) (u ∷ r) (λ a ty. From U x a ty)
+    unfolding specifier_from
+    turn_says j x c.Const u r e h = token_says (specifier_from s on j x r) u r _ (weaker (specifier_from s on j x r) r _ _ (λ a ty q. past_const u (const_is u.kind e) q) (h x))
+    turn_says j x (c.Word word) u r e h = word_says (with_word x word) j x u r word e refl h
+    turn_says j x c.Struct u r e h = stop_says x c.Struct (u ∷ r) (λ n. token_says (on c.Struct u.at r) u r _ (weaker (on c.Struct u.at r) r _ _ (λ b ty q. From.tail [] u b ty n AreConsts.none q) (struct_says u r (struct_is u.kind e))))
+    turn_says j x c.Enum u r e h = stop_says x c.Enum (u ∷ r) (λ n. token_says (on c.Enum u.at r) u r _ (weaker (on c.Enum u.at r) r _ _ (λ b ty q. From.tail [] u b ty n AreConsts.none q) (enum_says u r (enum_is u.kind e))))
+    turn_says j x c.Name u r e h = stop_says x c.Name (u ∷ r) (λ n. named_says x u r (named_is u.kind e) n)
+    turn_says j x c.Nothing u r e h = stop_says x c.Nothing (u ∷ r) (λ n. refused_says (u ∷ r) _)
 
     pub specifier_says : (j : ℕ) (x : WordSet) (ts : List Lexeme) → Says (specifier_from s on j x ts) ts (λ a ty. From U x a ty)
-    unfolding specifier_from
-    specifier_says zero x ts = stop_says x (λ r. Err r) ts (λ n. refused_says ts _)
-    specifier_says (suc j) x [] = stop_says x (λ r. Err r) [] (λ n. refused_says [] _)
-    specifier_says (suc j) x (u ∷ r) = by_says (specifier_from s on j) x (specifier_of u.kind) u r refl (λ v. specifier_says j v r)
+    unfolding specifier_from words_from
+    specifier_says zero x ts = stop_says x c.Nothing ts (λ n. refused_says ts _)
+    specifier_says (suc j) x [] = stop_says x c.Nothing [] (λ n. refused_says [] _)
+    specifier_says (suc j) x (u ∷ r) = turn_says j x (specifier_of u.kind) u r refl (λ v. specifier_says j v r)
 
 -- ---- without braces
 
 -- what stands in the place of words
 pub data IsTail (s : TypeNames) (u : Lexeme) : List Lexeme → TypeNode → Type 0 where
-  named : (a : List Lexeme) → u.kind ≡ k.Name → is_type s u ≡ true → AreConsts a → IsTail s u a (y.Named u.spelling)
+  type_name : (a : List Lexeme) → u.kind ≡ k.Name → is_type s u ≡ true → AreConsts a → IsTail s u a (y.Named u.spelling)
   struct : (v : Lexeme) (a : List Lexeme) → u.kind ≡ k.Word w.Struct → v.kind ≡ k.Name → AreConsts a → IsTail s u (v ∷ a) (y.Struct v.at (Some v.spelling) None)
   enum : (v : Lexeme) (a : List Lexeme) → u.kind ≡ k.Word w.Enum → v.kind ≡ k.Name → AreConsts a → IsTail s u (v ∷ a) (y.Enum v.at (Some v.spelling) None)
 
-pub tag_says : (s : TypeNames) (class : Specifier) (ts : List Lexeme) (T : List Lexeme → TypeNode → Type 0) → ((v : Lexeme) (a : List Lexeme) → v.kind ≡ k.Name → AreConsts a → T (v ∷ a) (tag_type class v.at v.spelling)) → Says (tag s class ts) ts T
+pub tag_says : (class : Specifier) (ts : List Lexeme) (T : List Lexeme → TypeNode → Type 0) → ((v : Lexeme) (a : List Lexeme) → v.kind ≡ k.Name → AreConsts a → T (v ∷ a) (tag_type class v.at v.spelling)) → Says (tag class ts) ts T
 unfolding tag
-tag_says s class [] T h = refused_says [] T
-tag_says s class (v ∷ r) T h = if_says (is_name v.kind) _ _ (v ∷ r) T
+tag_says class [] T h = refused_says [] T
+tag_says class (v ∷ r) T h = if_says (is_name v.kind) _ _ (v ∷ r) T
     (λ yes. token_says _ v r T (bind_says (consts (length r) r) _ r (λ a q. AreConsts a) _ (consts_says (length r) r) (λ a q z g. done_says (tag_type class v.at v.spelling) a z (λ a ty. T (v ∷ a) ty) (h v a (name_is v.kind yes) g))))
     (λ other. refused_says (v ∷ r) T)
 
@@ -191,9 +198,9 @@ is_plain s (From.tail a u r ty n c (IsTail.enum v b kind vk h)) = IsPlain.enum a
 
 pub plain_says : (s : TypeNames) (ts : List Lexeme) → Says (plain s ts) ts (λ a ty. IsPlain s a ty)
 unfolding plain
-plain_says s ts = weaker (specifier_from s (λ word at. tag s word) (length ts) no_words ts) ts _ _ (λ a ty h. is_plain s h)
-    (specifier_says s (λ word at. tag s word) (IsTail s)
-    (λ u r e. tag_says s c.Struct r (λ b ty. IsTail s u b ty) (λ v a vk h. IsTail.struct v a e vk h))
-    (λ u r e. tag_says s c.Enum r (λ b ty. IsTail s u b ty) (λ v a vk h. IsTail.enum v a e vk h))
+plain_says s ts = weaker (specifier_from s (λ word at. tag word) (length ts) no_words ts) ts _ _ (λ a ty h. is_plain s h)
+    (specifier_says s (λ word at. tag word) (IsTail s)
+    (λ u r e. tag_says c.Struct r (λ b ty. IsTail s u b ty) (λ v a vk h. IsTail.struct v a e vk h))
+    (λ u r e. tag_says c.Enum r (λ b ty. IsTail s u b ty) (λ v a vk h. IsTail.enum v a e vk h))
     (λ u b e listed h. IsTail.type_name b e listed h)
     (length ts) no_words ts)

@@ -24,7 +24,7 @@ use Rattle.c_grammar.specs.Statements.{IsLocal, AreLocals, IsLine, IsOptional, I
 use Rattle.c_grammar.specs.Parser.{Parser, and_then, ◌>>=◌, pure, expect, expect_word}
 use Rattle.c_grammar.specs.ParseExpr.{plain, list_from, expr, declarator}
 use Rattle.c_grammar.specs.ParseSpecifiers.{declaration}
-use Rattle.c_grammar.specs.ParseStatements.{expression, local_by, local, line, optional, condition, first_value, first, case_label, label, items_from, ends_section, stmts_from, section, sections_from, alternative, choice, while, until, for, switch, return, value, stmt_by, stmt}
+use Rattle.c_grammar.specs.ParseStatements.{expression, local_by, local, line, optional, condition, first_value, first, case_label, label, items_from, ends_section, stmts_from, section, sections_from, alternative, if_else, while, do_while, for, switch, return, value, stmt_by, stmt}
 use Rattle.c_grammar.proofs.Outcomes.{mark_is, word_is}
 use Rattle.c_grammar.proofs.Says.{Says, ok_says, refused_says, bind_says, if_says, token_says, done_says, expect_says, expect_word_first, listed_says, weaker}
 use Rattle.c_grammar.proofs.SaysRest.{SaysR, ok_r, refused_r, bind_r, then_r, drop, weaker_r, if_r, token_r, done_r, expect_r, expect_word_r}
@@ -169,7 +169,7 @@ module _ (s : TypeNames) (n : ℕ) (rec : Parser Stmt) (sound : SoundS s rec) wh
   stmts_says : (j : ℕ) (found : List Stmt) (ts : List Lexeme) → Says (stmts_from s n rec j found ts) ts (λ a zs. (ys : List Stmt) × (zs ≡ found ++ ys) × AreStmts s a ys)
   unfolding stmts_from
   stmts_says zero found ts = refused_says ts _
-  stmts_says (suc j) found ts = if_says (ends_section s n rec ts) (Ok (found, ts)) _ ts _ (λ yes. ok_says found ts _ ([], sym (append-nil found), AreStmts.no_statement))
+  stmts_says (suc j) found ts = if_says (ends_section ts) (Ok (found, ts)) _ ts _ (λ yes. ok_says found ts _ ([], sym (append-nil found), AreStmts.no_statement))
       (λ other. bind_says (rec ts) _ ts (λ a v. IsStmt s 0 a v) _ (any_says ts) (λ a v r g. weaker (stmts_from s n rec j (found ++ v ∷ []) r) r _ _ (λ b zs q. (v ∷ q.0, q.1 ∙ append_assoc found (v ∷ []) q.0, AreStmts.statements a b v q.0 g q.2)) (stmts_says j (found ++ v ∷ []) r)))
 
   -- a section, before others
@@ -227,18 +227,18 @@ module _ (s : TypeNames) (n : ℕ) (rec : Parser Stmt) (sound : SoundS s rec) wh
       (long_of t a b o c v z q y kind h (subst (λ x. IsStmt s x b z) (ap (λ b. cond b 1 0) yes) g) (word_is w.Else o.kind yes) j))))
       (λ other. done_r (u.If v z None) b (o ∷ r) (λ c q y. IsStmt s (else_at y) (t ∷ (a ++ c)) q) (short_of t a b v z (o ∷ r) kind h g other))
 
-  choice_says : (t : Lexeme) (ts : List Lexeme) → t.kind ≡ k.Word w.If → SaysR (choice s n rec ts) ts (λ a v r. Made (t ∷ a) v r)
-  unfolding choice
-  choice_says t ts kind = then_r (condition s n ts) _ ts (InBrackets s n) _ (condition_says s n ts) (λ a v r h. bind_r (rec r) _ r Made _ (sound r) (λ b z y g. alternative_says t a b v z y kind h g))
+  if_else_says : (t : Lexeme) (ts : List Lexeme) → t.kind ≡ k.Word w.If → SaysR (if_else s n rec ts) ts (λ a v r. Made (t ∷ a) v r)
+  unfolding if_else
+  if_else_says t ts kind = then_r (condition s n ts) _ ts (InBrackets s n) _ (condition_says s n ts) (λ a v r h. bind_r (rec r) _ r Made _ (sound r) (λ b z y g. alternative_says t a b v z y kind h g))
 
   while_says : (t : Lexeme) (ts : List Lexeme) → t.kind ≡ k.Word w.While → SaysR (while s n rec ts) ts (λ a v r. Made (t ∷ a) v r)
   unfolding while
   while_says t ts kind = then_r (condition s n ts) _ ts (InBrackets s n) _ (condition_says s n ts) (λ a v r h. bind_r (rec r) _ r Made _ (sound r) (λ b z y g.
       done_r (u.While v z) b y (λ b q y. Made (t ∷ (a ++ b)) q y) (subst (λ c. IsStmt s (else_at y) c (u.While v z)) (sym (ap (λ c. t ∷ (c ++ b)) h.whole_is ∙ grouped t h.left h.inner h.right b)) (IsStmt.while t h.left h.inner h.right b v z kind h.open_is h.is h.close_is g))))
 
-  until_says : (t : Lexeme) (ts : List Lexeme) → t.kind ≡ k.Word w.Do → SaysR (until s n rec ts) ts (λ a v r. Made (t ∷ a) v r)
-  unfolding until
-  until_says t ts kind = then_r (rec ts) _ ts (λ a v. IsStmt s 0 a v) _ (any_says ts) (λ a z r h. expect_word_r w.While _ r _ (λ o y ok. then_r (condition s n y) _ y (InBrackets s n) _ (condition_says s n y) (λ b v x g. expect_r p.Semicolon _ x _ (λ e i ek.
+  do_while_says : (t : Lexeme) (ts : List Lexeme) → t.kind ≡ k.Word w.Do → SaysR (do_while s n rec ts) ts (λ a v r. Made (t ∷ a) v r)
+  unfolding do_while
+  do_while_says t ts kind = then_r (rec ts) _ ts (λ a v. IsStmt s 0 a v) _ (any_says ts) (λ a z r h. expect_word_r w.While _ r _ (λ o y ok. then_r (condition s n y) _ y (InBrackets s n) _ (condition_says s n y) (λ b v x g. expect_r p.Semicolon _ x _ (λ e i ek.
       ok_r (u.Do z v) i _ (subst (λ c. IsStmt s (else_at i) (t ∷ (a ++ (o ∷ (c ++ e ∷ [])))) (u.Do z v)) (sym g.whole_is) (subst (λ c. IsStmt s (else_at i) (t ∷ (a ++ (o ∷ g.left ∷ c))) (u.Do z v)) (sym (append_assoc g.inner (g.right ∷ []) (e ∷ []))) (IsStmt.do_while t a o g.left g.inner g.right e v z kind h ok g.open_is g.is g.close_is ek)))))))
 
   for_says : (t : Lexeme) (ts : List Lexeme) → t.kind ≡ k.Word w.For → SaysR (for s n rec ts) ts (λ a v r. Made (t ∷ a) v r)
@@ -254,11 +254,11 @@ module _ (s : TypeNames) (n : ℕ) (rec : Parser Stmt) (sound : SoundS s rec) wh
       done_r (u.Switch v vs) b i (λ b w' i. Made (t ∷ (a ++ (o ∷ b))) w' i) (subst (λ d. IsStmt s (else_at i) (t ∷ (a ++ (o ∷ b))) (u.Switch v d)) (sym q.1) (subst (λ d. IsStmt s (else_at i) d (u.Switch v q.0)) (sym (ap (λ d. t ∷ (a ++ (o ∷ d))) c.all_is ∙ ap (λ d. t ∷ (d ++ (o ∷ (c.inner ++ c.close ∷ [])))) h.whole_is ∙ grouped t h.left h.inner h.right (o ∷ (c.inner ++ c.close ∷ []))))
       (IsStmt.switch t h.left h.inner h.right o c.inner c.close v q.0 kind h.open_is h.is h.close_is ok c.are c.close_is))))))
 
-  return_says : (t : Lexeme) (ts : List Lexeme) → t.kind ≡ k.Word w.Return → SaysR (return s n rec t.at ts) ts (λ a v r. Made (t ∷ a) v r)
+  return_says : (t : Lexeme) (ts : List Lexeme) → t.kind ≡ k.Word w.Return → SaysR (return s n t.at ts) ts (λ a v r. Made (t ∷ a) v r)
   unfolding return
   return_says t ts kind = then_r (optional s n p.Semicolon ts) _ ts (λ a v. IsOptional s a v) _ (optional_says s n p.Semicolon ts) (λ a v r h. expect_r p.Semicolon _ r _ (λ e i ek. ok_r (u.Return t.at v) i _ (IsStmt.return t a e v kind h ek)))
 
-  value_says : (ts : List Lexeme) → SaysR (value s n rec ts) ts Made
+  value_says : (ts : List Lexeme) → SaysR (value s n ts) ts Made
   unfolding value
   value_says ts = then_r (expression s n ts) _ ts (λ a v. IsWhole s a v) _ (expression_says s n ts) (λ a v r h. expect_r p.Semicolon _ r _ (λ e i ek. ok_r (u.Expression v) i _ (IsStmt.expression a e v h ek)))
 
@@ -270,9 +270,9 @@ module _ (s : TypeNames) (n : ℕ) (rec : Parser Stmt) (sound : SoundS s rec) wh
   stmt_says : (kind : TokenKind) (t : Lexeme) (ts : List Lexeme) → t.kind ≡ kind → SaysR (stmt_by s n rec (head_of kind) (t ∷ ts)) (t ∷ ts) Made
   stmt_says (k.Mark p.LeftBrace) t ts kind = token_r _ t ts _ (block_says t ts kind)
   stmt_says (k.Mark p.Semicolon) t ts kind = token_r (Ok (u.Empty, ts)) t ts _ (ok_r u.Empty ts _ (IsStmt.empty t kind))
-  stmt_says (k.Word w.If) t ts kind = token_r _ t ts _ (choice_says t ts kind)
+  stmt_says (k.Word w.If) t ts kind = token_r _ t ts _ (if_else_says t ts kind)
   stmt_says (k.Word w.While) t ts kind = token_r _ t ts _ (while_says t ts kind)
-  stmt_says (k.Word w.Do) t ts kind = token_r _ t ts _ (until_says t ts kind)
+  stmt_says (k.Word w.Do) t ts kind = token_r _ t ts _ (do_while_says t ts kind)
   stmt_says (k.Word w.For) t ts kind = token_r _ t ts _ (for_says t ts kind)
   stmt_says (k.Word w.Switch) t ts kind = token_r _ t ts _ (switch_says t ts kind)
   stmt_says (k.Word w.Break) t ts kind = token_r _ t ts _ (expect_r p.Semicolon _ ts _ (λ r i rk. ok_r (u.Break t.at) i _ (IsStmt.break t r kind rk)))

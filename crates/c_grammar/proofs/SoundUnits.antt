@@ -4,7 +4,7 @@ use Rattle.c_lexer.specs.declared.token.TokenKind.{TokenKind}
 use Rattle.c_lexer.specs.declared.token.TokenKind.TheVariants as k
 use Rattle.c_lexer.specs.declared.token.Keyword.TheVariants as w
 use Rattle.c_lexer.specs.declared.token.Punct.TheVariants as p
-use Rattle.c_lexer.specs.Pieces.{Lexeme}
+use Rattle.c_lexer.specs.Pieces.{Lexeme, Toks}
 use Rattle.c_tree.specs.declared.types.TypeNode.{TypeNode}
 use Rattle.c_tree.specs.declared.types.Declaration.{Declaration}
 use Rattle.c_tree.specs.declared.statements.Stmt.{Stmt}
@@ -26,12 +26,12 @@ use Rattle.c_grammar.specs.Types.{declaration_of, bare}
 use Rattle.c_grammar.specs.Grammar.{IsExpr, IsDeclarator}
 use Rattle.c_grammar.specs.Specifiers.{IsDeclared, IsSpecifier}
 use Rattle.c_grammar.specs.Statements.{AreItems}
-use Rattle.c_grammar.specs.Units.{IsInit, AreInits, IsStorage, end_by, external_by, IsObject, AreObjects, with_type, AreTypedefs, IsExternal, AreExternals}
+use Rattle.c_grammar.specs.Units.{IsInit, AreInits, IsStorage, end_by, is_function, external_of, IsObject, AreObjects, with_type, AreTypedefs, IsExternal, AreExternals}
 use Rattle.c_grammar.specs.Parser.{ParseOutcome, IsEnd, Parser, and_then, ◌>>=◌, pure, expect}
 use Rattle.c_grammar.specs.ParseExpr.{expr, declarator}
 use Rattle.c_grammar.specs.ParseSpecifiers.{declaration, braced_list_from, specifier}
 use Rattle.c_grammar.specs.ParseStatements.{items_from, stmt}
-use Rattle.c_grammar.specs.ParseUnits.{init_list, init_value, init, typedefs_from, typedefs, object_by, object_named, objects_from, objects_behind, body_behind, objects_named, objects_by, behind_type, stored, external_at, external, externals_behind, externals_from, unit_of, unit}
+use Rattle.c_grammar.specs.ParseUnits.{init_list, init_value, init, typedefs_from, typedefs, object_by, object_named, objects_from, objects_behind, body_behind, objects_named, objects_by, behind_type, behind_storage, external_at, external, externals_behind, externals_from, unit_of, unit}
 use Rattle.c_grammar.specs.Units as units
 use Rattle.c_grammar.proofs.Outcomes.{mark_is}
 use Rattle.c_grammar.proofs.Says.{Says, ok_says, refused_says, bind_says, if_says, token_says, done_says, expect_says, after_says, weaker}
@@ -141,15 +141,15 @@ module _ (s : TypeNames) (n : ℕ) (storage : Option Storage) where
   behind_says ty [] = declared_says ty []
   behind_says ty (t ∷ r) = if_says (is_mark p.Semicolon t.kind) (Ok (x.Tags storage ty ∷ [], r)) _ (t ∷ r) _ (λ yes. token_says (Ok (x.Tags storage ty ∷ [], r)) t r _ (ok_says (x.Tags storage ty ∷ []) r _ (IsBehind.tags t (mark_is p.Semicolon t.kind yes)))) (λ other. declared_says ty (t ∷ r))
 
-  external_of : {ty : TypeNode} {a b c : List Lexeme} {vs : List External} → IsStorage a storage → IsSpecifier s b ty → IsBehind s storage ty c vs → IsExternal s (a ++ (b ++ c)) vs s
-  external_of {ty} {a} {b} h g (IsBehind.tags r kind) = IsExternal.tags a b r storage ty h g kind
-  external_of {ty} {a} {b} h g (IsBehind.objects c r vs o' kind) = IsExternal.objects a b c r storage ty vs h g o' kind
-  external_of {ty} {a} {b} h g (IsBehind.function c l e r d body o' lk q rk) = IsExternal.function a b c l e r storage ty d body h g o' lk q rk
+  external_behind : {ty : TypeNode} {a b c : List Lexeme} {vs : List External} → IsStorage a storage → IsSpecifier s b ty → IsBehind s storage ty c vs → IsExternal s (a ++ (b ++ c)) vs s
+  external_behind {ty} {a} {b} h g (IsBehind.tags r kind) = IsExternal.tags a b r storage ty h g kind
+  external_behind {ty} {a} {b} h g (IsBehind.objects c r vs o' kind) = IsExternal.objects a b c r storage ty vs h g o' kind
+  external_behind {ty} {a} {b} h g (IsBehind.function c l e r d body o' lk q rk) = IsExternal.function a b c l e r storage ty d body h g o' lk q rk
 
-  stored_says : (a ts : List Lexeme) → IsStorage a storage → Says (stored s n storage ts) ts (λ b q. IsExternal s (a ++ b) q.0 q.1)
-  unfolding stored
-  stored_says a ts h = bind_says (specifier s n ts) _ ts (λ b ty. IsSpecifier s b ty) _ (sound_specifier s n ts) (λ b ty r g. bind_says (behind_type s n storage ty r) _ r (λ c vs. IsBehind s storage ty c vs) _ (behind_says ty r) (λ c vs z o'.
-      done_says (vs, s) c z (λ c q. IsExternal s (a ++ (b ++ c)) q.0 q.1) (external_of h g o')))
+  behind_storage_says : (a ts : List Lexeme) → IsStorage a storage → Says (behind_storage s n storage ts) ts (λ b q. IsExternal s (a ++ b) q.0 q.1)
+  unfolding behind_storage
+  behind_storage_says a ts h = bind_says (specifier s n ts) _ ts (λ b ty. IsSpecifier s b ty) _ (sound_specifier s n ts) (λ b ty r g. bind_says (behind_type s n storage ty r) _ r (λ c vs. IsBehind s storage ty c vs) _ (behind_says ty r) (λ c vs z o'.
+      done_says (vs, s) c z (λ c q. IsExternal s (a ++ (b ++ c)) q.0 q.1) (external_behind h g o')))
 
 -- ---- external declarations
 
@@ -160,10 +160,10 @@ typedefs_line s n t ts kind = bind_says (specifier s n ts) _ ts (λ a ty. IsSpec
 
 by_says : (s : TypeNames) (n : ℕ) (kind : TokenKind) (t : Lexeme) (ts : List Lexeme) → t.kind ≡ kind → Says (external_at s n (opening_of kind) (t ∷ ts)) (t ∷ ts) (λ a q. IsExternal s a q.0 q.1)
 by_says s n (k.Word w.Typedef) t ts kind = token_says _ t ts _ (typedefs_line s n t ts kind)
-by_says s n (k.Word w.Static) t ts kind = token_says _ t ts _ (stored_says s n (Some g.Static) (t ∷ []) ts (IsStorage.static t kind))
-by_says s n (k.Word w.Extern) t ts kind = token_says _ t ts _ (stored_says s n (Some g.Extern) (t ∷ []) ts (IsStorage.extern t kind))
-by_says s n (k.Word _) t ts kind = stored_says s n None [] (t ∷ ts) IsStorage.none
-by_says s n _ t ts kind = stored_says s n None [] (t ∷ ts) IsStorage.none
+by_says s n (k.Word w.Static) t ts kind = token_says _ t ts _ (behind_storage_says s n (Some g.Static) (t ∷ []) ts (IsStorage.static t kind))
+by_says s n (k.Word w.Extern) t ts kind = token_says _ t ts _ (behind_storage_says s n (Some g.Extern) (t ∷ []) ts (IsStorage.extern t kind))
+by_says s n (k.Word _) t ts kind = behind_storage_says s n None [] (t ∷ ts) IsStorage.none
+by_says s n _ t ts kind = behind_storage_says s n None [] (t ∷ ts) IsStorage.none
 
 external_says : (s : TypeNames) (n : ℕ) (t : Lexeme) (ts : List Lexeme) → Says (external s n (t ∷ ts)) (t ∷ ts) (λ a q. IsExternal s a q.0 q.1)
 unfolding external
@@ -217,23 +217,23 @@ unit_end size (Err z) tokens r f e = subst (λ w. IsEnd w tokens) (same_end e) (
     same_end e = cc
 
 -- The tokens from the refused one on are the last of them.
-pub refused_end : (text : List ℕ) (tokens r : List Lexeme) → unit text tokens ≡ Err r → IsEnd r tokens
-refused_end text tokens r e = unit_end (length text) (externals_from (length tokens) (record { text = text; types = [] }) [] tokens) tokens r (λ q. externals_end (length tokens) (record { text = text; types = [] }) [] tokens q) e
+pub refused_end : (toks : Toks) (r : List Lexeme) → unit toks ≡ Err r → IsEnd r toks.items
+refused_end toks r e = unit_end toks.size (externals_from (length toks.items) [] [] toks.items) toks.items r (λ q. externals_end (length toks.items) [] [] toks.items q) e
 
 same_tree : {t u : TranslationUnit} → ◌≡◌ {A = Result TranslationUnit (List Lexeme)} (Ok t) (Ok u) → t ≡ u
 same_tree e = cc
 
-unit_sound : (text : List ℕ) (tokens : List Lexeme) (tree : TranslationUnit) (o' : Result (List External) (List Lexeme)) → externals_from (length tokens) (record { text = text; types = [] }) [] tokens ≡ o' → unit_of (length text) o' ≡ Ok tree → units.Reads text tokens tree
-unit_sound text tokens tree (Ok vs) e g =
-    let h = externals_sound (length tokens) (record { text = text; types = [] }) [] vs tokens (omega arith) e in
-    let made : units.Reads text tokens (record { externals = vs; length = length text }) = record { externals = subst (λ z. AreExternals (record { text = text; types = [] }) tokens z) (sym h.1) h.2; length = refl } in
-    subst (λ z. units.Reads text tokens z) (same_tree g) made
-unit_sound text tokens tree (Err r) e g = cc
+unit_sound : (toks : Toks) (tree : TranslationUnit) (o' : Result (List External) (List Lexeme)) → externals_from (length toks.items) [] [] toks.items ≡ o' → unit_of toks.size o' ≡ Ok tree → units.Reads toks tree
+unit_sound toks tree (Ok vs) e g =
+    let h = externals_sound (length toks.items) [] [] vs toks.items (omega arith) e in
+    let made : units.Reads toks (record { externals = vs; length = toks.size }) = record { externals = subst (λ z. AreExternals [] toks.items z) (sym h.1) h.2; length = refl } in
+    subst (λ z. units.Reads toks z) (same_tree g) made
+unit_sound toks tree (Err r) e g = cc
 
 -- The unit that is read is that of the tokens.
-pub sound : (text : List ℕ) (tokens : List Lexeme) (tree : TranslationUnit) → unit text tokens ≡ Ok tree → units.Reads text tokens tree
-sound text tokens tree e = unit_sound text tokens tree (externals_from (length tokens) (record { text = text; types = [] }) [] tokens) refl e
+pub sound : (toks : Toks) (tree : TranslationUnit) → unit toks ≡ Ok tree → units.Reads toks tree
+sound toks tree e = unit_sound toks tree (externals_from (length toks.items) [] [] toks.items) refl e
 
 -- A token list has at most one reading.
-pub one_reading : (text : List ℕ) (tokens : List Lexeme) (t u : TranslationUnit) → units.Reads text tokens t → units.Reads text tokens u → t ≡ u
-one_reading text tokens t u h g = same_tree (sym (complete text tokens t h) ∙ complete text tokens u g)
+pub one_reading : (toks : Toks) (t u : TranslationUnit) → units.Reads toks t → units.Reads toks u → t ≡ u
+one_reading toks t u h g = same_tree (sym (complete toks t h) ∙ complete toks u g)
