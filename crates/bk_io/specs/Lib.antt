@@ -1,3 +1,4 @@
 pub mod Outside
 pub mod Shelf
 pub mod Memory
+pub mod Adapters

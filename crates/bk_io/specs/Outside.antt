@@ -1,5 +1,5 @@
 -- What a contract says of a source, a sink and a store of files.
-use Rattle.std.specs.Prelude.{◌≡◌, ℕ, ◌+◌, ◌-◌, ◌^◌, ◌<◌, ◌⊎◌, List, [], ◌∷◌, ◌++◌, drop, min, Result, Option, is_ok, option_map, if◌then◌else◌}
+use Rattle.std.specs.Prelude.{◌≡◌, ℕ, ◌+◌, ◌-◌, ◌^◌, ◌≤◌, List, [], ◌∷◌, ◌++◌, length, take, drop, min, Result, Ok, Err, Option, is_ok, option_map, if◌then◌else◌}
 
 -- the greatest value that a count has
 abbrev pub count_end : ℕ
@@ -9,14 +9,23 @@ count_end = 2 ^ 64 - 1
 abbrev pub next_count : ℕ → ℕ
 next_count n = min (n + 1) count_end
 
--- the count rose, or stands at its end
-abbrev pub Rose : ℕ → ℕ → Type 0
-Rose old new = (old < new) ⊎ (new ≡ count_end)
+-- the count of faults after a call: one more where it failed, and else as before
+abbrev pub faults_after : {A E : Type 0} → Result A E → ℕ → ℕ
+faults_after r faults = if is_ok r then faults else next_count faults
 
 -- the bytes that a source has left: a call that is answered takes the first, a failed one takes none
 abbrev pub left_after : {A E : Type 0} → Result A E → Option (List ℕ) → Option (List ℕ)
 left_after r left = if is_ok r then option_map (drop 1) left else left
 
+-- the bytes that a sink took, with further ones at the end
+abbrev pub taken_with : List ℕ → Option (List ℕ) → Option (List ℕ)
+taken_with bytes taken = option_map (λ front. front ++ bytes) taken
+
 -- the bytes that a sink took: a call that is answered adds the byte at the end, a failed one adds none
 abbrev pub taken_after : {A E : Type 0} → Result A E → ℕ → Option (List ℕ) → Option (List ℕ)
-taken_after r byte taken = if is_ok r then option_map (λ bytes. bytes ++ byte ∷ []) taken else taken
+taken_after r byte taken = if is_ok r then taken_with (byte ∷ []) taken else taken
+
+-- a slice that is put: all of it was taken, or where the call failed a front of it
+abbrev pub TakesSlice : {A E : Type 0} → Result A E → List ℕ → Option (List ℕ) → Option (List ℕ) → Type 0
+TakesSlice (Ok a) bytes old new = new ≡ taken_with bytes old
+TakesSlice (Err e) bytes old new = (n : ℕ) × (n ≤ length bytes) × (new ≡ taken_with (take n bytes) old)

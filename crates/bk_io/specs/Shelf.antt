@@ -5,6 +5,7 @@ use Rattle.bk_io.specs.Outside.{next_count}
 use Rattle.bk_io.specs.declared.outside.Got.{Got}
 use Rattle.bk_io.specs.declared.outside.Got.TheVariants.{Whole, Cut}
 use Rattle.bk_io.specs.declared.outside.FileFault.{FileFault}
+use Rattle.bk_io.specs.declared.outside.FileFault.TheVariants.{Failed, NoMemory}
 
 -- what a store of files tells: the bytes of each name, how many calls were made, and the numbers of
 -- those that fail
@@ -24,6 +25,12 @@ file_of shelf name = unwrap_or (shelf.bytes_of name) []
 -- the shelf after one more call
 abbrev pub after_call : Shelf → Shelf
 after_call shelf = record shelf { made = next_count shelf.made }
+
+-- the count of faults after a read: one more where it failed for another cause than memory, and else as before
+abbrev pub faults_after_read : Result Got FileFault → ℕ → ℕ
+faults_after_read (Ok got) faults = faults
+faults_after_read (Err Failed) faults = next_count faults
+faults_after_read (Err NoMemory) faults = faults
 
 -- how many bytes a read of at most limit bytes may append, by its answer
 abbrev pub IsCount : Result Got FileFault → ℕ → ℕ → Type 0

@@ -1,12 +1,17 @@
-//! Adapters to the system. They count the calls that fail, and tell nothing of the bytes.
+//! Adapters to the system. They count the calls that fail, and tell nothing of the bytes through the traits;
+//! what they do to the reader or writer under them is said by clauses of their own.
 
-ghost use Rattle.std.specs.Prelude.{◌≡◌, ◌≤◌, ◌+◌, IfOk, OnErr, length};
-ghost use Rattle.bk_io.specs.Outside.{count_end, Rose};
-ghost use Rattle.bk_io.specs.Shelf.{Appends, AppendsSome};
+ghost use Rattle.std.specs.Prelude.{◌≡◌, ◌≤◌, ◌<◌, ◌+◌, IfOk, OnErr, IfErr, length, MatchResult, ⊤};
+ghost use Rattle.std.specs.Io.KnownBytes.{Keeps, IsAtEnd};
+ghost use Rattle.std.specs.Io.Buffered.{reader_remaining};
+ghost use Rattle.bk_io.specs.Outside.{count_end, faults_after, next_count};
+ghost use Rattle.bk_io.specs.Shelf.{faults_after_read, Appends};
+ghost use Rattle.bk_io.specs.Adapters.{GivesByte, Writes, WritesSome, AppendsRead, AppendsPart};
 
 use crate::outside::{Failed, FileFault, Files, Got, Sink, Source};
 use std::alloc::{AllocError, Global};
 use std::io::{BufReader, Read, Write};
+use std::marker::Model;
 use std::{fs, rt};
 
 /// How many bytes of a file one read asks for.
@@ -17,16 +22,43 @@ const CHUNK: usize = 65536;
 pub struct HostSource<R: Read + Drop> {
     reader: BufReader<R>,
     faults: u64,
-    ghost bounded: { faults ≤ count_end },
+}
+
+impl<R: Read + Drop> Model for HostSource<R> {
+    ghost use Rattle.std.specs.Prelude.{◌≤◌};
+    ghost use Rattle.std.specs.Io.Buffered.{reader_remaining};
+    ghost use Rattle.bk_io.specs.Outside.{count_end};
+    ghost use Rattle.bk_io.specs.Adapters.{Inlet};
+
+    ghost Value = { Inlet };
+
+    ghost view = { λ s. record { remaining = reader_remaining R.remaining s.reader; faults = s.faults } };
+
+    ghost invariant = { λ s. s.faults ≤ count_end };
 }
 
 impl<R: Read + Drop> HostSource<R> {
     /// A source over a reader, as the standard input. The buffer is all that it allocates.
-    pub fn new(alloc: Global, reader: R) -> Result<HostSource<R>, AllocError> {
+    pub fn new(alloc: Global, reader: R) -> Result<HostSource<R>, AllocError>
+        ensures remaining { IfOk result (λ s. Keeps (R.remaining reader) s.remaining) }
+        ensures count { IfOk result (λ s. s.faults ≡ 0) }
+    {
         Ok(HostSource {
             reader: BufReader::new(alloc, reader).map_err(|_| AllocError)?,
             faults: 0,
         })
+    }
+}
+
+/// Reads a byte, or finds the end.
+fn read_byte<R: Read>(reader: &mut R) -> Result<Option<u8>, Failed>
+    ensures { GivesByte result (R.remaining reader.old) (R.remaining reader.new) }
+{
+    let mut byte = [0u8; 1];
+    match reader.read(&mut byte) {
+        Ok(0) => Ok(None),
+        Ok(_) => Ok(Some(byte[0])),
+        Err(_) => Err(Failed),
     }
 }
 
@@ -39,55 +71,110 @@ impl<R: Read + Drop> Source for HostSource<R> {
 
     ghost made = { λ _. None };
 
-    fn next(&mut self) -> Result<Option<u8>, Failed> {
-        let mut byte = [0u8; 1];
-        match self.reader.read(&mut byte) {
-            Ok(0) => Ok(None),
-            Ok(_) => Ok(Some(byte[0])),
-            Err(_) => {
-                self.faults = self.faults.saturating_add(1);
-                Err(Failed)
-            }
+    fn next(&mut self) -> Result<Option<u8>, Failed>
+        ensures gives { GivesByte result self.old.remaining self.new.remaining }
+        ensures count { self.new.faults ≡ faults_after result self.old.faults }
+    {
+        let answer = read_byte(&mut self.reader);
+        if answer.is_err() {
+            self.faults = self.faults.saturating_add(1);
         }
+        answer
     }
 }
 
-/// A writer of the system as a sink. Each byte is flushed, so that `Ok` leaves nothing in a buffer.
+/// A writer of the system as a sink. What is put is flushed, so that `Ok` leaves nothing in a buffer.
 #[derive(Drop)]
 pub struct HostSink<W: Write + Drop> {
     writer: W,
     faults: u64,
-    ghost bounded: { faults ≤ count_end },
+}
+
+impl<W: Write + Drop> Model for HostSink<W> {
+    ghost use Rattle.std.specs.Prelude.{◌≤◌};
+    ghost use Rattle.bk_io.specs.Outside.{count_end};
+    ghost use Rattle.bk_io.specs.Adapters.{Outlet};
+
+    ghost Value = { Outlet };
+
+    ghost view = { λ s. record { contents = W.contents s.writer; faults = s.faults } };
+
+    ghost invariant = { λ s. s.faults ≤ count_end };
 }
 
 impl<W: Write + Drop> HostSink<W> {
     /// A sink over a writer, as the standard output. It allocates nothing of its own.
-    pub fn new(_alloc: Global, writer: W) -> Result<HostSink<W>, AllocError> {
+    pub fn new(_alloc: Global, writer: W) -> Result<HostSink<W>, AllocError>
+        ensures { IfOk result (λ s. s ≡ record { contents = W.contents writer; faults = 0 }) }
+    {
         Ok(HostSink { writer, faults: 0 })
     }
 }
 
-/// Writes one byte through to the system. A write of no byte is a failure.
-fn write_through<W: Write>(writer: &mut W, byte: u8) -> Result<(), Failed> {
-    match writer.write(&[byte]) {
+/// Writes some of the bytes, at least one where there are any. A write of none is a failure.
+fn write_some<W: Write>(writer: &mut W, bytes: &[u8]) -> Result<usize, Failed>
+    ensures { WritesSome result bytes.now (W.contents writer.old) (W.contents writer.new) }
+{
+    match writer.write(bytes) {
         Ok(0) | Err(_) => Err(Failed),
-        Ok(_) => writer.flush().map_err(|_| Failed),
+        Ok(count) => Ok(count),
+    }
+}
+
+/// Writes bytes through to the system, in as few calls as it takes.
+fn write_through<W: Write>(writer: &mut W, bytes: &[u8]) -> Result<(), Failed>
+    ensures { Writes result bytes.now (W.contents writer.old) (W.contents writer.new) }
+{
+    let mut at = 0;
+    for _turn in 0..bytes.len() {
+        if at == bytes.len() {
+            break;
+        }
+        at += write_some(writer, &bytes[at..])?;
+    }
+    flush(writer)
+}
+
+/// Leaves nothing in a buffer of the writer.
+fn flush<W: Write>(writer: &mut W) -> Result<(), Failed>
+    ensures { Keeps (W.contents writer.old) (W.contents writer.new) }
+{
+    writer.flush().map_err(|_| Failed)
+}
+
+impl<W: Write + Drop> HostSink<W> {
+    /// Writes bytes through, and counts a failure.
+    fn put_bytes(&mut self, bytes: &[u8]) -> Result<(), Failed>
+        ensures writes { Writes result bytes.now self.old.contents self.new.contents }
+        ensures count { self.new.faults ≡ faults_after result self.old.faults }
+    {
+        let answer = write_through(&mut self.writer, bytes);
+        if answer.is_err() {
+            self.faults = self.faults.saturating_add(1);
+        }
+        answer
     }
 }
 
 impl<W: Write + Drop> Sink for HostSink<W> {
-    ghost use Rattle.std.specs.Prelude.{None};
+    ghost use Rattle.std.specs.Prelude.{None, [], ◌∷◌};
 
     ghost faults = { λ s. s.faults };
 
     ghost taken = { λ _. None };
 
-    fn put(&mut self, byte: u8) -> Result<(), Failed> {
-        let answer = write_through(&mut self.writer, byte);
-        if answer.is_err() {
-            self.faults = self.faults.saturating_add(1);
-        }
-        answer
+    fn put(&mut self, byte: u8) -> Result<(), Failed>
+        ensures writes { Writes result (byte ∷ []) self.old.contents self.new.contents }
+        ensures count { self.new.faults ≡ faults_after result self.old.faults }
+    {
+        self.put_bytes(&[byte])
+    }
+
+    fn put_slice(&mut self, bytes: &[u8]) -> Result<(), Failed>
+        ensures writes { Writes result bytes.now self.old.contents self.new.contents }
+        ensures count { self.new.faults ≡ faults_after result self.old.faults }
+    {
+        self.put_bytes(bytes)
     }
 }
 
@@ -98,6 +185,7 @@ pub struct HostFiles<R: rt::Files + Drop> {
     chunk: Vec<u8>,
     faults: u64,
     ghost bounded: { faults ≤ count_end },
+    ghost some: { 0 < length chunk.items },
 }
 
 impl<R: rt::Files + Drop> HostFiles<R> {
@@ -111,15 +199,19 @@ impl<R: rt::Files + Drop> HostFiles<R> {
     }
 }
 
-/// Reads once, and appends the bytes that came: none at the end of the file.
+/// Reads once, and appends the bytes that came: none only at the end of the file.
 fn append_some<R: Read>(
     reader: &mut R,
     chunk: &mut [u8],
     into: &mut Vec<u8>,
 ) -> Result<usize, FileFault>
-    ensures ok { IfOk result (λ n. AppendsSome n into.old.items into.new.items) }
+    requires { 0 < length chunk.old }
+    ensures ok { IfOk result (λ n. AppendsPart n into.old.items into.new.items (R.remaining reader.old) (R.remaining reader.new)) }
+    ensures end { IfOk result (λ n. n ≡ 0 → IsAtEnd (R.remaining reader.new)) }
     ensures most { IfOk result (λ n. n ≤ length chunk.old) }
+    ensures len { length chunk.new ≡ length chunk.old }
     ensures err { OnErr result (into.new.items ≡ into.old.items) }
+    ensures failed { IfErr result (λ e. e ≡ FileFault.Failed → Keeps (R.remaining reader.old) (R.remaining reader.new)) }
 {
     let count = match reader.read(chunk) {
         Ok(count) => count,
@@ -138,7 +230,8 @@ fn read_up_to<R: Read>(
     into: &mut Vec<u8>,
     limit: u64,
 ) -> Result<Got, FileFault>
-    ensures { Appends result limit into.old.items into.new.items }
+    requires { 0 < length chunk.old }
+    ensures { AppendsRead result limit into.old.items into.new.items (R.remaining reader.old) (R.remaining reader.new) }
 {
     let mut left = limit;
     for _turn in 0..limit {

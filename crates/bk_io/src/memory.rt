@@ -1,10 +1,10 @@
 //! Sources, sinks and files in memory, which tell what they hold and which of their calls fail.
 
-ghost use Rattle.std.specs.Prelude.{◌≡◌, ◌≤◌, ◌↔◌, ◌⊎◌, [], IfOk, OnErr, IsTrue, IsErr, IfErr, IsErrOf, Some, IsNone, IfSome, slice_get, length, map, Contains, option_copied, bytes_eq};
+ghost use Rattle.std.specs.Prelude.{◌≡◌, ◌↔◌, [], IfOk, IsTrue, IsErr, IfErr, Some, IsNone, IfSome, is_ok, not, slice_get, map, Contains, option_copied, bytes_eq};
 ghost use Rattle.std.specs.Map.{lookup};
-ghost use Rattle.bk_io.specs.Outside.{count_end, next_count, Rose, left_after, taken_after};
-ghost use Rattle.bk_io.specs.Shelf.{is_due, file_of, after_call, Appends, AppendsFile};
-ghost use Rattle.bk_io.specs.Memory.{shelf_at, shelf_of, named};
+ghost use Rattle.bk_io.specs.Outside.{next_count, faults_after, left_after, taken_after, TakesSlice};
+ghost use Rattle.bk_io.specs.Shelf.{is_due, file_of, Appends, AppendsFile};
+ghost use Rattle.bk_io.specs.Memory.{shelf_at, shelf_of, named, is_put_due, after_put, after_puts, all_put};
 
 use crate::outside::{Failed, FileFault, Files, Got, Sink, Source};
 use std::alloc::{AllocError, Global};
@@ -59,9 +59,7 @@ impl Source for MemSource {
         ensures made { self.new.made ≡ next_count self.old.made }
         ensures failing { self.new.failing ≡ self.old.failing }
         ensures due { IsErr result ↔ Contains self.old.failing self.old.made }
-        ensures kept { self.old.faults ≤ self.new.faults }
-        ensures bounded { self.new.faults ≤ count_end }
-        ensures failed { OnErr result (Rose self.old.faults self.new.faults) }
+        ensures count { self.new.faults ≡ faults_after result self.old.faults }
     {
         let call = self.made;
         self.made = self.made.saturating_add(1);
@@ -128,14 +126,10 @@ impl Sink for MemSink {
     ghost taken = { λ s. Some s.taken };
 
     fn put(&mut self, byte: u8) -> Result<(), Failed>
+        ensures puts { self.new ≡ after_put self.old byte }
+        ensures due { is_ok result ≡ not (is_put_due self.old) }
         ensures taken { Some self.new.taken ≡ taken_after result byte (Some self.old.taken) }
-        ensures made { self.new.made ≡ next_count self.old.made }
-        ensures failing { self.new.failing ≡ self.old.failing }
-        ensures room { self.new.room ≡ self.old.room }
-        ensures due { IsErr result ↔ (Contains self.old.failing self.old.made ⊎ (length self.old.taken ≡ self.old.room)) }
-        ensures kept { self.old.faults ≤ self.new.faults }
-        ensures bounded { self.new.faults ≤ count_end }
-        ensures failed { OnErr result (Rose self.old.faults self.new.faults) }
+        ensures count { self.new.faults ≡ faults_after result self.old.faults }
     {
         let call = self.made;
         self.made = self.made.saturating_add(1);
@@ -144,6 +138,18 @@ impl Sink for MemSink {
             return Err(Failed);
         }
         self.bytes.push_reserved(byte);
+        Ok(())
+    }
+
+    fn put_slice(&mut self, bytes: &[u8]) -> Result<(), Failed>
+        ensures puts { self.new ≡ after_puts self.old bytes.now }
+        ensures all { is_ok result ≡ all_put self.old bytes.now }
+        ensures taken { TakesSlice result bytes.now (Some self.old.taken) (Some self.new.taken) }
+        ensures count { self.new.faults ≡ faults_after result self.old.faults }
+    {
+        for &byte in bytes {
+            self.put(byte)?;
+        }
         Ok(())
     }
 }

@@ -1,8 +1,8 @@
 //! The traits of the outside: a source of bytes, a sink of bytes, and a store of named files.
 
-ghost use Rattle.std.specs.Prelude.{◌≡◌, ℕ, ◌≤◌, ◌↔◌, List, drop, length, IfOk, IfSome, OnErr, IsTrue, IsErrOf, Option, option_map, slice_get};
-ghost use Rattle.bk_io.specs.Outside.{count_end, next_count, Rose, left_after, taken_after};
-ghost use Rattle.bk_io.specs.Shelf.{Shelf, is_due, file_of, after_call, Appends, AppendsFile};
+ghost use Rattle.std.specs.Prelude.{◌≡◌, ℕ, ◌↔◌, List, IfOk, IfSome, IsTrue, IsErrOf, Option, option_map, slice_get};
+ghost use Rattle.bk_io.specs.Outside.{next_count, faults_after, left_after, taken_after, TakesSlice};
+ghost use Rattle.bk_io.specs.Shelf.{Shelf, is_due, file_of, after_call, faults_after_read, Appends, AppendsFile};
 
 use thiserror::Error;
 
@@ -31,7 +31,7 @@ pub enum Got {
 
 /// A source of bytes.
 pub trait Source {
-    /// How many faults there were so far, at most 2^64 - 1.
+    /// How many faults there were so far, at most 2^64 - 1: one for each call that failed.
     ghost faults: { Self → ℕ };
 
     /// The bytes that are left, where the source tells them.
@@ -45,14 +45,12 @@ pub trait Source {
         ensures byte { IfOk result (λ byte. IfSome (left self.old) (λ bytes. byte ≡ slice_get bytes 0)) }
         ensures left { left self.new ≡ left_after result (left self.old) }
         ensures made { made self.new ≡ option_map next_count (made self.old) }
-        ensures kept { faults self.old ≤ faults self.new }
-        ensures bounded { faults self.new ≤ count_end }
-        ensures failed { OnErr result (Rose (faults self.old) (faults self.new)) };
+        ensures count { faults self.new ≡ faults_after result (faults self.old) };
 }
 
 /// A sink of bytes.
 pub trait Sink {
-    /// How many faults there were so far, at most 2^64 - 1.
+    /// How many faults there were so far, at most 2^64 - 1: one for each call that failed.
     ghost faults: { Self → ℕ };
 
     /// The bytes that were taken, where the sink tells them.
@@ -61,14 +59,23 @@ pub trait Sink {
     /// Takes a byte at the end. A failed call takes none.
     fn put(&mut self, byte: u8) -> Result<(), Failed>
         ensures taken { taken self.new ≡ taken_after result byte (taken self.old) }
-        ensures kept { faults self.old ≤ faults self.new }
-        ensures bounded { faults self.new ≤ count_end }
-        ensures failed { OnErr result (Rose (faults self.old) (faults self.new)) };
+        ensures count { faults self.new ≡ faults_after result (faults self.old) };
+
+    /// Takes bytes at the end, in order. A failed call takes a front of them.
+    fn put_slice(&mut self, bytes: &[u8]) -> Result<(), Failed>
+        ensures taken { TakesSlice result bytes.now (taken self.old) (taken self.new) }
+        ensures count { faults self.new ≡ faults_after result (faults self.old) }
+    {
+        for &byte in bytes {
+            self.put(byte)?;
+        }
+        Ok(())
+    }
 }
 
 /// A store of named files.
 pub trait Files {
-    /// How many faults there were so far, at most 2^64 - 1.
+    /// How many faults there were so far, at most 2^64 - 1: one for each call that failed.
     ghost faults: { Self → ℕ };
 
     /// The bytes of each name, the calls so far and those that fail, where the store tells them.
@@ -81,7 +88,5 @@ pub trait Files {
         ensures file { IfSome (told self.old) (λ shelf. AppendsFile result limit (file_of shelf name.now) into.old.items into.new.items) }
         ensures due { IfSome (told self.old) (λ shelf. IsErrOf result FileFault.Failed ↔ IsTrue (is_due shelf name.now)) }
         ensures told { told self.new ≡ option_map after_call (told self.old) }
-        ensures kept { faults self.old ≤ faults self.new }
-        ensures bounded { faults self.new ≤ count_end }
-        ensures failed { IsErrOf result FileFault.Failed → Rose (faults self.old) (faults self.new) };
+        ensures count { faults self.new ≡ faults_after_read result (faults self.old) };
 }

@@ -1,27 +1,26 @@
-use Rattle.std.proofs.Common.{◌≡◌, ℕ, ◌+◌, ◌-◌, List, ◌++◌, length, ◌∙◌, ap, append_assoc, length-append, length-take, arith}
-use Rattle.bk_io.specs.Shelf.{AppendsSome}
-use Rattle.bk_io.proofs.host.read_up_to.Goals as goal
+use Rattle.std.proofs.Common.{◌≡◌, ℕ, ◌+◌, List, ◌++◌, ◌∙◌, sym, ap, append_assoc, length-append, arith, Option, Some, None}
+use Rattle.std.specs.Io.KnownBytes.{Keeps, Consumes}
+use Rattle.bk_io.specs.Adapters.{AppendsPart}
+
+-- what is consumed twice is consumed once
+consumes_both : (old mid new : Option (List ℕ)) (xs ys : List ℕ) → Consumes old mid xs → Consumes mid new ys → Consumes old new (xs ++ ys)
+consumes_both None mid new xs ys first second = tt
+consumes_both (Some a) None new xs ys first second = elim first [ ]
+consumes_both (Some a) (Some b) None xs ys first second = elim second [ ]
+consumes_both (Some a) (Some b) (Some c) xs ys first second = first ∙ ap (λ rest. xs ++ rest) second ∙ sym (append_assoc xs ys c)
 
 -- what is appended twice is appended once
-both : (m n k : ℕ) (old mid new : List ℕ) → AppendsSome m old mid → AppendsSome n mid new → m + n ≡ k → AppendsSome k old new
-both m n k old mid new first second whole = (
+both : (m n k : ℕ) (old mid new : List ℕ) (r s t : Option (List ℕ)) → AppendsPart m old mid r s → AppendsPart n mid new s t → m + n ≡ k → AppendsPart k old new r t
+both m n k old mid new r s t first second whole = (
   first.0 ++ second.0,
   second.1 ∙ ap (λ front. front ++ second.0) first.1 ∙ append_assoc old first.0 second.0,
   length-append first.0 second.0 ∙ omega (arith, first.2, second.2),
+  consumes_both r s t first.0 second.0 first.3 second.3,
 )
 
-pub returns-then-count-eq0 : goal.returns-then-count-eq0
-returns-then-count-eq0 g c =
-    let whole : AppendsSome (c.args.limit - c.loop-turn.left) c.args.into.now.items c.append_some.new.into.items =
-    both _ _ _ _ _ _ c.loop-turn.invariant.appended c.in_ok-count.ensures.ok (omega arith) in
-    (whole.0, whole.1, let length_is : length whole.0 ≡ c.args.limit - c.loop-turn.left = whole.2 in omega (arith, length_is))
-
-pub loop-turn-preserved : goal.loop-turn-preserved
-loop-turn-preserved g c = record {
-  appended = both _ _ _ _ _ _ c.loop-turn.invariant.appended c.in_ok-count.ensures.ok (omega arith);
-  within = omega arith;
-  more = λ _. omega arith;
-}
-
-pub returns-then-left-eq0 : goal.returns-then-left-eq0
-returns-then-left-eq0 g c = both _ _ _ _ _ _ c.loop-turn.invariant.appended c.in_ok-count.ensures.ok (omega (arith, c.in_ok-count.ensures.most, length-take {A = ℕ}))
+-- a read that fails leaves what was consumed
+kept_after : (old mid new : Option (List ℕ)) (xs : List ℕ) → Consumes old mid xs → Keeps mid new → Consumes old new xs
+kept_after None mid new xs first same = tt
+kept_after (Some a) None new xs first same = elim first [ ]
+kept_after (Some a) (Some b) None xs first same = elim same [ ]
+kept_after (Some a) (Some b) (Some c) xs first same = first ∙ ap (λ rest. xs ++ rest) (sym same)
