@@ -18,8 +18,6 @@ use Rattle.c_tree.specs.declared.declarations.TranslationUnit.{TranslationUnit}
 use Rattle.c_tree.specs.Nodes.{node_count, nodes_count, nodes_of, stmt_node, member_node, constant_node, local_node, first_nodes, part_of_for, optional, label_nodes, section_node, init_node, optional_init, external_node, unit_nodes}
 use Rattle.c_tree.proofs.Counts as n
 use Rattle.c_tree.proofs.Counts.{expr_count, type_count, stmt_count, init_count, list_count, nodes_count-append_nodes, list_count-append}
-use Rattle.c_grammar.specs.declared.shapes.Shape.{Shape}
-use Rattle.c_grammar.specs.declared.shapes.Shape.TheVariants as sh
 use Rattle.c_grammar.specs.declared.shapes.Naming.{Naming}
 use Rattle.c_grammar.specs.Tokens.{TypeNames}
 use Rattle.c_grammar.specs.Types.{bare, declaration_of}

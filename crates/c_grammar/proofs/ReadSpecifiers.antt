@@ -15,7 +15,6 @@ use Rattle.c_grammar.specs.declared.shapes.Declarator.{Declarator}
 use Rattle.c_grammar.specs.declared.shapes.Naming.{Naming}
 use Rattle.c_grammar.specs.Classes.{specifier_of, begins_type_by}
 use Rattle.c_grammar.specs.Levels.{binding_level}
-use Rattle.c_grammar.specs.declared.word_set.WordSet.{WordSet}
 use Rattle.c_grammar.specs.WordSets.{no_words}
 use Rattle.c_grammar.specs.Tokens.{TypeNames, is_type, is_mark, is_name, kind_at, begins_type}
 use Rattle.c_grammar.specs.Types.{may_be_nameless}

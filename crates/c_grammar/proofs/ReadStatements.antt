@@ -21,7 +21,7 @@ use Rattle.c_grammar.specs.Tokens.{TypeNames, is_mark, is_word, kind_at, is_type
 use Rattle.c_grammar.specs.Grammar.{IsWhole}
 use Rattle.c_grammar.specs.Statements.{IsLocal, AreLocals, IsLine, IsOptional, IsFirst, IsLabel, IsStmt}
 use Rattle.c_grammar.specs.ParseExpr.{list_from}
-use Rattle.c_grammar.specs.ParseStatements.{expression, local, line, optional, condition, first_value, first, case_label, label, ends_section, stmt}
+use Rattle.c_grammar.specs.ParseStatements.{expression, local, line, optional, condition, first_value, first, case_label, label, ends_section}
 use Rattle.c_grammar.proofs.Outcomes.{no_true, fails, is_mark_of, word_is, is_word_of, expect_at, expect_word_at}
 use Rattle.c_grammar.proofs.Facts.{infix_at, weak, no_type, begins_no_mark, type_no_mark}
 use Rattle.c_grammar.proofs.ReadPlain.{plain_read, plain_begins, BeginsType}

@@ -1,5 +1,5 @@
 -- A specifier that is read is in the grammar.
-use Rattle.std.proofs.Common.{◌≡◌, ℕ, zero, suc, Bool, true, false, cond, List, [], ◌∷◌, ◌++◌, length, Option, Some, None, Err, refl, sym, ap, ◌∙◌, subst}
+use Rattle.std.proofs.Common.{◌≡◌, ℕ, zero, suc, Bool, true, false, cond, List, [], ◌∷◌, ◌++◌, length, Option, Some, None, refl, sym, ap, ◌∙◌, subst}
 use Rattle.c_lexer.specs.declared.token.TokenKind.{TokenKind}
 use Rattle.c_lexer.specs.declared.token.TokenKind.TheVariants as k
 use Rattle.c_lexer.specs.declared.token.Keyword.TheVariants as w
@@ -19,7 +19,7 @@ use Rattle.c_grammar.specs.declared.word_set.Sign.TheVariants as g
 use Rattle.c_grammar.specs.declared.word_set.WordSet.{WordSet}
 use Rattle.c_grammar.specs.Classes.{specifier_of}
 use Rattle.c_grammar.specs.WordSets.{no_words, with_word, basic_by, basic_of}
-use Rattle.c_grammar.specs.Tokens.{TypeNames, is_type, is_name, behind, place}
+use Rattle.c_grammar.specs.Tokens.{TypeNames, is_type, is_name}
 use Rattle.c_grammar.specs.Grammar.{AreConsts, AreWords, IsPlain}
 use Rattle.c_grammar.specs.Parser.{Parser, consts}
 use Rattle.c_grammar.specs.declared.shapes.SpecifierStart.TheVariants as ss

@@ -4,6 +4,8 @@ ghost use Rattle.std.specs.Prelude.{◌≡◌, ◌≤◌, ◌*◌, List, ℕ, le
 ghost use Rattle.c_lexer.specs.Pieces.{Lexeme, Toks};
 ghost use Rattle.c_tree.specs.declared.declarations.TranslationUnit.{TranslationUnit};
 ghost use Rattle.c_tree.specs.Nodes.{unit_nodes};
+ghost use Rattle.c_grammar.specs.Levels as grammar;
+ghost use Rattle.c_grammar.specs.declared.levels.TheConstants as code;
 ghost use Rattle.c_grammar.specs.Units.{Reads};
 ghost use Rattle.c_grammar.specs.Parser.{IsEnd};
 ghost use Rattle.c_grammar.specs.ParseUnits.{unit};
@@ -27,4 +29,14 @@ pub fn nodes_are_few()
 /// What the function `unit` refuses are the last of the tokens, from the refused one on.
 pub fn refused_tokens_are_the_last()
     ensures { (toks : Toks) (rest : List Lexeme) → unit toks ≡ Err rest → IsEnd rest toks.items }
+{}
+
+/// The levels that parsers name are those of the grammar.
+pub fn levels_are_of_the_grammar()
+    ensures assignment { code.ASSIGNMENT ≡ grammar.assignment }
+    ensures conditional { code.CONDITIONAL ≡ grammar.conditional }
+    ensures cast { code.CAST ≡ grammar.cast }
+    ensures unary { code.UNARY ≡ grammar.unary }
+    ensures postfix { code.POSTFIX ≡ grammar.postfix }
+    ensures primary { code.PRIMARY ≡ grammar.primary }
 {}

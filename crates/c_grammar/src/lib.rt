@@ -12,7 +12,7 @@ pub use classes::{
     Head, Infix, Opening, Prefix, Specifier, TypeWord, head_of, infix_of, opening_of, prefix_of,
     specifier_of,
 };
-pub use shapes::{DeclaredName, Declarator, Naming, Shape, SpecifierStart};
+pub use shapes::{Declarator, DeclaredName, Naming, Shape, SpecifierStart};
 pub use word_set::{BaseWord, Sign, WordSet};
 
 #[cfg(test)]
