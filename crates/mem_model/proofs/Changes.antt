@@ -1,18 +1,17 @@
 -- What a memory with other cells in one object keeps, and what it gives back.
-use Rattle.std.proofs.Common.{◌≡◌, ◌≢◌, ℕ, zero, suc, ◌+◌, ◌/◌, ◌<◌, ◌≤◌, ◌⊎◌, Bool, true, false, List, [], ◌∷◌, length, take, drop, Ok, refl, sym, ap, ◌∙◌, subst, arith, inl, inr, map, length-set}
+use Rattle.std.proofs.Common.{◌≡◌, ◌≢◌, ℕ, zero, suc, ◌+◌, ◌/◌, ◌<◌, ◌≤◌, ◌⊎◌, Bool, true, false, List, [], ◌∷◌, length, take, drop, Ok, Option, Some, None, Result, refl, sym, ap, ◌∙◌, subst, arith, inl, inr, map, length-set}
 use Rattle.std.specs.Prelude.{◌||◌, ◌&&◌, not, nat_lt}
 use Rattle.std.proofs.lemmas.Bool.{cases_eq}
-use Rattle.std.proofs.lemmas.List.{get_or-set_same, get_or-set_other, length-map, nil_from_length, get_or_push, get_or_append_left}
+use Rattle.std.proofs.lemmas.List.{get_or-set_same, get_or-set_other, length-map, nil_from_length}
 use Rattle.mem_model.specs.Cells.{value_or_fault, cells_of, bytes_of, parts_of, with_row}
-use Rattle.mem_model.specs.Memory.{Memory, object_at, no_object, place_of, is_within, is_gone, is_outside, is_misaligned, is_read_only, overlaps, first_fault, unless, row_at, put_row, load_at, store_at, copy_at, init_at, byte_of, IsWidth, IsStorable, fresh_object}
-use Rattle.mem_model.specs.Laws.{Apart, ChangesCells, EndChanges, MakeChanges}
+use Rattle.mem_model.specs.Memory.{Memory, Object, object_at, no_object, place_of, is_within, is_gone, is_outside, is_misaligned, is_read_only, overlaps, first_fault, read_fault, unless, row_at, put_row, load_at, store_at, copy_at, init_at, byte_of, IsWidth, IsStorable}
+use Rattle.mem_model.specs.Laws.{Apart, ChangesCells, CanPut, IsPut, SameFaults, IsLoad}
 use Rattle.mem_model.specs.declared.value.Ptr.{Ptr}
 use Rattle.mem_model.specs.declared.value.Value.{Value}
 use Rattle.mem_model.specs.declared.value.Value.TheVariants.{Word, Address, Unset}
 use Rattle.mem_model.specs.declared.value.Cell.{Cell}
 use Rattle.mem_model.specs.declared.value.MemFault.{MemFault}
 use Rattle.mem_model.specs.declared.value.MemFault.TheVariants.{NoObject, Outside, Misaligned, ReadOnly}
-use Rattle.mem_model.specs.declared.memory.Object.{Object}
 use Rattle.mem_model.proofs.Accesses.{gone-within, inside}
 use Rattle.mem_model.proofs.RowLaws.{length-with_row, with_row-none, take-drop-with_row, take-drop-with_row_apart, length-row}
 
@@ -109,6 +108,9 @@ module _ (m new : Memory) (id : ℕ) (changes : ChangesCells m new id) where
   pub size-kept : (k : ℕ) → length (object_at new k).cells ≡ length (object_at m k).cells
   size-kept k = elim (cases_eq k id) [ inl e ↦ subst (λ j. length (object_at new j).cells ≡ length (object_at m j).cells) (sym e) changes.size | inr ne ↦ ap (λ (x : Object). length x.cells) (changes.others k ne) ]
 
+  pub writable-kept : (k : ℕ) → (object_at new k).writable ≡ (object_at m k).writable
+  writable-kept k = elim (cases_eq k id) [ inl e ↦ subst (λ j. (object_at new j).writable ≡ (object_at m j).writable) (sym e) changes.writable | inr ne ↦ ap (λ (x : Object). x.writable) (changes.others k ne) ]
+
   pub gone-kept : (q : Ptr) → is_gone new q ≡ is_gone m q
   gone-kept q = ap not (live-kept q.object)
 
@@ -151,28 +153,33 @@ length-cells_of width (Word n) h = length-bytes_of width n
 length-cells_of width (Address p) h = sym h
 length-cells_of width Unset h = absurd h
 
--- a store, a copy and an initialisation as a memory with other cells
-pub store_changes : (m new : Memory) (p : Ptr) (width : ℕ) (v : Value) → IsWidth width → IsStorable width v → store_at m p width v ≡ Ok new → ChangesCells m new p.object
-store_changes m new p width v wide fit e =
-    let f = store_at-ok m new p width v e in
-    subst (λ n. ChangesCells m n p.object) f.is (changes_cells m p (cells_of width v) f.first (outside-stands m p (cells_of width v) width (length-cells_of width v fit) f.second))
+-- a row that can be put has its place
+pub can-stands : (m : Memory) (p : Ptr) (row : List Cell) → CanPut m p row → MayStand m p row
+can-stands m p row can = outside-stands m p row (length row) refl can.within
 
-pub store_keeps : (m new : Memory) (p q : Ptr) (width other : ℕ) (v : Value) (pointer : Bool) → IsWidth width → IsStorable width v → store_at m p width v ≡ Ok new → Apart p width q other → load_at new q other pointer ≡ load_at m q other pointer
-store_keeps m new p q width other v pointer wide fit e apart =
-    let f = store_at-ok m new p width v e in
-    let len : length (cells_of width v) ≡ width = length-cells_of width v fit in
-    subst (λ n. load_at n q other pointer ≡ load_at m q other pointer) f.is (load_at-apart m p (cells_of width v) f.first (outside-stands m p (cells_of width v) width len f.second) q other pointer (subst (λ n. Apart p n q other) (sym len) apart))
+pub put_changes : (m : Memory) (p : Ptr) (row : List Cell) → CanPut m p row → ChangesCells m (put_row m p row) p.object
+put_changes m p row can = changes_cells m p row can.live (can-stands m p row can)
 
-pub init_changes : (m new : Memory) (p : Ptr) (values : List Value) → init_at m p values ≡ Ok new → ChangesCells m new p.object
-init_changes m new p values e =
-    let f = init_at-ok m new p values e in
-    subst (λ n. ChangesCells m n p.object) f.is (changes_cells m p (map byte_of values) f.first (outside-stands m p (map byte_of values) (length values) (length-map values byte_of) f.second))
+pub put_gives : (m : Memory) (p : Ptr) (row : List Cell) → CanPut m p row → row_at (put_row m p row) p (length row) ≡ row
+put_gives m p row can = row_at-here m p row can.live (can-stands m p row can)
 
-pub init_keeps : (m new : Memory) (p q : Ptr) (values : List Value) (other : ℕ) (pointer : Bool) → init_at m p values ≡ Ok new → Apart p (length values) q other → load_at new q other pointer ≡ load_at m q other pointer
-init_keeps m new p q values other pointer e apart =
-    let f = init_at-ok m new p values e in
-    let len : length (map byte_of values) ≡ length values = length-map values byte_of in
-    subst (λ n. load_at n q other pointer ≡ load_at m q other pointer) f.is (load_at-apart m p (map byte_of values) f.first (outside-stands m p (map byte_of values) (length values) len f.second) q other pointer (subst (λ n. Apart p n q other) (sym len) apart))
+pub put_keeps : (m : Memory) (p q : Ptr) (row : List Cell) (other : ℕ) → CanPut m p row → Apart p (length row) q other → row_at (put_row m p row) q other ≡ row_at m q other
+put_keeps m p q row other can apart = row_at-apart m p row can.live (can-stands m p row can) q other apart
+
+pub put_keeps_loads : (m : Memory) (p q : Ptr) (row : List Cell) (other : ℕ) (pointer : Bool) → CanPut m p row → Apart p (length row) q other → load_at (put_row m p row) q other pointer ≡ load_at m q other pointer
+put_keeps_loads m p q row other pointer can apart = load_at-apart m p row can.live (can-stands m p row can) q other pointer apart
+
+-- what puts a row of so many cells
+put_is : (m new : Memory) (p : Ptr) (size : ℕ) (row : List Cell) → is_gone m p ≡ false → is_outside m p size ≡ false → length row ≡ size → put_row m p row ≡ new → IsPut m new p size row
+put_is m new p size row live within len is = record { can = record { live = live; within = ap (is_outside m p) len ∙ within }; size_is = len; is = sym is }
+
+pub store_puts : (m new : Memory) (p : Ptr) (width : ℕ) (v : Value) → IsWidth width → IsStorable width v → store_at m p width v ≡ Ok new → IsPut m new p width (cells_of width v)
+store_puts m new p width v wide fit e =
+    let f = store_at-ok m new p width v e in put_is m new p width (cells_of width v) f.first f.second (length-cells_of width v fit) f.is
+
+pub init_puts : (m new : Memory) (p : Ptr) (values : List Value) → init_at m p values ≡ Ok new → IsPut m new p (length values) (map byte_of values)
+init_puts m new p values e =
+    let f = init_at-ok m new p values e in put_is m new p (length values) (map byte_of values) f.first f.second (length-map values byte_of) f.is
 
 -- none of three tests
 none_left : (a b : Bool) → (a || b) ≡ false → (a ≡ false) × (b ≡ false)
@@ -190,6 +197,7 @@ length-row_at m p size within = elim (cases_eq size 0) [ inl none ↦ ap (λ n. 
 
 pub record Copied (m new : Memory) (to from : Ptr) (size : ℕ) : Type 0 where
   pub live : is_gone m to ≡ false
+  pub within : is_outside m to size ≡ false
   pub stands : MayStand m to (row_at m from size)
   pub len : length (row_at m from size) ≡ size
   pub is : put_row m to (row_at m from size) ≡ new
@@ -201,16 +209,15 @@ copy_is m new to from size align e =
     let out = none_left (is_outside m to size || is_outside m from size) (overlaps to from size) f.second in
     let outs = none_left (is_outside m to size) (is_outside m from size) out.0 in
     let len : length (row_at m from size) ≡ size = length-row_at m from size outs.1 in
-    record { live = gone.0; stands = outside-stands m to (row_at m from size) size len outs.0; len = len; is = f.is }
+    record { live = gone.0; within = outs.0; stands = outside-stands m to (row_at m from size) size len outs.0; len = len; is = f.is }
 
 pub copy_changes : (m new : Memory) (to from : Ptr) (size align : ℕ) → copy_at m to from size align ≡ Ok new → ChangesCells m new to.object
 copy_changes m new to from size align e =
     let f = copy_is m new to from size align e in subst (λ n. ChangesCells m n to.object) f.is (changes_cells m to (row_at m from size) f.live f.stands)
 
-pub copy_keeps : (m new : Memory) (to from q : Ptr) (size align other : ℕ) (pointer : Bool) → copy_at m to from size align ≡ Ok new → Apart to size q other → load_at new q other pointer ≡ load_at m q other pointer
-copy_keeps m new to from q size align other pointer e apart =
-    let f = copy_is m new to from size align e in
-    subst (λ n. load_at n q other pointer ≡ load_at m q other pointer) f.is (load_at-apart m to (row_at m from size) f.live f.stands q other pointer (subst (λ n. Apart to n q other) (sym f.len) apart))
+pub copy_puts : (m new : Memory) (to from : Ptr) (size align : ℕ) → copy_at m to from size align ≡ Ok new → IsPut m new to size (row_at m from size)
+copy_puts m new to from size align e =
+    let f = copy_is m new to from size align e in put_is m new to size (row_at m from size) f.live f.within f.len f.is
 
 pub copy_gives : (m new : Memory) (to from : Ptr) (size align : ℕ) → copy_at m to from size align ≡ Ok new → row_at new to size ≡ row_at m from size
 copy_gives m new to from size align e =
@@ -232,15 +239,27 @@ copy_parts m new to from size align e =
     let outs = none_left (is_outside m to size) (is_outside m from size) out.0 in
     record { to_live = gone.0; from_live = gone.1; target = outs.0; source = outs.1 }
 
-pub end_changes : (m : Memory) (id : ℕ) → EndChanges m id
-end_changes m id = record {
-  count = length-set m id _;
-  here = λ within. get_or-set_same m id _ no_object within;
-  others = λ k ne. get_or-set_other m id k _ no_object ne;
+-- the faults of accesses where one object has other cells
+pub changes_keep_faults : (m new : Memory) (id : ℕ) → ChangesCells m new id → SameFaults m new
+changes_keep_faults m new id changes = record {
+  range = λ q size.
+      ap (λ b. first_fault ((b, NoObject) ∷ (is_outside new q size, Outside) ∷ [])) (gone-kept m new id changes q)
+      ∙ ap (λ b. first_fault ((is_gone m q, NoObject) ∷ (b, Outside) ∷ [])) (outside-kept m new id changes q size);
+  reading = λ q size align.
+      ap (λ b. first_fault ((b, NoObject) ∷ (is_outside new q size, Outside) ∷ (is_misaligned q align, Misaligned) ∷ [])) (gone-kept m new id changes q)
+      ∙ ap (λ b. first_fault ((is_gone m q, NoObject) ∷ (b, Outside) ∷ (is_misaligned q align, Misaligned) ∷ [])) (outside-kept m new id changes q size);
+  writing = λ q size align.
+      ap (λ b. first_fault ((b, NoObject) ∷ (is_outside new q size, Outside) ∷ (is_misaligned q align, Misaligned) ∷ (is_read_only new q, ReadOnly) ∷ [])) (gone-kept m new id changes q)
+      ∙ ap (λ b. first_fault ((is_gone m q, NoObject) ∷ (b, Outside) ∷ (is_misaligned q align, Misaligned) ∷ (is_read_only new q, ReadOnly) ∷ [])) (outside-kept m new id changes q size)
+      ∙ ap (λ b. first_fault ((is_gone m q, NoObject) ∷ (is_outside m q size, Outside) ∷ (is_misaligned q align, Misaligned) ∷ (b, ReadOnly) ∷ [])) (ap not (writable-kept m new id changes q.object));
 }
 
-pub make_changes : (m : Memory) (size : ℕ) (writable : Bool) → MakeChanges m size writable
-make_changes m size writable = record {
-  here = get_or_push m (fresh_object size writable) no_object (length m) refl;
-  others = λ k within. get_or_append_left m (fresh_object size writable ∷ []) no_object k within;
-}
+-- a load that gave a value
+free_load : (f : Option MemFault) (r : Result Value MemFault) (v : Value) → unless f r ≡ Ok v → (f ≡ None) × (r ≡ Ok v)
+free_load None r v e = (refl, e)
+free_load (Some fault) r v e = absurd (cc)
+
+pub load_tells : (m : Memory) (p : Ptr) (width : ℕ) (pointer : Bool) (v : Value) → load_at m p width pointer ≡ Ok v → IsLoad m p width pointer v
+unfolding load_at
+load_tells m p width pointer v e =
+    let h = free_load (read_fault m p width width) (value_or_fault pointer (row_at m p width)) v e in record { free = h.0; value = h.1 }

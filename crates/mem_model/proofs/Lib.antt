@@ -1,8 +1,12 @@
 pub mod Accesses
 pub mod Changes
+pub mod Endings
 pub mod Faults
 pub mod LoadsBack
+pub mod Objects
+pub mod Places
+pub mod Pointers
+pub mod RelatedRows
 pub mod Representation
 pub mod RowLaws
 pub mod RowValues
-pub mod Worlds

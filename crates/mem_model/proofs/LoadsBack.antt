@@ -8,7 +8,7 @@ use Rattle.std.proofs.lemmas.Nat.{mod-pow-add}
 use Rattle.std.proofs.lemmas.List.{drop-drop, drop-take, take-take}
 use Rattle.mem_model.specs.Cells.{value_or_fault, cells_of, bytes_of, parts_of, number_of, cells_eq, first_pointer, is_empty}
 use Rattle.mem_model.specs.Memory.{Memory, object_at, place_of, is_within, is_misaligned, row_at, put_row, load_at, store_at, copy_at, IsWidth, IsStorable, is_outside}
-use Rattle.mem_model.specs.Laws.{ptr_plus}
+use Rattle.mem_model.specs.Pointers.{ptr_plus}
 use Rattle.mem_model.specs.declared.value.Ptr.{Ptr}
 use Rattle.mem_model.specs.declared.value.Value.{Value}
 use Rattle.mem_model.specs.declared.value.Value.TheVariants.{Word, Address}

@@ -1,15 +1,13 @@
--- The laws of the memory and of the world of runs.
-use Rattle.std.specs.Prelude.{◌≡◌, ℕ, ◌+◌, ◌*◌, ◌%◌, ◌^◌, ◌<◌, ◌≤◌, ◌⊎◌, ◌≢◌, ℤ, pos, ◌+ℤ◌, Bool, true, false, List, [], ◌∷◌, ◌++◌, length, Some, Ok, Err, slice_set}
+-- The laws of the memory.
+use Rattle.std.specs.Prelude.{◌≡◌, ℕ, ◌+◌, ◌*◌, ◌%◌, ◌^◌, ◌<◌, ◌≤◌, ◌⊎◌, ◌≢◌, pos, Bool, true, false, List, length, map, None, Ok, Err, slice_index}
 use Rattle.mem_model.specs.declared.value.Ptr.{Ptr}
 use Rattle.mem_model.specs.declared.value.Value.{Value}
 use Rattle.mem_model.specs.declared.value.Value.TheVariants.{Word, Address}
+use Rattle.mem_model.specs.declared.value.Cell.{Cell}
 use Rattle.mem_model.specs.declared.value.MemFault.TheVariants.{PartPointer}
-use Rattle.mem_model.specs.Memory.{Memory, place_of, row_at, object_at, fresh_object, ended_object, load_at, store_at, copy_at, init_at, IsWidth, IsStorable}
-use Rattle.mem_model.specs.World.{Meter, Rooms, take_turn, enter_call, leave_call, with_turns, Ending, EndsAs}
-
--- the pointer so many bytes further
-abbrev pub ptr_plus : Ptr → ℤ → Ptr
-ptr_plus p k = record { object = p.object; offset = p.offset +ℤ k }
+use Rattle.mem_model.specs.Cells.{cells_of, value_or_fault}
+use Rattle.mem_model.specs.Memory.{Memory, place_of, row_at, put_row, object_at, no_object, fresh_object, begin_object, end_object, begin_objects, end_objects, is_gone, is_outside, range_fault, read_fault, write_fault, load_at, store_at, copy_at, init_at, byte_of, IsWidth, IsStorable}
+use Rattle.mem_model.specs.Pointers.{ptr_plus}
 
 -- a range of so many bytes shares none with another one
 abbrev pub Apart : Ptr → (size : ℕ) → Ptr → (other : ℕ) → Type 0
@@ -22,6 +20,65 @@ pub record ChangesCells (old new : Memory) (id : ℕ) : Type 0 where
   pub writable : (object_at new id).writable ≡ (object_at old id).writable
   pub size : length (object_at new id).cells ≡ length (object_at old id).cells
   pub others : (k : ℕ) → k ≢ id → object_at new k ≡ object_at old k
+
+-- a row of cells has its place in a live object
+pub record CanPut (m : Memory) (p : Ptr) (row : List Cell) : Type 0 where
+  pub live : is_gone m p ≡ false
+  pub within : is_outside m p (length row) ≡ false
+
+-- a row that is put changes cells of one object,
+abbrev pub PutChangesCells : Type 0
+PutChangesCells = (m : Memory) (p : Ptr) (row : List Cell) → CanPut m p row → ChangesCells m (put_row m p row) p.object
+
+-- stands at its place,
+abbrev pub PutGivesRow : Type 0
+PutGivesRow = (m : Memory) (p : Ptr) (row : List Cell) → CanPut m p row → row_at (put_row m p row) p (length row) ≡ row
+
+-- and leaves what lies apart as it was
+abbrev pub PutKeepsRows : Type 0
+PutKeepsRows =
+    (m : Memory) (p q : Ptr) (row : List Cell) (other : ℕ) → CanPut m p row → Apart p (length row) q other →
+    row_at (put_row m p row) q other ≡ row_at m q other
+
+abbrev pub PutKeepsLoads : Type 0
+PutKeepsLoads =
+    (m : Memory) (p q : Ptr) (row : List Cell) (other : ℕ) (pointer : Bool) → CanPut m p row → Apart p (length row) q other →
+    load_at (put_row m p row) q other pointer ≡ load_at m q other pointer
+
+-- a memory is another one with a row put
+pub record IsPut (m new : Memory) (p : Ptr) (size : ℕ) (row : List Cell) : Type 0 where
+  pub can : CanPut m p row
+  pub size_is : length row ≡ size
+  pub is : new ≡ put_row m p row
+
+-- a store, a copy and an initialisation put a row
+abbrev pub StorePuts : Type 0
+StorePuts =
+    (m new : Memory) (p : Ptr) (width : ℕ) (v : Value) → IsWidth width → IsStorable width v →
+    store_at m p width v ≡ Ok new → IsPut m new p width (cells_of width v)
+
+abbrev pub CopyPuts : Type 0
+CopyPuts = (m new : Memory) (to from : Ptr) (size align : ℕ) → copy_at m to from size align ≡ Ok new → IsPut m new to size (row_at m from size)
+
+abbrev pub InitPuts : Type 0
+InitPuts = (m new : Memory) (p : Ptr) (values : List Value) → init_at m p values ≡ Ok new → IsPut m new p (length values) (map byte_of values)
+
+-- where one object has other cells, each access has the fault that it had
+pub record SameFaults (old new : Memory) : Type 0 where
+  pub range : (q : Ptr) (size : ℕ) → range_fault new q size ≡ range_fault old q size
+  pub reading : (q : Ptr) (size align : ℕ) → read_fault new q size align ≡ read_fault old q size align
+  pub writing : (q : Ptr) (size align : ℕ) → write_fault new q size align ≡ write_fault old q size align
+
+abbrev pub ChangesKeepFaults : Type 0
+ChangesKeepFaults = (old new : Memory) (id : ℕ) → ChangesCells old new id → SameFaults old new
+
+-- a load that gives a value had no fault, and read it from the row there
+pub record IsLoad (m : Memory) (p : Ptr) (width : ℕ) (pointer : Bool) (v : Value) : Type 0 where
+  pub free : read_fault m p width width ≡ None
+  pub value : value_or_fault pointer (row_at m p width) ≡ Ok v
+
+abbrev pub LoadTells : Type 0
+LoadTells = (m : Memory) (p : Ptr) (width : ℕ) (pointer : Bool) (v : Value) → load_at m p width pointer ≡ Ok v → IsLoad m p width pointer v
 
 -- a number that was stored is loaded as what its width holds of it
 abbrev pub LoadsNumber : Type 0
@@ -43,22 +100,6 @@ PartsAreNoNumber =
     (m new : Memory) (p q : Ptr) (k width : ℕ) → store_at m p 8 (Address q) ≡ Ok new → IsWidth width → k + width ≤ 8 → k % width ≡ 0 →
     load_at new (ptr_plus p (pos k)) width false ≡ Err PartPointer
 
--- what lies apart from a store, a copy's target or an initialisation is loaded as before
-abbrev pub StoreKeepsLoads : Type 0
-StoreKeepsLoads =
-    (m new : Memory) (p q : Ptr) (width other : ℕ) (v : Value) (pointer : Bool) → IsWidth width → IsStorable width v →
-    store_at m p width v ≡ Ok new → Apart p width q other → load_at new q other pointer ≡ load_at m q other pointer
-
-abbrev pub CopyKeepsLoads : Type 0
-CopyKeepsLoads =
-    (m new : Memory) (to from q : Ptr) (size align other : ℕ) (pointer : Bool) →
-    copy_at m to from size align ≡ Ok new → Apart to size q other → load_at new q other pointer ≡ load_at m q other pointer
-
-abbrev pub InitKeepsLoads : Type 0
-InitKeepsLoads =
-    (m new : Memory) (p q : Ptr) (values : List Value) (other : ℕ) (pointer : Bool) →
-    init_at m p values ≡ Ok new → Apart p (length values) q other → load_at new q other pointer ≡ load_at m q other pointer
-
 -- a copy gives the target the cells of the source, whatever they hold
 abbrev pub CopyGivesCells : Type 0
 CopyGivesCells =
@@ -68,54 +109,33 @@ CopyGivesCells =
 abbrev pub CopyGivesLoads : Type 0
 CopyGivesLoads =
     (m new : Memory) (to from : Ptr) (size align k width : ℕ) (pointer : Bool) → copy_at m to from size align ≡ Ok new → 0 < width → k + width ≤ size →
-    (place_of to.offset + k) % width ≡ 0 → (place_of from.offset + k) % width ≡ 0 → load_at new (ptr_plus to (pos k)) width pointer ≡ load_at m (ptr_plus from (pos k)) width pointer
+    (place_of to.offset + k) % width ≡ 0 → (place_of from.offset + k) % width ≡ 0 →
+    load_at new (ptr_plus to (pos k)) width pointer ≡ load_at m (ptr_plus from (pos k)) width pointer
 
--- what each call leaves as it was
-abbrev pub StoreChanges : Type 0
-StoreChanges = (m new : Memory) (p : Ptr) (width : ℕ) (v : Value) → IsWidth width → IsStorable width v → store_at m p width v ≡ Ok new → ChangesCells m new p.object
+-- an object past the list is none
+abbrev pub NoObjectPast : Type 0
+NoObjectPast = (m : Memory) (id : ℕ) → length m ≤ id → object_at m id ≡ no_object
 
-abbrev pub CopyChanges : Type 0
-CopyChanges = (m new : Memory) (to from : Ptr) (size align : ℕ) → copy_at m to from size align ≡ Ok new → ChangesCells m new to.object
-
-abbrev pub InitChanges : Type 0
-InitChanges = (m new : Memory) (p : Ptr) (values : List Value) → init_at m p values ≡ Ok new → ChangesCells m new p.object
-
--- an object that ends leaves the others
+-- an object that ends is none, and leaves the others
 pub record EndChanges (m : Memory) (id : ℕ) : Type 0 where
-  pub count : length (slice_set m id (ended_object (object_at m id))) ≡ length m
-  pub here : id < length m → object_at (slice_set m id (ended_object (object_at m id))) id ≡ ended_object (object_at m id)
-  pub others : (k : ℕ) → k ≢ id → object_at (slice_set m id (ended_object (object_at m id))) k ≡ object_at m k
+  pub count : length (end_object m id) ≡ length m
+  pub here : object_at (end_object m id) id ≡ no_object
+  pub others : (k : ℕ) → k ≢ id → object_at (end_object m id) k ≡ object_at m k
 
 -- a new object has the next number, and leaves the others
-pub record MakeChanges (m : Memory) (size : ℕ) (writable : Bool) : Type 0 where
-  pub here : object_at (m ++ fresh_object size writable ∷ []) (length m) ≡ fresh_object size writable
-  pub others : (k : ℕ) → k < length m → object_at (m ++ fresh_object size writable ∷ []) k ≡ object_at m k
+pub record BeginChanges (m : Memory) (size : ℕ) (writable : Bool) : Type 0 where
+  pub count : length (begin_object m size writable) ≡ length m + 1
+  pub here : object_at (begin_object m size writable) (length m) ≡ fresh_object size writable
+  pub others : (k : ℕ) → k ≢ length m → object_at (begin_object m size writable) k ≡ object_at m k
 
--- an ending is its own, and an ending of an ending is an ending
-abbrev pub EndsAsItself : Type 0
-EndsAsItself = (a : Ending) → EndsAs a a
+-- several objects begin with the next numbers in order, and leave the others
+pub record BeginsChange (m : Memory) (sizes : List ℕ) : Type 0 where
+  pub count : length (begin_objects m sizes) ≡ length m + length sizes
+  pub here : (k : ℕ) → k < length sizes → object_at (begin_objects m sizes) (length m + k) ≡ fresh_object (slice_index sizes k) true
+  pub others : (k : ℕ) → (k < length m) ⊎ (length m + length sizes ≤ k) → object_at (begin_objects m sizes) k ≡ object_at m k
 
-abbrev pub EndsAsThrough : Type 0
-EndsAsThrough = (a b c : Ending) → EndsAs c b → EndsAs b a → EndsAs c a
-
--- a turn that is taken is taken with more turns too, and takes nothing else
-pub record TurnTaken (m t : Meter) : Type 0 where
-  pub turns : m.turns ≡ t.turns + 1
-  pub room : t.room ≡ m.room
-  pub peak : t.peak ≡ m.peak
-  pub more : (k : ℕ) → take_turn (with_turns k m) ≡ Some (with_turns k t)
-
-abbrev pub TurnsAreTaken : Type 0
-TurnsAreTaken = (m t : Meter) → take_turn m ≡ Some t → TurnTaken m t
-
--- a call raises the room and at most the peak, and leaving it takes the room back; more turns change neither
-pub record CallMeter (rooms : Rooms) (function : ℕ) (m : Meter) : Type 0 where
-  pub peak_rises : m.peak ≤ (enter_call rooms function m).peak
-  pub room_within : (enter_call rooms function m).room ≤ (enter_call rooms function m).peak
-  pub peak_stays : (leave_call rooms function m).peak ≡ m.peak
-  pub room_back : (leave_call rooms function (enter_call rooms function m)).room ≡ m.room
-  pub more_enter : (k : ℕ) → enter_call rooms function (with_turns k m) ≡ with_turns k (enter_call rooms function m)
-  pub more_leave : (k : ℕ) → leave_call rooms function (with_turns k m) ≡ with_turns k (leave_call rooms function m)
-
-abbrev pub CallsAreMetered : Type 0
-CallsAreMetered = (rooms : Rooms) (function : ℕ) (m : Meter) → CallMeter rooms function m
+-- several objects end, and leave the others
+pub record EndsChange (m : Memory) (first count : ℕ) : Type 0 where
+  pub count_is : length (end_objects m first count) ≡ length m
+  pub here : (k : ℕ) → k < count → object_at (end_objects m first count) (first + k) ≡ no_object
+  pub others : (k : ℕ) → (k < first) ⊎ (first + count ≤ k) → object_at (end_objects m first count) k ≡ object_at m k

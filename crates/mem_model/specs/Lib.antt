@@ -1,5 +1,11 @@
 pub mod Cells
-pub mod model
+pub mod Ending
 pub mod Laws
 pub mod Memory
+pub mod PointerLaws
+pub mod Pointers
+pub mod Related
+pub mod RelatedLaws
 pub mod World
+pub mod WorldLaws
+pub mod model

@@ -1,12 +1,14 @@
 -- The world of a run over objects, in two parts: what instructions touch, and what only the run itself
 -- counts (C99 5.1.2.3). Every run takes a list of rooms, one for each function by its number, as a parameter.
-use Rattle.std.specs.Prelude.{◌≡◌, ℕ, zero, suc, ◌+◌, ◌-◌, max, List, Option, Some, None, slice_index}
+use Rattle.std.specs.Prelude.{ℕ, zero, suc, ◌+◌, ◌-◌, max, List, [], ◌∷◌, ◌++◌, drop, Option, Some, None, slice_get, slice_index}
 use Rattle.mem_model.specs.Memory.{Memory}
 
--- the outer part: the memory, the bytes of the input that are left, and the bytes of the output so far
+-- the outer part: the memory, the bytes of the input that are left, how often a byte of it was taken, and the
+-- bytes of the output so far
 pub record Outer : Type 0 where
   pub memory : Memory
   pub input : List ℕ
+  pub takings : ℕ
   pub output : List ℕ
 
 -- the meter: the turns that are left, the sum of the rooms of the active calls, and the greatest such sum so far
@@ -19,6 +21,27 @@ pub record Meter : Type 0 where
 pub record World : Type 0 where
   pub outer : Outer
   pub meter : Meter
+
+-- the outer part, or the world, with another memory; the world with another meter
+abbrev pub outer_with_memory : Outer → Memory → Outer
+outer_with_memory o m = record o { memory = m }
+
+abbrev pub with_memory : World → Memory → World
+with_memory w m = record w { outer = outer_with_memory w.outer m }
+
+abbrev pub with_meter : World → Meter → World
+with_meter w m = record w { meter = m }
+
+-- the next byte of the input (C99 7.19.7.6), None at its end; taking it, which counts at the end too
+abbrev pub next_byte : Outer → Option ℕ
+next_byte o = slice_get o.input 0
+
+abbrev pub take_byte : Outer → Outer
+take_byte o = record o { input = drop 1 o.input; takings = o.takings + 1 }
+
+-- a byte is put behind the output (C99 7.19.7.9)
+abbrev pub put_byte : Outer → (byte : ℕ) → Outer
+put_byte o byte = record o { output = o.output ++ byte ∷ [] }
 
 -- one room for each function number; past the list, as for a built-in function, the room is 0
 abbrev pub Rooms : Type 0
@@ -49,24 +72,3 @@ leave_call rooms function m = record m { room = m.room - room_of rooms function 
 -- so many turns more
 abbrev pub with_turns : (more : ℕ) → Meter → Meter
 with_turns more m = record m { turns = m.turns + more }
-
--- how a run ends, in its last world: with a status, by a trap with a code, Undefined, or for want of a turn
-pub data Ending : Type 0 where
-  Done : World → (status : ℕ) → Ending
-  Trap : World → (code : ℕ) → Ending
-  Undefined : Ending
-  More : World → Ending
-
--- two worlds with the same output, turns left and peak
-pub record SameShown (v w : World) : Type 0 where
-  pub output : v.outer.output ≡ w.outer.output
-  pub turns : v.meter.turns ≡ w.meter.turns
-  pub peak : v.meter.peak ≡ w.meter.peak
-
--- the one ending is the other's, with output, turns and peak, unless the other is Undefined
-abbrev pub EndsAs : Ending → Ending → Type 0
-EndsAs e Undefined = Unit {0}
-EndsAs (Done v m) (Done w n) = (m ≡ n) × SameShown v w
-EndsAs (Trap v m) (Trap w n) = (m ≡ n) × SameShown v w
-EndsAs (More v) (More w) = SameShown v w
-EndsAs _ _ = ⊥

@@ -1,110 +1,98 @@
 //! Laws of the memory and of the world of runs, each the contract of a function that does nothing.
 
-ghost use Rattle.std.specs.Prelude.{ℕ, Bool};
+ghost use Rattle.std.specs.Prelude.{ℕ, Bool, List};
 ghost use Rattle.mem_model.specs.Memory.{Memory};
-ghost use Rattle.mem_model.specs.Laws.{LoadsNumber, LoadsPointer, LoadsNull, PartsAreNoNumber, StoreKeepsLoads, CopyKeepsLoads, InitKeepsLoads, CopyGivesCells, CopyGivesLoads, StoreChanges, CopyChanges, InitChanges, EndChanges, MakeChanges, EndsAsItself, EndsAsThrough, TurnsAreTaken, CallsAreMetered};
+ghost use Rattle.mem_model.specs.Laws.{PutChangesCells, PutGivesRow, PutKeepsRows, PutKeepsLoads, StorePuts, CopyPuts, InitPuts, ChangesKeepFaults, LoadTells, LoadsNumber, LoadsPointer, LoadsNull, PartsAreNoNumber, CopyGivesCells, CopyGivesLoads, NoObjectPast, EndChanges, BeginChanges, BeginsChange, EndsChange};
+ghost use Rattle.mem_model.specs.PointerLaws.{PlusTwice, MinusUndoesPlus, PlusUndoesMinus, ChangesKeepPointers};
+ghost use Rattle.mem_model.specs.RelatedLaws.{RowsAreAsLong, RowsHaveParts, RowsAreRead, ValuesHaveRows, RowsAreWritten, FreshRows, NamesGrow, ValuesStay};
+ghost use Rattle.mem_model.specs.WorldLaws.{EndsAsItself, EndsAsThrough, TurnsAreTaken, CallsAreMetered};
+ghost use Rattle.mem_model.specs.Ending.{Evaluation, GivesAs};
 
-/// A number that was stored is loaded as what its width holds of it.
-#[tactic(auto, using(crate::proofs::LoadsBack::loads_number))]
-pub fn numbers_load_back()
-    ensures { LoadsNumber }
+/// What was stored is loaded back: numbers by their width, pointers whole and never in part, and zeros as null.
+pub fn stores_load_back()
+    ensures numbers { LoadsNumber }
+    ensures pointers { LoadsPointer }
+    ensures null { LoadsNull }
+    ensures parts { PartsAreNoNumber }
 {}
 
-/// A pointer that was stored is loaded whole.
-#[tactic(auto, using(crate::proofs::LoadsBack::loads_pointer))]
-pub fn pointers_load_back()
-    ensures { LoadsPointer }
+/// A row of cells that is put stands at its place in one object, and what lies apart is as before.
+pub fn puts_change_a_row()
+    ensures cells { PutChangesCells }
+    ensures row { PutGivesRow }
+    ensures rows { PutKeepsRows }
+    ensures loads { PutKeepsLoads }
 {}
 
-/// Eight zero bytes are loaded as null.
-#[tactic(auto, using(crate::proofs::LoadsBack::loads_null))]
-pub fn zeros_load_as_null()
-    ensures { LoadsNull }
+/// A store puts the row of its value, a copy that of its source, and an initialisation its bytes.
+pub fn accesses_put_rows()
+    ensures stores { StorePuts }
+    ensures copies { CopyPuts }
+    ensures inits { InitPuts }
 {}
 
-/// No part of a pointer that was stored is loaded as a number.
-#[tactic(auto, using(crate::proofs::LoadsBack::parts_are_no_number))]
-pub fn parts_are_no_number()
-    ensures { PartsAreNoNumber }
-{}
-
-/// What lies apart from a store is loaded as before.
-#[tactic(auto, using(crate::proofs::Changes::store_keeps))]
-pub fn stores_keep_loads()
-    ensures { StoreKeepsLoads }
-{}
-
-/// What lies apart from the target of a copy is loaded as before.
-#[tactic(auto, using(crate::proofs::Changes::copy_keeps))]
-pub fn copies_keep_loads()
-    ensures { CopyKeepsLoads }
-{}
-
-/// What lies apart from an initialisation is loaded as before.
-#[tactic(auto, using(crate::proofs::Changes::init_keeps))]
-pub fn inits_keep_loads()
-    ensures { InitKeepsLoads }
-{}
-
-/// A copy gives its target the cells of its source, whatever they hold.
-#[tactic(auto, using(crate::proofs::Changes::copy_gives))]
+/// A copy gives its target the cells of its source, whatever they hold, so loads there read the same.
 pub fn copies_give_cells()
-    ensures { CopyGivesCells }
+    ensures cells { CopyGivesCells }
+    ensures loads { CopyGivesLoads }
 {}
 
-/// A load within the target of a copy reads what one within the source read.
-#[tactic(auto, using(crate::proofs::LoadsBack::copy_gives_loads))]
-pub fn copies_give_loads()
-    ensures { CopyGivesLoads }
+/// A load that gives a value had no fault.
+pub fn loads_tell()
+    ensures { LoadTells }
 {}
 
-/// A store changes cells of one object.
-pub fn stores_change_one()
-    ensures { StoreChanges }
+/// Where one object has other cells, each access has the fault that it had, and the operators on pointers answer the same.
+pub fn changes_keep_faults()
+    ensures faults { ChangesKeepFaults }
+    ensures pointers { ChangesKeepPointers }
 {}
 
-/// A copy changes cells of one object.
-pub fn copies_change_one()
-    ensures { CopyChanges }
+/// There is no object past the list, new objects have the next numbers, and objects that begin or end leave the others.
+pub fn objects_begin_and_end()
+    ensures past { NoObjectPast }
+    ensures begins { (m : Memory) (size : ℕ) (writable : Bool) → BeginChanges m size writable }
+    ensures ends { (m : Memory) (id : ℕ) → EndChanges m id }
+    ensures begin_some { (m : Memory) (sizes : List ℕ) → BeginsChange m sizes }
+    ensures end_some { (m : Memory) (first count : ℕ) → EndsChange m first count }
 {}
 
-/// An initialisation changes cells of one object.
-pub fn inits_change_one()
-    ensures { InitChanges }
+/// Moving a pointer twice is moving it by the sum, and a distance undoes a move.
+pub fn pointers_move()
+    ensures twice { PlusTwice }
+    ensures distance { MinusUndoesPlus }
+    ensures back { PlusUndoesMinus }
 {}
 
-/// An object that ends leaves the others.
-#[tactic(auto, using(crate::proofs::Changes::end_changes))]
-pub fn ends_change_one()
-    ensures { (m : Memory) (id : ℕ) → EndChanges m id }
+/// In a memory whose objects have other numbers, what corresponds is read, written and kept so.
+pub fn rows_correspond()
+    ensures as_long { RowsAreAsLong }
+    ensures parts { RowsHaveParts }
+    ensures read { RowsAreRead }
+    ensures written { RowsAreWritten }
+    ensures values { ValuesHaveRows }
+    ensures fresh { FreshRows }
+    ensures names { NamesGrow }
+    ensures more { ValuesStay }
 {}
 
-/// A new object has the next number and leaves the others.
-#[tactic(auto, using(crate::proofs::Changes::make_changes))]
-pub fn makings_keep_numbers()
-    ensures { (m : Memory) (size : ℕ) (writable : Bool) → MakeChanges m size writable }
-{}
-
-/// Each ending is its own.
-#[tactic(auto, using(crate::proofs::Worlds::EndsAs_refl))]
-pub fn endings_are_their_own()
-    ensures { EndsAsItself }
-{}
-
-/// That an ending is another's goes through a third.
-#[tactic(auto, using(crate::proofs::Worlds::EndsAs_trans))]
+/// Each ending is its own, and that an ending is another's goes through a third.
 pub fn endings_go_through()
-    ensures { EndsAsThrough }
+    ensures own { EndsAsItself }
+    ensures through { EndsAsThrough }
 {}
 
 /// A turn that is taken is taken with more turns too.
-#[tactic(auto, using(crate::proofs::Worlds::take_turn_taken))]
 pub fn turns_are_taken()
     ensures { TurnsAreTaken }
 {}
 
 /// A call raises the room and at most the peak, and gives the room back.
-#[tactic(auto, using(crate::proofs::Worlds::calls_metered))]
 pub fn calls_are_metered()
     ensures { CallsAreMetered }
+{}
+
+/// That an evaluation gives what another one gives goes through a third.
+pub fn evaluations_go_through<A, S>()
+    ensures { (a b c : Evaluation A S) → GivesAs c b → GivesAs b a → GivesAs c a }
 {}

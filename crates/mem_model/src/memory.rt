@@ -1,7 +1,9 @@
 //! The memory: objects by their numbers, and the accesses to them.
 
-ghost use Rattle.std.specs.Prelude.{◌≡◌, ◌≢◌, ◌⊎◌, ◌+◌, ◌<◌, [], ◌∷◌, ◌++◌, length, IfOk, OnOk, OnErr, IfErr, IfSome, IsSome, ◌↔◌, IsTrue, slice_set, ◌≤◌, ◌^◌, ◌||◌, All, true, false};
-ghost use Rattle.mem_model.specs.Memory.{fresh_object, ended_object, object_at, is_within, is_gone, is_outside, is_misaligned, is_read_only, overlaps, place_of, row_at, put_row, load_at, store_at, copy_at, init_at, IsByte, IsWidth, IsStorable};
+ghost use Rattle.std.specs.Prelude.{◌≡◌, ◌≢◌, ◌⊎◌, ◌+◌, ◌<◌, [], length, IfOk, OnOk, OnErr, IfErr, IfSome, IfNone, IsSome, ◌↔◌, IsTrue, ◌≤◌, ◌^◌, ◌||◌, All, true, false, take, drop, map};
+ghost use Rattle.mem_model.specs.Cells.{value_or_fault, cells_of};
+ghost use Rattle.mem_model.specs.Memory.{Object, begin_object, end_object, object_at, is_within, is_gone, is_outside, is_misaligned, is_read_only, overlaps, place_of, row_at, put_row, load_at, store_at, copy_at, init_at, range_fault, read_fault, write_fault, copy_fault, byte_of, IsByte, IsWidth, IsStorable};
+ghost use Rattle.mem_model.specs.model.Objects.{object_in, with_row_in};
 
 use crate::cells::Cells;
 use crate::rows::{copy_from, copy_within, load_value, write_bytes, write_value};
@@ -10,31 +12,31 @@ use std::alloc::{AllocError, Global};
 use std::marker::Model;
 use std::mem;
 
-/// An object of a memory.
+/// A live object.
 #[derive(Debug, Drop)]
-pub struct Object {
-    /// Whether it has not ended.
-    pub live: bool,
+struct Live {
     /// Whether a store may write it.
-    pub writable: bool,
-    /// Its cells, none once it has ended.
-    pub cells: Cells,
+    writable: bool,
+    /// Its cells.
+    cells: Cells,
 }
 
-/// A memory, which contracts see as the list of all objects ever made.
+/// A memory, which contracts see as the list of all objects ever made. An object that has ended keeps no more
+/// than the place of its box.
 #[derive(Debug, Drop)]
 pub struct Mem {
     alloc: Global,
-    objects: Vec<Object>,
+    objects: Vec<Option<Box<Live>>>,
 }
 
 impl Model for Mem {
-    ghost use Rattle.std.specs.Prelude.{List};
-    ghost use Rattle.mem_model.specs.declared.memory.Object.{Object};
+    ghost use Rattle.mem_model.specs.Memory.{Memory};
 
-    ghost Value = { List Object };
+    ghost Value = { Memory };
 
-    ghost view = { λ m. m.objects.items };
+    ghost use Rattle.mem_model.specs.model.Objects.{objects_in};
+
+    ghost view = { λ m. objects_in m.objects.items };
 }
 
 /// Whether so many bytes from an offset on lie within a length.
@@ -81,6 +83,93 @@ fn place(p: Ptr) -> usize
     p.offset.unsigned_abs() as usize
 }
 
+/// What a load from a live object answers.
+fn load_from(
+    slot: &Option<Box<Live>>,
+    at: usize,
+    width: usize,
+    pointer: bool,
+) -> Result<Value, MemFault>
+    requires live { IsTrue (object_in slot.now).live }
+    requires within { at + width ≤ length (object_in slot.now).cells }
+    requires narrow { width ≤ 8 }
+    requires whole { pointer ≡ true → width ≡ 8 }
+    requires fits { at + width < 2 ^ 64 }
+    ensures { result ≡ value_or_fault pointer (take width (drop at (object_in slot.now).cells)) }
+{
+    match slot {
+        Some(object) => load_value(&object.cells, at, width, pointer),
+        None => Err(MemFault::NoObject),
+    }
+}
+
+/// Writes a value into a live object.
+fn put_value(slot: &mut Option<Box<Live>>, at: usize, width: usize, value: Value)
+    requires live { IsTrue (object_in slot.old).live }
+    requires narrow { width ≤ 8 }
+    requires storable { IsStorable width value }
+    requires within { at + width ≤ length (object_in slot.old).cells }
+    requires fits { at + width < 2 ^ 64 }
+    ensures { object_in slot.new ≡ with_row_in (object_in slot.old) at (cells_of width value) }
+{
+    match slot {
+        Some(object) => write_value(&mut object.cells, at, width, value),
+        None => (),
+    }
+}
+
+/// Writes bytes into a live object.
+fn put_bytes(slot: &mut Option<Box<Live>>, at: usize, values: &[Value])
+    requires live { IsTrue (object_in slot.old).live }
+    requires within { at + length values.now ≤ length (object_in slot.old).cells }
+    requires bytes { All IsByte values.now }
+    requires fits { at + length values.now < 2 ^ 64 }
+    ensures { object_in slot.new ≡ with_row_in (object_in slot.old) at (map byte_of values.now) }
+{
+    match slot {
+        Some(object) => write_bytes(&mut object.cells, at, values),
+        None => (),
+    }
+}
+
+/// Copies some cells of a live object to a range of it that lies apart.
+fn copy_inside(slot: &mut Option<Box<Live>>, to: usize, from: usize, size: usize)
+    requires live { IsTrue (object_in slot.old).live }
+    requires within { to + size ≤ length (object_in slot.old).cells }
+    requires source { from + size ≤ length (object_in slot.old).cells }
+    requires fits_to { to + size < 2 ^ 64 }
+    requires fits_from { from + size < 2 ^ 64 }
+    requires apart { (to + size ≤ from) ⊎ (from + size ≤ to) }
+    ensures { object_in slot.new ≡ with_row_in (object_in slot.old) to (take size (drop from (object_in slot.old).cells)) }
+{
+    match slot {
+        Some(object) => copy_within(&mut object.cells, to, from, size),
+        None => (),
+    }
+}
+
+/// Copies some cells of a live object to another one.
+fn copy_across(
+    target: &mut Option<Box<Live>>,
+    to: usize,
+    source: &Option<Box<Live>>,
+    from: usize,
+    size: usize,
+)
+    requires live { IsTrue (object_in target.old).live }
+    requires source_live { IsTrue (object_in source.now).live }
+    requires within { to + size ≤ length (object_in target.old).cells }
+    requires source { from + size ≤ length (object_in source.now).cells }
+    requires fits_to { to + size < 2 ^ 64 }
+    requires fits_from { from + size < 2 ^ 64 }
+    ensures { object_in target.new ≡ with_row_in (object_in target.old) to (take size (drop from (object_in source.now).cells)) }
+{
+    match (target, source) {
+        (Some(object), Some(other)) => copy_from(&mut object.cells, to, &other.cells, from, size),
+        _ => (),
+    }
+}
+
 impl Mem {
     /// A memory without objects. Takes no memory.
     pub fn new(alloc: Global) -> Mem
@@ -93,19 +182,16 @@ impl Mem {
     }
 
     /// Makes a live object of so many unwritten cells, and answers its number: how many objects were
-    /// made before it.
+    /// made before it. Where memory is short, the memory is as before.
     pub fn alloc_object(&mut self, size: u64, writable: bool) -> Result<u64, AllocError>
         ensures number { IfOk result (λ id. id ≡ length self.old) }
-        ensures ok { OnOk result (self.new ≡ self.old ++ fresh_object size writable ∷ []) }
+        ensures ok { OnOk result (self.new ≡ begin_object self.old size writable) }
         ensures err { OnErr result (self.new ≡ self.old) }
     {
         let cells = Cells::new(self.alloc, size as usize)?;
+        let object = Box::new(self.alloc, Live { writable, cells })?;
         let id = self.objects.len() as u64;
-        self.objects.push(Object {
-            live: true,
-            writable,
-            cells,
-        })?;
+        self.objects.push(Some(object))?;
         Ok(id)
     }
 
@@ -115,7 +201,7 @@ impl Mem {
         ensures size { IfSome result (λ size. size ≡ length (object_at self.now id).cells) }
     {
         match self.objects.get(id as usize) {
-            Some(object) if object.live => Some(object.cells.len() as u64),
+            Some(Some(object)) => Some(object.cells.len() as u64),
             _ => None,
         }
     }
@@ -123,12 +209,9 @@ impl Mem {
     /// Ends an object, which gives its cells back. Takes no memory.
     pub fn end_object(&mut self, id: u64)
         requires { IsTrue (object_at self.old id).live }
-        ensures { self.new ≡ slice_set self.old id (ended_object (object_at self.old id)) }
+        ensures { self.new ≡ end_object self.old id }
     {
-        let none = Cells::none(self.alloc);
-        let object = &mut self.objects[id as usize];
-        object.live = false;
-        object.cells = none;
+        self.objects[id as usize] = None;
     }
 
     /// Whether the object of a pointer was never made or has ended.
@@ -136,8 +219,18 @@ impl Mem {
         ensures { result ≡ is_gone self.now p }
     {
         match self.objects.get(p.object as usize) {
-            Some(object) => !object.live,
-            None => true,
+            Some(Some(_)) => false,
+            _ => true,
+        }
+    }
+
+    /// How many cells the object of a pointer has.
+    fn size_at(&self, p: Ptr) -> u64
+        ensures { result ≡ length (object_at self.now p.object).cells }
+    {
+        match self.objects.get(p.object as usize) {
+            Some(Some(object)) => object.cells.len() as u64,
+            _ => 0,
         }
     }
 
@@ -146,10 +239,7 @@ impl Mem {
         ensures value { result ≡ is_outside self.now p size }
         ensures end { result ≡ false → 0 < size → place_of p.offset + size < 2 ^ 64 }
     {
-        let length = match self.objects.get(p.object as usize) {
-            Some(object) => object.cells.len() as u64,
-            None => 0,
-        };
+        let length = self.size_at(p);
         size > 0 && !is_range_within(p.offset, size, length)
     }
 
@@ -158,9 +248,51 @@ impl Mem {
         ensures { result ≡ is_read_only self.now p }
     {
         match self.objects.get(p.object as usize) {
-            Some(object) => !object.writable,
-            None => true,
+            Some(Some(object)) => !object.writable,
+            _ => true,
         }
+    }
+
+    /// The fault of a range of so many bytes.
+    fn range_fault(&self, p: Ptr, size: u64) -> Option<MemFault>
+        ensures value { result ≡ range_fault self.now p size }
+        ensures end { IfNone result (0 < size → place_of p.offset + size < 2 ^ 64) }
+    {
+        if self.is_object_gone(p) {
+            return Some(MemFault::NoObject);
+        }
+        if self.is_range_outside(p, size) {
+            return Some(MemFault::Outside);
+        }
+        None
+    }
+
+    /// The fault of reading so many bytes at an alignment.
+    fn read_fault(&self, p: Ptr, size: u64, align: u64) -> Option<MemFault>
+        ensures value { result ≡ read_fault self.now p size align }
+        ensures end { IfNone result (0 < size → place_of p.offset + size < 2 ^ 64) }
+    {
+        if let Some(fault) = self.range_fault(p, size) {
+            return Some(fault);
+        }
+        if is_offset_misaligned(p, align) {
+            return Some(MemFault::Misaligned);
+        }
+        None
+    }
+
+    /// The fault of writing so many bytes at an alignment.
+    fn write_fault(&self, p: Ptr, size: u64, align: u64) -> Option<MemFault>
+        ensures value { result ≡ write_fault self.now p size align }
+        ensures end { IfNone result (0 < size → place_of p.offset + size < 2 ^ 64) }
+    {
+        if let Some(fault) = self.read_fault(p, size, align) {
+            return Some(fault);
+        }
+        if self.is_object_read_only(p) {
+            return Some(MemFault::ReadOnly);
+        }
+        None
     }
 
     /// Loads so many bytes, as a number, which is extended with zeros, or as a pointer (C99 6.3.2.1).
@@ -171,17 +303,16 @@ impl Mem {
         requires whole { pointer ≡ true → width ≡ 8 }
         ensures { result ≡ load_at self.now p width pointer }
     {
-        if self.is_object_gone(p) {
-            return Err(MemFault::NoObject);
+        let size = u64::from(width);
+        match self.read_fault(p, size, size) {
+            Some(fault) => Err(fault),
+            None => load_from(
+                &self.objects[p.object as usize],
+                place(p),
+                width as usize,
+                pointer,
+            ),
         }
-        if self.is_range_outside(p, u64::from(width)) {
-            return Err(MemFault::Outside);
-        }
-        if is_offset_misaligned(p, u64::from(width)) {
-            return Err(MemFault::Misaligned);
-        }
-        let object = &self.objects[p.object as usize];
-        load_value(&object.cells, place(p), width as usize, pointer)
     }
 
     /// Stores a number, of which the low bytes of the width are kept, or a pointer (C99 6.5.16).
@@ -194,21 +325,15 @@ impl Mem {
         ensures err { IfErr result (λ fault. store_at self.old p width v ≡ Err fault) }
         ensures kept { OnErr result (self.new ≡ self.old) }
     {
-        if self.is_object_gone(p) {
-            return Err(MemFault::NoObject);
+        let size = u64::from(width);
+        match self.write_fault(p, size, size) {
+            Some(fault) => Err(fault),
+            None => {
+                let slot = &mut self.objects[p.object as usize];
+                put_value(slot, place(p), width as usize, v);
+                Ok(())
+            }
         }
-        if self.is_range_outside(p, u64::from(width)) {
-            return Err(MemFault::Outside);
-        }
-        if is_offset_misaligned(p, u64::from(width)) {
-            return Err(MemFault::Misaligned);
-        }
-        if self.is_object_read_only(p) {
-            return Err(MemFault::ReadOnly);
-        }
-        let object = &mut self.objects[p.object as usize];
-        write_value(&mut object.cells, place(p), width as usize, v);
-        Ok(())
     }
 
     /// Copies so many cells as they are, unwritten ones and parts of pointers too (C99 6.5.16.1). Takes no
@@ -219,20 +344,13 @@ impl Mem {
         ensures err { IfErr result (λ fault. copy_at self.old to from size align ≡ Err fault) }
         ensures kept { OnErr result (self.new ≡ self.old) }
     {
-        if self.is_copy_gone(to, from) {
-            return Err(MemFault::NoObject);
+        match self.copy_fault(to, from, size, u64::from(align)) {
+            Some(fault) => Err(fault),
+            None => {
+                self.copy_cells(to, from, size);
+                Ok(())
+            }
         }
-        if self.is_copy_outside(to, from, size) {
-            return Err(MemFault::Outside);
-        }
-        if is_copy_misaligned(to, from, u64::from(align)) {
-            return Err(MemFault::Misaligned);
-        }
-        if self.is_object_read_only(to) {
-            return Err(MemFault::ReadOnly);
-        }
-        self.copy_cells(to, from, size);
-        Ok(())
     }
 
     /// Writes bytes at the making of an object, one that may not be written too. Takes no memory.
@@ -243,17 +361,26 @@ impl Mem {
         ensures err { IfErr result (λ fault. init_at self.old p cells.now ≡ Err fault) }
         ensures kept { OnErr result (self.new ≡ self.old) }
     {
-        if self.is_object_gone(p) {
-            return Err(MemFault::NoObject);
+        match self.range_fault(p, cells.len() as u64) {
+            Some(fault) => Err(fault),
+            None => {
+                self.init_cells(p, cells);
+                Ok(())
+            }
         }
-        if self.is_range_outside(p, cells.len() as u64) {
-            return Err(MemFault::Outside);
+    }
+
+    /// Writes the bytes of an initialisation that has no fault.
+    fn init_cells(&mut self, p: Ptr, cells: &[Value])
+        requires bytes { All IsByte cells.now }
+        requires free { range_fault self.old p (length cells.now) ≡ None }
+        requires end { 0 < length cells.now → place_of p.offset + length cells.now < 2 ^ 64 }
+        ensures { self.new ≡ put_row self.old p (map byte_of cells.now) }
+    {
+        if cells.is_empty() {
+            return;
         }
-        if !cells.is_empty() {
-            let object = &mut self.objects[p.object as usize];
-            write_bytes(&mut object.cells, place(p), cells);
-        }
-        Ok(())
+        put_bytes(&mut self.objects[p.object as usize], place(p), cells);
     }
 
     /// Whether one of the two objects of a copy was never made or has ended.
@@ -272,6 +399,27 @@ impl Mem {
         self.is_range_outside(to, size)
             || self.is_range_outside(from, size)
             || is_overlap(to, from, size)
+    }
+
+    /// The fault of a copy of so many bytes.
+    fn copy_fault(&self, to: Ptr, from: Ptr, size: u64, align: u64) -> Option<MemFault>
+        ensures value { result ≡ copy_fault self.now to from size align }
+        ensures end_to { IfNone result (0 < size → place_of to.offset + size < 2 ^ 64) }
+        ensures end_from { IfNone result (0 < size → place_of from.offset + size < 2 ^ 64) }
+    {
+        if self.is_copy_gone(to, from) {
+            return Some(MemFault::NoObject);
+        }
+        if self.is_copy_outside(to, from, size) {
+            return Some(MemFault::Outside);
+        }
+        if is_copy_misaligned(to, from, align) {
+            return Some(MemFault::Misaligned);
+        }
+        if self.is_object_read_only(to) {
+            return Some(MemFault::ReadOnly);
+        }
+        None
     }
 
     /// Copies the cells of a copy that has no fault.
@@ -303,8 +451,8 @@ impl Mem {
         requires apart { (place_of to.offset + size ≤ place_of from.offset) ⊎ (place_of from.offset + size ≤ place_of to.offset) }
         ensures { self.new ≡ put_row self.old to (row_at self.old from size) }
     {
-        let object = &mut self.objects[to.object as usize];
-        copy_within(&mut object.cells, place(to), place(from), size as usize);
+        let slot = &mut self.objects[to.object as usize];
+        copy_inside(slot, place(to), place(from), size as usize);
     }
 
     /// Copies some cells of an object to another one.
@@ -319,18 +467,9 @@ impl Mem {
         requires end_from { place_of from.offset + size < 2 ^ 64 }
         ensures { self.new ≡ put_row self.old to (row_at self.old from size) }
     {
-        let none = Cells::none(self.alloc);
-        let target = &mut self.objects[to.object as usize];
-        let mut cells = mem::replace(&mut target.cells, none);
+        let mut target = mem::replace(&mut self.objects[to.object as usize], None);
         let source = &self.objects[from.object as usize];
-        copy_from(
-            &mut cells,
-            place(to),
-            &source.cells,
-            place(from),
-            size as usize,
-        );
-        let target = &mut self.objects[to.object as usize];
-        target.cells = cells;
+        copy_across(&mut target, place(to), source, place(from), size as usize);
+        self.objects[to.object as usize] = target;
     }
 }
