@@ -7,7 +7,8 @@ use Rattle.c_tree.specs.declared.types.TypeNode.{TypeNode}
 use Rattle.c_tree.specs.declared.types.TypeNode as y
 use Rattle.c_tree.specs.declared.types.TypeName.{TypeName}
 use Rattle.c_tree.specs.declared.types.Parameter.{Parameter}
-use Rattle.c_tree.specs.Nodes.{node_count, expr_node, parameter_node}
+use Rattle.c_tree.specs.Nodes.{node_count, expr_node}
+use Rattle.c_tree.specs.model.Parts.{parameter_node}
 use Rattle.c_tree.proofs.Counts as n
 use Rattle.c_tree.proofs.Counts.{expr_count, type_count, list_count}
 use Rattle.c_grammar.specs.declared.shapes.Shape.{Shape}

@@ -15,7 +15,8 @@ use Rattle.c_tree.specs.declared.declarations.Storage.{Storage}
 use Rattle.c_tree.specs.declared.declarations.Init.{Init}
 use Rattle.c_tree.specs.declared.declarations.External.{External}
 use Rattle.c_tree.specs.declared.declarations.TranslationUnit.{TranslationUnit}
-use Rattle.c_tree.specs.Nodes.{node_count, nodes_count, nodes_of, stmt_node, member_node, constant_node, local_node, first_nodes, part_of_for, optional, label_nodes, section_node, init_node, optional_init, external_node, unit_nodes}
+use Rattle.c_tree.specs.Nodes.{node_count, nodes_count, nodes_of, stmt_node, local_node, first_nodes, part_of_for, optional, label_nodes, init_node, optional_init, external_node, unit_nodes}
+use Rattle.c_tree.specs.model.Parts.{member_node, constant_node, section_node}
 use Rattle.c_tree.proofs.Counts as n
 use Rattle.c_tree.proofs.Counts.{expr_count, type_count, stmt_count, init_count, list_count, nodes_count-append_nodes, list_count-append}
 use Rattle.c_grammar.specs.declared.shapes.Naming.{Naming}

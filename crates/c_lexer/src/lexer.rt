@@ -5,6 +5,9 @@ use crate::piece::{Cut, Piece};
 use crate::token::{LexFault, Token, TokenKind};
 use std::marker::Model;
 
+/// The greatest number of bytes that a text may have.
+pub const TEXT_LIMIT: usize = 4_194_304;
+
 /// Cuts a text into tokens by longest match (C99 6.4p4). It takes no memory.
 #[derive(Drop)]
 pub struct Lexer<'a> {
@@ -14,6 +17,7 @@ pub struct Lexer<'a> {
 
 impl<'a> Model for Lexer<'a> {
     ghost use Rattle.std.specs.Prelude.{◌≤◌, ◌^◌, length};
+    ghost use Rattle.c_lexer.specs.Limits.{text_limit};
     ghost use Rattle.c_lexer.specs.Steps.{Place, place_code};
 
     ghost Value = { Place };
@@ -22,17 +26,18 @@ impl<'a> Model for Lexer<'a> {
 
     ghost view = { λ l. record { text = l.text.now; at = l.at } };
 
-    ghost invariant = { λ l. (l.at ≤ length l.text.now) × (length l.text.now ≤ 4194304) };
+    ghost invariant = { λ l. (l.at ≤ length l.text.now) × (length l.text.now ≤ text_limit) };
 }
 
 impl<'a> Lexer<'a> {
     ghost use Rattle.std.specs.Prelude.{◌≡◌, ◌≤◌, IfOk, IfErr, length};
+    ghost use Rattle.c_lexer.specs.Limits.{text_limit};
     ghost use Rattle.c_lexer.specs.Pieces.{IsStuck};
     ghost use Rattle.c_lexer.specs.Steps.{Gives, Refuses};
 
-    /// A lexer at the beginning of a text of at most 4,194,304 bytes.
+    /// A lexer at the beginning of a text of at most [`TEXT_LIMIT`](crate::TEXT_LIMIT) bytes.
     pub fn new(text: &'a [u8]) -> Lexer<'a>
-        requires { length text.now ≤ 4194304 }
+        requires { length text.now ≤ text_limit }
         ensures { result ≡ record { text = text.now; at = 0 } }
     {
         Lexer { text, at: 0 }
@@ -88,10 +93,8 @@ impl<'a> Lexer<'a> {
         ensures token { IfOk result (λ t. Gives self.old t self.new) }
         ensures fault { IfErr result (λ f. Refuses self.old f self.new) }
         ensures fault_again { IsStuck self.old.text self.old.at → result ≡ Err (record { at = self.old.at }) }
-        ensures end_again {
-            self.old.at ≡ length self.old.text
-                → result ≡ Ok (record { kind = TokenKind.End; at = self.old.at; len = 0 })
-        }
+        ensures end_again { self.old.at ≡ length self.old.text
+            → result ≡ Ok (record { kind = TokenKind.End; at = self.old.at; len = 0 }) }
     {
         self.advance()
     }

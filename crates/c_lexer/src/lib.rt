@@ -17,6 +17,6 @@ mod piece;
 mod token;
 mod words;
 
-pub use lexer::Lexer;
+pub use lexer::{Lexer, TEXT_LIMIT};
 pub use literals::{Item, item_at};
 pub use token::{Keyword, LexFault, Punct, Token, TokenKind};

@@ -16,8 +16,9 @@ use Rattle.c_tree.specs.declared.statements.Section.{Section}
 use Rattle.c_tree.specs.declared.statements.Local.{Local}
 use Rattle.c_tree.specs.declared.statements.ForFirst.{ForFirst}
 use Rattle.c_tree.specs.declared.declarations.Init as i
-use Rattle.c_tree.specs.Nodes.{Node, Nodes, node, none, more, children_of, nodes_of, node_count, nodes_count, append_nodes, expr_node, type_node, stmt_node, init_node, constant_node, member_node, parameter_node, section_node, local_node, first_nodes, part_of_for, optional, else_nodes}
-use Rattle.c_tree.specs.Open.{opens}
+use Rattle.c_tree.specs.Nodes.{Node, Nodes, node, none, more, nodes_of, node_count, nodes_count, append_nodes, expr_node, type_node, stmt_node, init_node, local_node, first_nodes, part_of_for, optional}
+use Rattle.c_tree.specs.model.Parts.{children_of, constant_node, member_node, parameter_node, section_node, else_nodes}
+use Rattle.c_tree.specs.model.Open.{opens}
 use Rattle.c_tree.proofs.Rows.{expr_row-hidden, constant_row-hidden, member_row-hidden, parameter_row-hidden, stmt_row-hidden, section_row-hidden, init_row-hidden, if-children}
 
 abbrev pub expr_count : e.Expr → ℕ

@@ -3,7 +3,8 @@ use Rattle.std.proofs.Common.{◌≡◌, ℕ, List, [], ◌∷◌, ◌++◌, Res
 use Rattle.std.specs.Prelude.{OnOk}
 use Rattle.std.proofs.lemmas.List.{take_more}
 use Rattle.c_tree.specs.Words.{spellings_text}
-use Rattle.c_tree.specs.Nodes.{Node, Nodes, node, none, more, lone, both, append_nodes, nodes_of, node_text, nodes_text, line_text}
+use Rattle.c_tree.specs.Nodes.{Node, Nodes, node, none, more, lone, both, append_nodes, nodes_of, node_text, nodes_text}
+use Rattle.c_tree.specs.model.Parts.{line_text}
 
 -- what follows where the call succeeds
 pub on_ok : {A E P Q : Type 0} (r : Result A E) → OnOk r P → (P → Q) → OnOk r Q

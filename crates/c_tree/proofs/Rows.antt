@@ -13,8 +13,9 @@ use Rattle.c_tree.specs.declared.statements.Stmt.TheBlock as b
 use Rattle.c_tree.specs.declared.statements.Section.{Section}
 use Rattle.c_tree.specs.declared.declarations.Init as i
 use Rattle.c_tree.specs.declared.declarations.Init.TheBlock as j
-use Rattle.c_tree.specs.Nodes.{node, lone, type_node, none, more, nodes_of, expr_node, expr_row, constant_row, constant_node, member_row, member_node, parameter_row, parameter_node, stmt_row, stmt_node, section_row, section_node, label_node, init_row, init_node, children_of, else_nodes}
-use Rattle.c_tree.specs.Open.{opens}
+use Rattle.c_tree.specs.Nodes.{node, lone, type_node, none, more, nodes_of, expr_node, expr_row, constant_row, member_row, parameter_row, stmt_row, stmt_node, section_row, label_node, init_row, init_node}
+use Rattle.c_tree.specs.model.Parts.{constant_node, member_node, parameter_node, section_node, children_of, else_nodes}
+use Rattle.c_tree.specs.model.Open.{opens}
 
 expr_row_is : (n : Count) (xs : k.Row_of-Expr n) → expr_row xs ≡ nodes_of expr_node (k.items-the_row-Expr n xs)
 unfolding expr_node

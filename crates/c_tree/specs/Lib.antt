@@ -1,4 +1,4 @@
 pub mod formers
 pub mod Words
 pub mod Nodes
-pub mod Open
+pub mod model

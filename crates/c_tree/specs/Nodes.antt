@@ -5,11 +5,8 @@ use Rattle.c_tree.specs.declared.expressions.Expr as e
 use Rattle.c_tree.specs.declared.types.TypeNode as t
 use Rattle.c_tree.specs.declared.expressions.Expr.TheBlock as k
 use Rattle.c_tree.specs.declared.types.Declaration.{Declaration}
-use Rattle.c_tree.specs.declared.types.Constant.{Constant}
-use Rattle.c_tree.specs.declared.types.Parameter.{Parameter}
 use Rattle.c_tree.specs.declared.statements.Stmt as s
 use Rattle.c_tree.specs.declared.statements.Stmt.TheBlock as b
-use Rattle.c_tree.specs.declared.statements.Section.{Section}
 use Rattle.c_tree.specs.declared.statements.Local.{Local}
 use Rattle.c_tree.specs.declared.statements.Label.{Label}
 use Rattle.c_tree.specs.declared.statements.Label.TheVariants as l
@@ -113,16 +110,6 @@ abbrev pub optional : Option e.Expr → Nodes
 optional None = none
 optional (Some y) = lone (expr_node y)
 
--- the parts of a type
-abbrev pub constant_node : Constant → Node
-constant_node c = node (codes "constant " ++ c.name) (optional c.value)
-
-abbrev pub member_node : Declaration → Node
-member_node d = node (codes "member " ++ d.name) (lone (type_node d.ty))
-
-abbrev pub parameter_node : Parameter → Node
-parameter_node p = node (codes "parameter " ++ name_or_dash p.name) (lone (type_node p.ty))
-
 -- a part of `for`, which is said to be missing
 abbrev pub part_of_for : Option e.Expr → Node
 part_of_for None = node (codes "none") none
@@ -177,13 +164,6 @@ unfoldable mutual
   section_row b.end_of-Section = none
   section_row (b.more_of-Section label _ statements rest) = more (label_node label (stmt_row statements)) (section_row rest)
 
-abbrev pub else_nodes : Option s.Stmt → Nodes
-else_nodes None = none
-else_nodes (Some y) = lone (stmt_node y)
-
-abbrev pub section_node : Section → Node
-section_node x = label_node x.label (nodes_of stmt_node x.statements)
-
 -- What stands at file scope.
 unfoldable mutual
   pub init_node : i.Init → Node
@@ -224,16 +204,6 @@ abbrev mutual
 
 abbrev pub text_of : TranslationUnit → List ℕ
 text_of unit = nodes_text [] (nodes_of external_node unit.externals)
-
--- the line of a node, and what stands under it
-abbrev pub line_of : Node → List ℕ
-line_of (node line children) = line
-
-abbrev pub children_of : Node → Nodes
-children_of (node line children) = children
-
-abbrev pub line_text : List ℕ → List ℕ → List ℕ
-line_text indent line = indent ++ line ++ 10 ∷ []
 
 -- how many nodes there are
 abbrev mutual

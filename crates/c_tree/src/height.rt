@@ -2,10 +2,11 @@
 //!
 //! Each form has a function for itself and one for what stands under it, as in the text of a tree.
 //! The bound falls by one with each node, and at 0 nothing goes further down.
-#![tactic(auto, using(crate::proofs::Rows::rows, crate::proofs::Heights::heights), unfolding(crate::specs::Open::opens))]
+#![tactic(auto, using(crate::proofs::Rows::rows, crate::proofs::Heights::heights), unfolding(crate::specs::model::Open::opens))]
 
 ghost use Rattle.std.specs.Prelude.{◌≤◌, ◌↔◌, IsTrue};
-ghost use Rattle.c_tree.specs.Nodes.{node_height, nodes_height, expr_node, type_node, nodes_of, children_of, both, append_nodes, constant_node, member_node, parameter_node, optional, local_node, first_nodes, part_of_for, label_nodes, section_node, else_nodes, stmt_node, init_node, optional_init, end_nodes, external_node, unit_height};
+ghost use Rattle.c_tree.specs.Nodes.{node_height, nodes_height, expr_node, type_node, nodes_of, both, append_nodes, optional, local_node, first_nodes, part_of_for, label_nodes, stmt_node, init_node, optional_init, end_nodes, external_node, unit_height};
+ghost use Rattle.c_tree.specs.model.Parts.{children_of, constant_node, member_node, parameter_node, section_node, else_nodes};
 
 use crate::{
     Box, Constant, Declaration, Expr, External, ForFirst, FunctionEnd, Init, Label, Local,

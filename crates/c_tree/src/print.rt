@@ -5,7 +5,8 @@
 
 ghost use Rattle.std.specs.Prelude.{◌≡◌, ◌++◌, [], ◌∷◌, IfOk, OnOk};
 ghost use Rattle.c_tree.specs.Words as words;
-ghost use Rattle.c_tree.specs.Nodes.{expr_node, type_node, nodes_of, nodes_text, node_text, line_text, line_of, children_of, constant_node, member_node, parameter_node, optional};
+ghost use Rattle.c_tree.specs.Nodes.{expr_node, type_node, nodes_of, nodes_text, node_text, optional};
+ghost use Rattle.c_tree.specs.model.Parts.{line_text, line_of, children_of, constant_node, member_node, parameter_node};
 
 use crate::words::{assign_word, basic_words, binary_word, name_or_dash, step_word, unary_word};
 use crate::{Constant, Declaration, Expr, Name, Parameter, TypeNode};
@@ -60,7 +61,7 @@ fn spellings_text(alloc: Global, spellings: &[Name]) -> Result<Vec<u8>, AllocErr
 }
 
 /// Puts the line of an expression.
-#[tactic(auto, unfolding(crate::specs::Open::opens))]
+#[tactic(auto, unfolding(crate::specs::model::Open::opens))]
 fn expr_line(alloc: Global, out: &mut Vec<u8>, indent: &[u8], e: &Expr) -> Result<(), AllocError>
     ensures { OnOk result (out.new.items ≡ out.old.items ++ line_text indent.now (line_of (expr_node e.now))) }
 {
@@ -92,7 +93,7 @@ fn expr_line(alloc: Global, out: &mut Vec<u8>, indent: &[u8], e: &Expr) -> Resul
 
 /// Puts an expression.
 #[cycle(ast)]
-#[tactic(auto, using(crate::proofs::Rows::rows), unfolding(crate::specs::Open::opens))]
+#[tactic(auto, using(crate::proofs::Rows::rows), unfolding(crate::specs::model::Open::opens))]
 pub fn put_expr(alloc: Global, out: &mut Vec<u8>, indent: &[u8], e: &Expr) -> Result<(), AllocError>
     ensures { OnOk result (out.new.items ≡ out.old.items ++ node_text indent.now (expr_node e.now)) }
 {
@@ -103,7 +104,7 @@ pub fn put_expr(alloc: Global, out: &mut Vec<u8>, indent: &[u8], e: &Expr) -> Re
 
 /// Puts what stands under an expression.
 #[cycle(ast)]
-#[tactic(auto, using(crate::proofs::Rows::rows), unfolding(crate::specs::Open::opens))]
+#[tactic(auto, using(crate::proofs::Rows::rows), unfolding(crate::specs::model::Open::opens))]
 fn put_operands(alloc: Global, out: &mut Vec<u8>, indent: &[u8], e: &Expr) -> Result<(), AllocError>
     ensures { OnOk result (out.new.items ≡ out.old.items ++ nodes_text indent.now (children_of (expr_node e.now))) }
 {
@@ -148,7 +149,7 @@ fn put_operands(alloc: Global, out: &mut Vec<u8>, indent: &[u8], e: &Expr) -> Re
 
 /// Puts expressions.
 #[cycle(ast)]
-#[tactic(auto, using(crate::proofs::Rows::rows), unfolding(crate::specs::Open::opens))]
+#[tactic(auto, using(crate::proofs::Rows::rows), unfolding(crate::specs::model::Open::opens))]
 fn put_exprs(
     alloc: Global,
     out: &mut Vec<u8>,
@@ -165,7 +166,7 @@ fn put_exprs(
 
 /// Puts an expression that may be missing.
 #[cycle(ast)]
-#[tactic(auto, using(crate::proofs::Rows::rows), unfolding(crate::specs::Open::opens))]
+#[tactic(auto, using(crate::proofs::Rows::rows), unfolding(crate::specs::model::Open::opens))]
 pub fn put_value(
     alloc: Global,
     out: &mut Vec<u8>,
@@ -181,7 +182,7 @@ pub fn put_value(
 }
 
 /// Puts the line of a type.
-#[tactic(auto, unfolding(crate::specs::Open::opens))]
+#[tactic(auto, unfolding(crate::specs::model::Open::opens))]
 fn type_line(out: &mut Vec<u8>, indent: &[u8], ty: &TypeNode) -> Result<(), AllocError>
     ensures { OnOk result (out.new.items ≡ out.old.items ++ line_text indent.now (line_of (type_node ty.now))) }
 {
@@ -198,7 +199,7 @@ fn type_line(out: &mut Vec<u8>, indent: &[u8], ty: &TypeNode) -> Result<(), Allo
 
 /// Puts a type.
 #[cycle(ast)]
-#[tactic(auto, using(crate::proofs::Rows::rows), unfolding(crate::specs::Open::opens))]
+#[tactic(auto, using(crate::proofs::Rows::rows), unfolding(crate::specs::model::Open::opens))]
 pub fn put_type(
     alloc: Global,
     out: &mut Vec<u8>,
@@ -214,7 +215,7 @@ pub fn put_type(
 
 /// Puts what stands under a type.
 #[cycle(ast)]
-#[tactic(auto, using(crate::proofs::Rows::rows), unfolding(crate::specs::Open::opens))]
+#[tactic(auto, using(crate::proofs::Rows::rows), unfolding(crate::specs::model::Open::opens))]
 fn put_type_parts(
     alloc: Global,
     out: &mut Vec<u8>,
@@ -254,7 +255,7 @@ fn put_type_parts(
 
 /// Puts enumeration constants.
 #[cycle(ast)]
-#[tactic(auto, using(crate::proofs::Rows::rows), unfolding(crate::specs::Open::opens))]
+#[tactic(auto, using(crate::proofs::Rows::rows), unfolding(crate::specs::model::Open::opens))]
 fn put_constants(
     alloc: Global,
     out: &mut Vec<u8>,
@@ -273,7 +274,7 @@ fn put_constants(
 
 /// Puts members.
 #[cycle(ast)]
-#[tactic(auto, using(crate::proofs::Rows::rows), unfolding(crate::specs::Open::opens))]
+#[tactic(auto, using(crate::proofs::Rows::rows), unfolding(crate::specs::model::Open::opens))]
 fn put_members(
     alloc: Global,
     out: &mut Vec<u8>,
@@ -292,7 +293,7 @@ fn put_members(
 
 /// Puts parameters.
 #[cycle(ast)]
-#[tactic(auto, using(crate::proofs::Rows::rows), unfolding(crate::specs::Open::opens))]
+#[tactic(auto, using(crate::proofs::Rows::rows), unfolding(crate::specs::model::Open::opens))]
 fn put_parameters(
     alloc: Global,
     out: &mut Vec<u8>,

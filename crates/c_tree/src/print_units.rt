@@ -1,7 +1,8 @@
 //! The text of statements, externals and units.
 
 ghost use Rattle.std.specs.Prelude.{◌≡◌, ◌++◌, [], IfOk, OnOk};
-ghost use Rattle.c_tree.specs.Nodes.{nodes_of, nodes_text, node_text, line_text, line_of, children_of, local_node, first_nodes, part_of_for, label_line, label_nodes, section_node, type_node, else_nodes, stmt_node, init_node, optional_init, end_nodes, external_node, text_of};
+ghost use Rattle.c_tree.specs.Nodes.{nodes_of, nodes_text, node_text, local_node, first_nodes, part_of_for, label_line, label_nodes, type_node, stmt_node, init_node, optional_init, end_nodes, external_node, text_of};
+ghost use Rattle.c_tree.specs.model.Parts.{line_text, line_of, children_of, section_node, else_nodes};
 
 use crate::print::{below, put_expr, put_line, put_line_of_three, put_type, put_value};
 use crate::words::storage_text;
@@ -12,7 +13,7 @@ use crate::{
 use std::alloc::{AllocError, Global};
 
 /// Puts a declaration in a block.
-#[tactic(auto, using(crate::proofs::Rows::rows), unfolding(crate::specs::Open::opens))]
+#[tactic(auto, using(crate::proofs::Rows::rows), unfolding(crate::specs::model::Open::opens))]
 fn put_local(
     alloc: Global,
     out: &mut Vec<u8>,
@@ -43,7 +44,7 @@ fn put_locals(
 }
 
 /// Puts the first part of a `for`.
-#[tactic(auto, using(crate::proofs::Rows::rows), unfolding(crate::specs::Open::opens))]
+#[tactic(auto, using(crate::proofs::Rows::rows), unfolding(crate::specs::model::Open::opens))]
 fn put_first(
     alloc: Global,
     out: &mut Vec<u8>,
@@ -60,7 +61,7 @@ fn put_first(
 }
 
 /// Puts the condition or the step of a `for`.
-#[tactic(auto, using(crate::proofs::Rows::rows), unfolding(crate::specs::Open::opens))]
+#[tactic(auto, using(crate::proofs::Rows::rows), unfolding(crate::specs::model::Open::opens))]
 fn put_part_of_for(
     alloc: Global,
     out: &mut Vec<u8>,
@@ -76,7 +77,7 @@ fn put_part_of_for(
 }
 
 /// Puts the line of a statement.
-#[tactic(auto, unfolding(crate::specs::Open::opens))]
+#[tactic(auto, unfolding(crate::specs::model::Open::opens))]
 fn stmt_line(out: &mut Vec<u8>, indent: &[u8], stmt: &Stmt) -> Result<(), AllocError>
     ensures { OnOk result (out.new.items ≡ out.old.items ++ line_text indent.now (line_of (stmt_node stmt.now))) }
 {
@@ -98,7 +99,7 @@ fn stmt_line(out: &mut Vec<u8>, indent: &[u8], stmt: &Stmt) -> Result<(), AllocE
 
 /// Puts a statement.
 #[cycle(statement)]
-#[tactic(auto, using(crate::proofs::Rows::rows), unfolding(crate::specs::Open::opens))]
+#[tactic(auto, using(crate::proofs::Rows::rows), unfolding(crate::specs::model::Open::opens))]
 fn put_stmt(alloc: Global, out: &mut Vec<u8>, indent: &[u8], stmt: &Stmt) -> Result<(), AllocError>
     ensures { OnOk result (out.new.items ≡ out.old.items ++ node_text indent.now (stmt_node stmt.now)) }
 {
@@ -109,7 +110,7 @@ fn put_stmt(alloc: Global, out: &mut Vec<u8>, indent: &[u8], stmt: &Stmt) -> Res
 
 /// Puts what stands under a statement.
 #[cycle(statement)]
-#[tactic(auto, using(crate::proofs::Rows::rows), unfolding(crate::specs::Open::opens))]
+#[tactic(auto, using(crate::proofs::Rows::rows), unfolding(crate::specs::model::Open::opens))]
 fn put_parts(alloc: Global, out: &mut Vec<u8>, indent: &[u8], stmt: &Stmt) -> Result<(), AllocError>
     ensures { OnOk result (out.new.items ≡ out.old.items ++ nodes_text indent.now (children_of (stmt_node stmt.now))) }
 {
@@ -161,7 +162,7 @@ fn put_parts(alloc: Global, out: &mut Vec<u8>, indent: &[u8], stmt: &Stmt) -> Re
 
 /// Puts the statement behind `else`, if there is one.
 #[cycle(statement)]
-#[tactic(auto, using(crate::proofs::Rows::rows), unfolding(crate::specs::Open::opens))]
+#[tactic(auto, using(crate::proofs::Rows::rows), unfolding(crate::specs::model::Open::opens))]
 fn put_otherwise(
     alloc: Global,
     out: &mut Vec<u8>,
@@ -178,7 +179,7 @@ fn put_otherwise(
 
 /// Puts statements.
 #[cycle(statement)]
-#[tactic(auto, using(crate::proofs::Rows::rows), unfolding(crate::specs::Open::opens))]
+#[tactic(auto, using(crate::proofs::Rows::rows), unfolding(crate::specs::model::Open::opens))]
 fn put_stmts(
     alloc: Global,
     out: &mut Vec<u8>,
@@ -194,7 +195,7 @@ fn put_stmts(
 }
 
 /// Puts the line of a label, and the value of a `case`.
-#[tactic(auto, using(crate::proofs::Rows::rows), unfolding(crate::specs::Open::opens))]
+#[tactic(auto, using(crate::proofs::Rows::rows), unfolding(crate::specs::model::Open::opens))]
 fn put_label(
     alloc: Global,
     out: &mut Vec<u8>,
@@ -216,7 +217,7 @@ fn put_label(
 
 /// Puts the labels of a `switch` with their statements.
 #[cycle(statement)]
-#[tactic(auto, using(crate::proofs::Rows::rows), unfolding(crate::specs::Open::opens))]
+#[tactic(auto, using(crate::proofs::Rows::rows), unfolding(crate::specs::model::Open::opens))]
 fn put_sections(
     alloc: Global,
     out: &mut Vec<u8>,
@@ -235,7 +236,7 @@ fn put_sections(
 
 /// Puts an initialiser.
 #[cycle(init)]
-#[tactic(auto, using(crate::proofs::Rows::rows), unfolding(crate::specs::Open::opens))]
+#[tactic(auto, using(crate::proofs::Rows::rows), unfolding(crate::specs::model::Open::opens))]
 fn put_init(alloc: Global, out: &mut Vec<u8>, indent: &[u8], init: &Init) -> Result<(), AllocError>
     ensures { OnOk result (out.new.items ≡ out.old.items ++ node_text indent.now (init_node init.now)) }
 {
@@ -251,7 +252,7 @@ fn put_init(alloc: Global, out: &mut Vec<u8>, indent: &[u8], init: &Init) -> Res
 
 /// Puts initialisers.
 #[cycle(init)]
-#[tactic(auto, using(crate::proofs::Rows::rows), unfolding(crate::specs::Open::opens))]
+#[tactic(auto, using(crate::proofs::Rows::rows), unfolding(crate::specs::model::Open::opens))]
 fn put_inits(
     alloc: Global,
     out: &mut Vec<u8>,
@@ -285,7 +286,7 @@ fn put_declaration(
 }
 
 /// Puts an initialiser that may be missing.
-#[tactic(auto, using(crate::proofs::Rows::rows), unfolding(crate::specs::Open::opens))]
+#[tactic(auto, using(crate::proofs::Rows::rows), unfolding(crate::specs::model::Open::opens))]
 fn put_optional_init(
     alloc: Global,
     out: &mut Vec<u8>,
@@ -301,7 +302,7 @@ fn put_optional_init(
 }
 
 /// Puts what follows the declarator of a function.
-#[tactic(auto, using(crate::proofs::Rows::rows), unfolding(crate::specs::Open::opens))]
+#[tactic(auto, using(crate::proofs::Rows::rows), unfolding(crate::specs::model::Open::opens))]
 fn put_end(
     alloc: Global,
     out: &mut Vec<u8>,
@@ -322,7 +323,7 @@ fn put_end(
 }
 
 /// Puts what stands at file scope.
-#[tactic(auto, using(crate::proofs::Rows::rows), unfolding(crate::specs::Open::opens))]
+#[tactic(auto, using(crate::proofs::Rows::rows), unfolding(crate::specs::model::Open::opens))]
 fn put_external(
     alloc: Global,
     out: &mut Vec<u8>,

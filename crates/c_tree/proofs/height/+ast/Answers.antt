@@ -1,6 +1,7 @@
 use Rattle.std.proofs.Common.{sym, ap, ◌∙◌}
-use Rattle.c_tree.specs.Nodes.{constant_node, expr_node, member_node, parameter_node, type_node, nodes_of, children_of, more}
-use Rattle.c_tree.specs.Open.{opens}
+use Rattle.c_tree.specs.Nodes.{expr_node, type_node, nodes_of, more}
+use Rattle.c_tree.specs.model.Parts.{constant_node, member_node, parameter_node, children_of}
+use Rattle.c_tree.specs.model.Open.{opens}
 use Rattle.c_tree.proofs.Rows.{expr_row-hidden, parameter_row-hidden}
 use Rattle.c_tree.proofs.Heights.{one_more, too_high, height-is, rest-is}
 use Rattle.c_tree.proofs.height.+ast.Goals as goal

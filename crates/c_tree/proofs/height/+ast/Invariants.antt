@@ -1,5 +1,6 @@
 use Rattle.std.proofs.Common.{◌≤◌, take}
-use Rattle.c_tree.specs.Nodes.{nodes_height, nodes_of, constant_node, expr_node, member_node, parameter_node}
+use Rattle.c_tree.specs.Nodes.{nodes_height, nodes_of, expr_node}
+use Rattle.c_tree.specs.model.Parts.{constant_node, member_node, parameter_node}
 use Rattle.c_tree.proofs.height.+ast.Given as goal
 
 abbrev pub invariant-are_exprs_within-loop-e : goal.invariant-are_exprs_within-loop-e

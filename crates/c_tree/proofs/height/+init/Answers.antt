@@ -1,7 +1,7 @@
 use Rattle.std.proofs.Common.{sym, ap, ◌∙◌, arith}
 use Rattle.std.specs.Prelude.{codes}
 use Rattle.c_tree.specs.Nodes.{node, init_node, nodes_of}
-use Rattle.c_tree.specs.Open.{opens}
+use Rattle.c_tree.specs.model.Open.{opens}
 use Rattle.c_tree.proofs.Rows.{init_row-hidden}
 use Rattle.c_tree.proofs.Heights.{one_more, too_high, node-is}
 use Rattle.c_tree.proofs.height.+init.Goals as goal

@@ -1,6 +1,7 @@
 use Rattle.std.proofs.Common.{sym, ap, ◌∙◌}
-use Rattle.c_tree.specs.Nodes.{section_node, stmt_node, expr_node, nodes_of, children_of, part_of_for, first_nodes, more, both, append_nodes}
-use Rattle.c_tree.specs.Open.{opens}
+use Rattle.c_tree.specs.Nodes.{stmt_node, expr_node, nodes_of, part_of_for, first_nodes, more, both, append_nodes}
+use Rattle.c_tree.specs.model.Parts.{section_node, children_of}
+use Rattle.c_tree.specs.model.Open.{opens}
 use Rattle.c_tree.proofs.Rows.{stmt_row-hidden, section_row-hidden}
 use Rattle.c_tree.proofs.Heights.{one_more, too_high, height-is, rest-is, last-is}
 use Rattle.c_tree.proofs.height.+statement.Goals as goal

@@ -1,5 +1,6 @@
 use Rattle.std.proofs.Common.{◌≤◌, take}
-use Rattle.c_tree.specs.Nodes.{nodes_height, nodes_of, section_node, stmt_node}
+use Rattle.c_tree.specs.Nodes.{nodes_height, nodes_of, stmt_node}
+use Rattle.c_tree.specs.model.Parts.{section_node}
 use Rattle.c_tree.proofs.height.+statement.Given as goal
 
 abbrev pub invariant-are_stmts_within-loop-stmt : goal.invariant-are_stmts_within-loop-stmt

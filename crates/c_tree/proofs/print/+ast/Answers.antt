@@ -1,8 +1,9 @@
 -- What each form puts, from what its calls put.
 use Rattle.std.proofs.Common.{◌++◌, sym, ap, ◌∙◌}
 use Rattle.std.specs.Prelude.{codes}
-use Rattle.c_tree.specs.Nodes.{nodes_of, expr_node, type_node, constant_node, member_node, parameter_node, children_of}
-use Rattle.c_tree.specs.Open.{opens}
+use Rattle.c_tree.specs.Nodes.{nodes_of, expr_node, type_node}
+use Rattle.c_tree.specs.model.Parts.{constant_node, member_node, parameter_node, children_of}
+use Rattle.c_tree.specs.model.Open.{opens}
 use Rattle.c_tree.proofs.Rows.{expr_row-hidden, parameter_row-hidden}
 use Rattle.c_tree.proofs.Lines.{one_more, under, one_under, nodes_are, first_and, two, three, both_is, more_is}
 use Rattle.c_tree.proofs.print.+ast.Goals as goal

@@ -1,6 +1,7 @@
 -- What a loop has put: the lines of the elements so far.
 use Rattle.std.proofs.Common.{◌≡◌, ◌++◌, ◌∷◌, [], take}
-use Rattle.c_tree.specs.Nodes.{nodes_text, nodes_of, expr_node, constant_node, member_node, parameter_node}
+use Rattle.c_tree.specs.Nodes.{nodes_text, nodes_of, expr_node}
+use Rattle.c_tree.specs.model.Parts.{constant_node, member_node, parameter_node}
 use Rattle.c_tree.proofs.print.+ast.Given as goal
 
 abbrev pub invariant-put_exprs-loop-e : goal.invariant-put_exprs-loop-e

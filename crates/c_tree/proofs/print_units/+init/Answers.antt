@@ -1,7 +1,7 @@
 use Rattle.std.proofs.Common.{sym, ap, ◌∙◌}
 use Rattle.c_tree.specs.Nodes.{node, nodes_of, init_node}
 use Rattle.std.specs.Prelude.{codes}
-use Rattle.c_tree.specs.Open.{opens}
+use Rattle.c_tree.specs.model.Open.{opens}
 use Rattle.c_tree.proofs.Rows.{init_row-hidden}
 use Rattle.c_tree.proofs.Lines.{one_more, under_ok}
 use Rattle.c_tree.proofs.print_units.+init.Goals as goal

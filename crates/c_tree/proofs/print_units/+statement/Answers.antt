@@ -1,7 +1,8 @@
 -- What each form puts, from what its calls put.
 use Rattle.std.proofs.Common.{sym, ap, ◌∙◌, refl}
-use Rattle.c_tree.specs.Nodes.{both, more, nodes_of, expr_node, stmt_node, section_node, children_of, part_of_for, first_nodes, append_nodes, else_nodes}
-use Rattle.c_tree.specs.Open.{opens}
+use Rattle.c_tree.specs.Nodes.{both, more, nodes_of, expr_node, stmt_node, part_of_for, first_nodes, append_nodes}
+use Rattle.c_tree.specs.model.Parts.{section_node, children_of, else_nodes}
+use Rattle.c_tree.specs.model.Open.{opens}
 use Rattle.c_tree.proofs.Rows.{stmt_row-hidden, section_row-hidden, if-children}
 use Rattle.c_tree.proofs.Lines.{one_more, nodes_are, first_and, two, four, two_lists}
 use Rattle.c_tree.proofs.print_units.+statement.Goals as goal

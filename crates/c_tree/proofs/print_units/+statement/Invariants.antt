@@ -1,5 +1,6 @@
 use Rattle.std.proofs.Common.{◌≡◌, ◌++◌, ◌∷◌, [], take}
-use Rattle.c_tree.specs.Nodes.{nodes_text, nodes_of, stmt_node, section_node}
+use Rattle.c_tree.specs.Nodes.{nodes_text, nodes_of, stmt_node}
+use Rattle.c_tree.specs.model.Parts.{section_node}
 use Rattle.c_tree.proofs.print_units.+statement.Given as goal
 
 abbrev pub invariant-put_stmts-loop-stmt : goal.invariant-put_stmts-loop-stmt
