@@ -12,17 +12,18 @@ use Rattle.alpha_run.specs.declared.ending.Ending.TheVariants as ending
 use Rattle.alpha_run.specs.declared.ending.Halt.{Halt}
 use Rattle.alpha_run.specs.declared.processor.Processor.{Processor}
 use Rattle.alpha_run.specs.declared.machine.Machine.TheInside.{Inside}
-use Rattle.alpha_run.specs.Ending.{halt_is, ended}
-use Rattle.alpha_run.specs.Snapshot.{Snapshot, standing}
+use Rattle.alpha_run.specs.Ending.{halt_is, ending_of}
+use Rattle.alpha_run.specs.Snapshot.{Snapshot, snapshot_state}
 use Rattle.alpha_run.specs.Snapshot as snapshot
-use Rattle.alpha_run.specs.Standing as processor
+use Rattle.alpha_run.specs.model.ProcessorState.{processor_state, IsProcessorOf}
 use Rattle.alpha_run.specs.Inside.{snapshot_of, IsSound}
-use Rattle.alpha_run.specs.Turns.{asks, with_taken}
-use Rattle.alpha_run.specs.Run.{counted, last_step, asked, halt_of, StopsAt, stops_early, moved, Told, Ran}
+use Rattle.alpha_run.specs.model.Turns.{with_taken}
+use Rattle.alpha_run.specs.Services.{asks}
+use Rattle.alpha_run.specs.Run.{count_plus, last_step, input_calls, halt_of, StopsAt, stops_early, snapshot_after, Traffic, IsRun}
 use Rattle.alpha_run.proofs.Runs.{exec_one, exec_none, steps_one-goes, steps_one-over, steps_none, takes_one-no, takes_one-yes, takes_none, ran_from, counted_none, taken_none}
 
 -- a machine that runs a program has its text, and its memory lies where the program's does
-pub processor_runs : (p : Program) (m : Inside) (v : Snapshot) → snapshot_of m ≡ v → IsSound m → snapshot.Runs p v → processor.Runs p m.processor
+pub processor_runs : (p : Program) (m : Inside) (v : Snapshot) → snapshot_of m ≡ v → IsSound m → snapshot.IsMachineOf p v → IsProcessorOf p m.processor
 processor_runs p m v is sound r =
     let text : m.processor.text.items ≡ map decoded p.words = ap (λ u. u.text) is ∙ r.text in
     let size : length m.processor.memory.data.items ≡ length p.bytes = ap (λ u. length u.data_bytes) is ∙ r.size in
@@ -35,86 +36,86 @@ processor_runs p m v is sound r =
     }
 
 -- an end that was come to in one step
-stops_over : (p : Program) (s t : State) (h : step.Halt) → exec p 1 s ≡ Over h t → StopsAt p 1 s (ended h) 1 t
+stops_over : (p : Program) (s t : State) (h : step.Halt) → exec p 1 s ≡ Over h t → StopsAt p 1 s (ending_of h) 1 t
 stops_over p s t (step.Done status) e = (refl, e)
 stops_over p s t (step.Trap code) e = (refl, e)
 stops_over p s t (step.Stuck pc) e = (refl, e)
 
-halted : (h : step.Halt) → Some h ≡ halt_of (ended h)
+halted : (h : step.Halt) → Some h ≡ halt_of (ending_of h)
 halted (step.Done status) = refl
 halted (step.Trap code) = refl
 halted (step.Stuck pc) = refl
 
-unasked : (h : step.Halt) → asked (ended h) 0 ≡ 0
+unasked : (h : step.Halt) → input_calls (ending_of h) 0 ≡ 0
 unasked (step.Done status) = refl
 unasked (step.Trap code) = refl
 unasked (step.Stuck pc) = refl
 
-pub ended_early : (h : step.Halt) → stops_early (ended h) ≡ true
+pub ended_early : (h : step.Halt) → stops_early (ending_of h) ≡ true
 ended_early (step.Done status) = refl
 ended_early (step.Trap code) = refl
 ended_early (step.Stuck pc) = refl
 
-last_counted : (h : step.Halt) (count : ℕ) → count < 2 ^ 64 → min (count + last_step h) count_end ≡ counted (last_step h) count
+last_counted : (h : step.Halt) (count : ℕ) → count < 2 ^ 64 → min (count + last_step h) count_end ≡ count_plus (last_step h) count
 last_counted (step.Done status) count small = refl
 last_counted (step.Trap code) count small = refl
 last_counted (step.Stuck pc) count small = omega arith
 
 module _ (p : Program) (x y : List ℕ) (m : Inside) (v : Snapshot) (is : snapshot_of m ≡ v) (running : v.halt ≡ None) where
   -- the machine after a turn
-  moved_is : (q : Processor) (input output : List ℕ) (st w : ℕ) (h : Option Halt) (i n : ℕ) (e : Ending) → q.text.items ≡ m.processor.text.items → st ≡ counted i m.steps → w ≡ counted n m.written → option_map halt_is h ≡ halt_of e → snapshot_of (record { processor = q; steps = st; written = w; halt = h }) ≡ moved v (processor.standing q input output) i n e
+  moved_is : (q : Processor) (input output : List ℕ) (st w : ℕ) (h : Option Halt) (i n : ℕ) (e : Ending) → q.text.items ≡ m.processor.text.items → st ≡ count_plus i m.steps → w ≡ count_plus n m.written → option_map halt_is h ≡ halt_of e → snapshot_of (record { processor = q; steps = st; written = w; halt = h }) ≡ snapshot_after v (processor_state q input output) i n e
   moved_is q input output st w h i n e text steps written halt =
-      rw (text, steps, written, halt) (ap (λ u. moved u (processor.standing q input output) i n e) is)
+      rw (text, steps, written, halt) (ap (λ u. snapshot_after u (processor_state q input output) i n e) is)
 
   still : option_map halt_is m.halt ≡ None
   still = ap (λ u. u.halt) is ∙ running
 
-  from_here : (e : Ending) (new : Snapshot) (told after : Told) → Ran p 1 e (processor.standing m.processor x y) v new told after → Ran p 1 e (standing v x y) v new told after
-  from_here e new told after r = subst (λ u. Ran p 1 e (standing u x y) v new told after) is r
+  from_here : (e : Ending) (new : Snapshot) (told after : Traffic) → IsRun p 1 e (processor_state m.processor x y) v new told after → IsRun p 1 e (snapshot_state v x y) v new told after
+  from_here e new told after r = subst (λ u. IsRun p 1 e (snapshot_state u x y) v new told after) is r
 
-  pub goes_turn : (q : Processor) (st : ℕ) (told : Told) → step p (processor.standing m.processor x y) ≡ Goes (processor.standing q x y) → asks p 3 (processor.standing m.processor x y) ≡ false → q.text.items ≡ m.processor.text.items → st ≡ next_count m.steps → told.left ≡ Some x → Ran p 1 ending.Budget (standing v x y) v (snapshot_of (record { processor = q; steps = st; written = m.written; halt = m.halt })) told told
+  pub goes_turn : (q : Processor) (st : ℕ) (told : Traffic) → step p (processor_state m.processor x y) ≡ Goes (processor_state q x y) → asks p 3 (processor_state m.processor x y) ≡ false → q.text.items ≡ m.processor.text.items → st ≡ next_count m.steps → told.left ≡ Some x → IsRun p 1 ending.Budget (snapshot_state v x y) v (snapshot_of (record { processor = q; steps = st; written = m.written; halt = m.halt })) told told
   goes_turn q st told goes a text steps left =
-      let s : State = processor.standing m.processor x y in
-      let t : State = processor.standing q x y in
+      let s : State = processor_state m.processor x y in
+      let t : State = processor_state q x y in
       from_here ending.Budget _ told told
       (ran_from p 1 ending.Budget s t v _ told told 1 1 0 [] (refl, exec_one p s (Goes t) goes) (steps_one-goes p s t goes) (takes_one-no p s (Goes t) a goes) (sym (append-nil y)) (moved_is q x y st m.written m.halt 1 0 ending.Budget text steps refl still) left (counted_none told.made) (taken_none told.taken))
 
-  pub over_turn : (q : Processor) (h : Halt) (e : Ending) (st : ℕ) (told : Told) → step p (processor.standing m.processor x y) ≡ Over (halt_is h) (processor.standing q x y) → asks p 3 (processor.standing m.processor x y) ≡ false → q.text.items ≡ m.processor.text.items → st ≡ min (m.steps + last_step (halt_is h)) count_end → m.steps < 2 ^ 64 → e ≡ ended (halt_is h) → told.left ≡ Some x → Ran p 1 e (standing v x y) v (snapshot_of (record { processor = q; steps = st; written = m.written; halt = Some h })) told told
+  pub over_turn : (q : Processor) (h : Halt) (e : Ending) (st : ℕ) (told : Traffic) → step p (processor_state m.processor x y) ≡ Over (halt_is h) (processor_state q x y) → asks p 3 (processor_state m.processor x y) ≡ false → q.text.items ≡ m.processor.text.items → st ≡ min (m.steps + last_step (halt_is h)) count_end → m.steps < 2 ^ 64 → e ≡ ending_of (halt_is h) → told.left ≡ Some x → IsRun p 1 e (snapshot_state v x y) v (snapshot_of (record { processor = q; steps = st; written = m.written; halt = Some h })) told told
   over_turn q h e st told goes a text steps small is_e left =
-      let s : State = processor.standing m.processor x y in
-      let t : State = processor.standing q x y in
+      let s : State = processor_state m.processor x y in
+      let t : State = processor_state q x y in
       let hs : step.Halt = halt_is h in
       from_here e _ told told
-      (subst (λ k. Ran p 1 k s v (snapshot_of (record { processor = q; steps = st; written = m.written; halt = Some h })) told told) (sym is_e)
-      (ran_from p 1 (ended hs) s t v _ told told 1 (last_step hs) 0 [] (stops_over p s t hs (exec_one p s (Over hs t) goes)) (steps_one-over p s t hs goes) (takes_one-no p s (Over hs t) a goes) (sym (append-nil y)) (moved_is q x y st m.written (Some h) (last_step hs) 0 (ended hs) text (steps ∙ last_counted hs m.steps small) refl (halted hs)) left (counted_none told.made ∙ ap (λ n. option_map (counted n) told.made) (sym (unasked hs))) (taken_none told.taken)))
+      (subst (λ k. IsRun p 1 k s v (snapshot_of (record { processor = q; steps = st; written = m.written; halt = Some h })) told told) (sym is_e)
+      (ran_from p 1 (ending_of hs) s t v _ told told 1 (last_step hs) 0 [] (stops_over p s t hs (exec_one p s (Over hs t) goes)) (steps_one-over p s t hs goes) (takes_one-no p s (Over hs t) a goes) (sym (append-nil y)) (moved_is q x y st m.written (Some h) (last_step hs) 0 (ending_of hs) text (steps ∙ last_counted hs m.steps small) refl (halted hs)) left (counted_none told.made ∙ ap (λ n. option_map (count_plus n) told.made) (sym (unasked hs))) (taken_none told.taken)))
 
-  pub write_fault : (q : Processor) (told after : Told) → processor.standing q x y ≡ processor.standing m.processor x y → asks p 2 (processor.standing m.processor x y) ≡ true → q.text.items ≡ m.processor.text.items → told.left ≡ Some x → after.left ≡ told.left → after.made ≡ told.made → after.taken ≡ told.taken → Ran p 1 ending.WriteFault (standing v x y) v (snapshot_of (record { processor = q; steps = m.steps; written = m.written; halt = m.halt })) told after
+  pub write_fault : (q : Processor) (told after : Traffic) → processor_state q x y ≡ processor_state m.processor x y → asks p 2 (processor_state m.processor x y) ≡ true → q.text.items ≡ m.processor.text.items → told.left ≡ Some x → after.left ≡ told.left → after.made ≡ told.made → after.taken ≡ told.taken → IsRun p 1 ending.WriteFault (snapshot_state v x y) v (snapshot_of (record { processor = q; steps = m.steps; written = m.written; halt = m.halt })) told after
   write_fault q told after same a text left left' made taken =
-      let s : State = processor.standing m.processor x y in
-      let t : State = processor.standing q x y in
+      let s : State = processor_state m.processor x y in
+      let t : State = processor_state q x y in
       from_here ending.WriteFault _ told after
       (ran_from p 1 ending.WriteFault s t v _ told after 0 0 0 [] (omega arith, exec_none p s ∙ ap Goes (sym same), ap (asks p 2) same ∙ a) (steps_none p s) (takes_none p s) (sym (append-nil y)) (moved_is q x y m.steps m.written m.halt 0 0 ending.WriteFault text refl refl still) (left' ∙ left) (made ∙ counted_none told.made) (taken ∙ taken_none told.taken))
 
-  pub input_fault : (q : Processor) (told after : Told) → processor.standing q x y ≡ processor.standing m.processor x y → asks p 3 (processor.standing m.processor x y) ≡ true → q.text.items ≡ m.processor.text.items → told.left ≡ Some x → after.left ≡ told.left → after.made ≡ option_map next_count told.made → after.taken ≡ told.taken → Ran p 1 ending.InputFault (standing v x y) v (snapshot_of (record { processor = q; steps = m.steps; written = m.written; halt = m.halt })) told after
+  pub input_fault : (q : Processor) (told after : Traffic) → processor_state q x y ≡ processor_state m.processor x y → asks p 3 (processor_state m.processor x y) ≡ true → q.text.items ≡ m.processor.text.items → told.left ≡ Some x → after.left ≡ told.left → after.made ≡ option_map next_count told.made → after.taken ≡ told.taken → IsRun p 1 ending.InputFault (snapshot_state v x y) v (snapshot_of (record { processor = q; steps = m.steps; written = m.written; halt = m.halt })) told after
   input_fault q told after same a text left left' made taken =
-      let s : State = processor.standing m.processor x y in
-      let t : State = processor.standing q x y in
+      let s : State = processor_state m.processor x y in
+      let t : State = processor_state q x y in
       from_here ending.InputFault _ told after
       (ran_from p 1 ending.InputFault s t v _ told after 0 0 0 [] (omega arith, exec_none p s ∙ ap Goes (sym same), ap (asks p 3) same ∙ a) (steps_none p s) (takes_none p s) (sym (append-nil y)) (moved_is q x y m.steps m.written m.halt 0 0 ending.InputFault text refl refl still) (left' ∙ left) made (taken ∙ taken_none told.taken))
 
-  pub puts_turn : (q a : Processor) (byte st w : ℕ) (told after : Told) → step p (processor.standing m.processor x y) ≡ advanced (processor.standing m.processor x (y ++ byte ∷ [])) → asks p 3 (processor.standing m.processor x y) ≡ false → processor.standing q x (y ++ byte ∷ []) ≡ processor.standing m.processor x (y ++ byte ∷ []) → Goes (processor.standing a x (y ++ byte ∷ [])) ≡ advanced (processor.standing q x (y ++ byte ∷ [])) → a.text.items ≡ m.processor.text.items → st ≡ next_count m.steps → w ≡ next_count m.written → told.left ≡ Some x → after.left ≡ told.left → after.made ≡ told.made → after.taken ≡ option_map (λ bytes. bytes ++ byte ∷ []) told.taken → Ran p 1 ending.Budget (standing v x y) v (snapshot_of (record { processor = a; steps = st; written = w; halt = m.halt })) told after
+  pub puts_turn : (q a : Processor) (byte st w : ℕ) (told after : Traffic) → step p (processor_state m.processor x y) ≡ advanced (processor_state m.processor x (y ++ byte ∷ [])) → asks p 3 (processor_state m.processor x y) ≡ false → processor_state q x (y ++ byte ∷ []) ≡ processor_state m.processor x (y ++ byte ∷ []) → Goes (processor_state a x (y ++ byte ∷ [])) ≡ advanced (processor_state q x (y ++ byte ∷ [])) → a.text.items ≡ m.processor.text.items → st ≡ next_count m.steps → w ≡ next_count m.written → told.left ≡ Some x → after.left ≡ told.left → after.made ≡ told.made → after.taken ≡ option_map (λ bytes. bytes ++ byte ∷ []) told.taken → IsRun p 1 ending.Budget (snapshot_state v x y) v (snapshot_of (record { processor = a; steps = st; written = w; halt = m.halt })) told after
   puts_turn q a byte st w told after goes no_take same on text steps written left left' made taken =
-      let s : State = processor.standing m.processor x y in
+      let s : State = processor_state m.processor x y in
       let z : List ℕ = y ++ byte ∷ [] in
-      let t : State = processor.standing a x z in
+      let t : State = processor_state a x z in
       let e : step p s ≡ Goes t = goes ∙ ap advanced (sym same) ∙ sym on in
       from_here ending.Budget _ told after
       (ran_from p 1 ending.Budget s t v _ told after 1 1 0 (byte ∷ []) (refl, exec_one p s (Goes t) e) (steps_one-goes p s t e) (takes_one-no p s (Goes t) no_take e) refl (moved_is a x z st w m.halt 1 1 ending.Budget text steps written still) (left' ∙ left) (made ∙ counted_none told.made) taken)
 
-  pub takes_turn : (q a : Processor) (byte : Option ℕ) (st : ℕ) (told after : Told) → step p (processor.standing m.processor x y) ≡ advanced (with_taken (processor.standing m.processor x y)) → asks p 3 (processor.standing m.processor x y) ≡ true → processor.standing q x y ≡ processor.standing m.processor x y → Goes (processor.standing a (drop 1 x) y) ≡ advanced (with_taken (processor.standing q x y)) → a.text.items ≡ m.processor.text.items → st ≡ next_count m.steps → told.left ≡ Some x → after.left ≡ option_map (drop 1) told.left → after.made ≡ option_map next_count told.made → after.taken ≡ told.taken → Ran p 1 ending.Budget (standing v x y) v (snapshot_of (record { processor = a; steps = st; written = m.written; halt = m.halt })) told after
+  pub takes_turn : (q a : Processor) (byte : Option ℕ) (st : ℕ) (told after : Traffic) → step p (processor_state m.processor x y) ≡ advanced (with_taken (processor_state m.processor x y)) → asks p 3 (processor_state m.processor x y) ≡ true → processor_state q x y ≡ processor_state m.processor x y → Goes (processor_state a (drop 1 x) y) ≡ advanced (with_taken (processor_state q x y)) → a.text.items ≡ m.processor.text.items → st ≡ next_count m.steps → told.left ≡ Some x → after.left ≡ option_map (drop 1) told.left → after.made ≡ option_map next_count told.made → after.taken ≡ told.taken → IsRun p 1 ending.Budget (snapshot_state v x y) v (snapshot_of (record { processor = a; steps = st; written = m.written; halt = m.halt })) told after
   takes_turn q a byte st told after goes take same on text steps left left' made taken =
-      let s : State = processor.standing m.processor x y in
-      let t : State = processor.standing a (drop 1 x) y in
+      let s : State = processor_state m.processor x y in
+      let t : State = processor_state a (drop 1 x) y in
       let e : step p s ≡ Goes t = goes ∙ ap (λ u. advanced (with_taken u)) (sym same) ∙ sym on in
       from_here ending.Budget _ told after
       (ran_from p 1 ending.Budget s t v _ told after 1 1 1 [] (refl, exec_one p s (Goes t) e) (steps_one-goes p s t e) (takes_one-yes p s t take e) (sym (append-nil y)) (moved_is a (drop 1 x) y st m.written m.halt 1 0 ending.Budget text steps refl still) (left' ∙ ap (option_map (drop 1)) left) made (taken ∙ taken_none told.taken))

@@ -1,4 +1,4 @@
--- Runs of the definition, one after the other.
+-- IsMachineOf of the definition, one after the other.
 use Rattle.std.proofs.Common.{◌≡◌, ℕ, zero, suc, ◌+◌, ◌-◌, ◌≤◌, List, [], ◌++◌, length, Bool, true, false, cond, Option, Some, None, option_map, refl, sym, ap, ◌∙◌, subst, arith, append_assoc, append-nil, length-append}
 use Rattle.alpha_isa.specs.Program.{Program}
 use Rattle.alpha_isa.specs.State.{State}
@@ -10,9 +10,9 @@ use Rattle.alpha_isa.proofs.Runs.{exec_split}
 use Rattle.bk_io.specs.Outside.{next_count}
 use Rattle.alpha_run.specs.declared.ending.Ending.{Ending}
 use Rattle.alpha_run.specs.declared.ending.Ending.TheVariants.{Done, Trap, Stuck, Budget, InputFault, WriteFault}
-use Rattle.alpha_run.specs.Snapshot.{Snapshot, standing, loaded, Runs}
-use Rattle.alpha_run.specs.Turns.{asks}
-use Rattle.alpha_run.specs.Run.{counted, last_step, steps_then, steps_in, takes_then, takes_in, asked, StopsAt, stops_early, moved, Told, Ran, Gives, Behaves}
+use Rattle.alpha_run.specs.Snapshot.{Snapshot, snapshot_state, first_snapshot, IsMachineOf}
+use Rattle.alpha_run.specs.Services.{asks}
+use Rattle.alpha_run.specs.Run.{count_plus, last_step, steps_then, steps_in, takes_then, takes_in, input_calls, StopsAt, stops_early, snapshot_after, Traffic, IsRun, Gives, Behaves}
 
 -- ---- one step
 
@@ -55,16 +55,16 @@ unfolding takes_in
 takes_none p s = refl
 
 -- a record of a run by the numbers of its steps
-pub ran_from : (p : Program) (n : ℕ) (e : Ending) (s t : State) (old new : Snapshot) (told after : Told) (k steps takes : ℕ) (put : List ℕ) → StopsAt p n s e k t → steps_in p k s ≡ steps → takes_in p k s ≡ takes → t.output ≡ s.output ++ put → new ≡ moved old t steps (length put) e → after.left ≡ Some t.input → after.made ≡ option_map (counted (asked e takes)) told.made → after.taken ≡ option_map (λ bytes. bytes ++ put) told.taken → Ran p n e s old new told after
+pub ran_from : (p : Program) (n : ℕ) (e : Ending) (s t : State) (old new : Snapshot) (told after : Traffic) (k steps takes : ℕ) (put : List ℕ) → StopsAt p n s e k t → steps_in p k s ≡ steps → takes_in p k s ≡ takes → t.output ≡ s.output ++ put → new ≡ snapshot_after old t steps (length put) e → after.left ≡ Some t.input → after.made ≡ option_map (count_plus (input_calls e takes)) told.made → after.taken ≡ option_map (λ bytes. bytes ++ put) told.taken → IsRun p n e s old new told after
 ran_from p n e s t old new told after k steps takes put stops i a puts machine left made taken = record {
   tried = k;
   place = t;
   put = put;
   stops = stops;
   puts = puts;
-  machine = machine ∙ ap (λ j. moved old t j (length put) e) (sym i);
+  machine = machine ∙ ap (λ j. snapshot_after old t j (length put) e) (sym i);
   left = left;
-  made = made ∙ ap (λ j. option_map (counted (asked e j)) told.made) (sym a);
+  made = made ∙ ap (λ j. option_map (count_plus (input_calls e j)) told.made) (sym a);
   taken = taken;
 }
 
@@ -120,17 +120,17 @@ over_on p (suc k) n s h t e =
 
 -- ---- counts
 
-pub counted_on : (n m c : ℕ) → counted n (counted m c) ≡ counted (m + n) c
-counted_on zero m c = let none : m + 0 ≡ m = omega arith in ap (λ j. counted j c) (sym none)
+pub counted_on : (n m c : ℕ) → count_plus n (count_plus m c) ≡ count_plus (m + n) c
+counted_on zero m c = let none : m + 0 ≡ m = omega arith in ap (λ j. count_plus j c) (sym none)
 counted_on (suc n) m c =
     let more : m + suc n ≡ suc (m + n) = omega arith in
-    ap next_count (counted_on n m c) ∙ ap (λ j. counted j c) (sym more)
+    ap next_count (counted_on n m c) ∙ ap (λ j. count_plus j c) (sym more)
 
-counted_made : (n m : ℕ) (made : Option ℕ) → option_map (counted n) (option_map (counted m) made) ≡ option_map (counted (m + n)) made
+counted_made : (n m : ℕ) (made : Option ℕ) → option_map (count_plus n) (option_map (count_plus m) made) ≡ option_map (count_plus (m + n)) made
 counted_made n m None = refl
 counted_made n m (Some c) = ap (λ j. Some j) (counted_on n m c)
 
-pub counted_none : (made : Option ℕ) → made ≡ option_map (counted 0) made
+pub counted_none : (made : Option ℕ) → made ≡ option_map (count_plus 0) made
 counted_none None = refl
 counted_none (Some c) = refl
 
@@ -142,7 +142,7 @@ pub taken_none : (taken : Option (List ℕ)) → taken ≡ option_map (λ bytes.
 taken_none None = refl
 taken_none (Some bytes) = simp append-nil refl
 
-asked_on : (e : Ending) (a b : ℕ) → asked e (a + b) ≡ a + asked e b
+asked_on : (e : Ending) (a b : ℕ) → input_calls e (a + b) ≡ a + input_calls e b
 asked_on InputFault a b = omega arith
 asked_on _ a b = refl
 
@@ -156,11 +156,11 @@ stops_on p k s t u Budget j x h = (ap (λ i. k + i) h.0, exec_on p k 1 s t x ∙
 stops_on p k s t u InputFault j x h = (omega (arith, h.0), exec_on p k j s t x ∙ h.1, h.2)
 stops_on p k s t u WriteFault j x h = (omega (arith, h.0), exec_on p k j s t x ∙ h.1, h.2)
 
-moved_on : (old : Snapshot) (t u : State) (a b i j : ℕ) (e : Ending) → moved (moved old t a i Budget) u b j e ≡ moved old u (a + b) (i + j) e
+moved_on : (old : Snapshot) (t u : State) (a b i j : ℕ) (e : Ending) → snapshot_after (snapshot_after old t a i Budget) u b j e ≡ snapshot_after old u (a + b) (i + j) e
 moved_on old t u a b i j e = rw (counted_on b a old.steps, counted_on j i old.written) refl
 
 -- a run of k steps and one more step
-pub ran_on : (p : Program) (k : ℕ) (e : Ending) (s : State) (old mid new : Snapshot) (told between after : Told) → (r : Ran p k Budget s old mid told between) → Ran p 1 e r.place mid new between after → Ran p (k + 1) e s old new told after
+pub ran_on : (p : Program) (k : ℕ) (e : Ending) (s : State) (old mid new : Snapshot) (told between after : Traffic) → (r : IsRun p k Budget s old mid told between) → IsRun p 1 e r.place mid new between after → IsRun p (k + 1) e s old new told after
 ran_on p k e s old mid new told between after r l =
     let t = r.place in
     let x : exec p r.tried s ≡ Goes t = ap (λ j. exec p j s) r.stops.0 ∙ r.stops.1 in
@@ -171,13 +171,13 @@ ran_on p k e s old mid new told between after r l =
     i
     a
     (l.puts ∙ ap (λ o. o ++ l.put) r.puts ∙ append_assoc s.output r.put l.put)
-    (l.machine ∙ ap (λ m. moved m l.place (steps_in p l.tried t) (length l.put) e) r.machine ∙ moved_on old t l.place (steps_in p r.tried s) (steps_in p l.tried t) (length r.put) (length l.put) e ∙ ap (λ j. moved old l.place (steps_in p r.tried s + steps_in p l.tried t) j e) (sym (length-append r.put l.put)))
+    (l.machine ∙ ap (λ m. snapshot_after m l.place (steps_in p l.tried t) (length l.put) e) r.machine ∙ moved_on old t l.place (steps_in p r.tried s) (steps_in p l.tried t) (length r.put) (length l.put) e ∙ ap (λ j. snapshot_after old l.place (steps_in p r.tried s + steps_in p l.tried t) j e) (sym (length-append r.put l.put)))
     l.left
-    (l.made ∙ ap (λ o. option_map (counted (asked e (takes_in p l.tried t))) o) r.made ∙ counted_made (asked e (takes_in p l.tried t)) (takes_in p r.tried s) told.made ∙ ap (λ j. option_map (counted j) told.made) (sym (asked_on e (takes_in p r.tried s) (takes_in p l.tried t))))
+    (l.made ∙ ap (λ o. option_map (count_plus (input_calls e (takes_in p l.tried t))) o) r.made ∙ counted_made (input_calls e (takes_in p l.tried t)) (takes_in p r.tried s) told.made ∙ ap (λ j. option_map (count_plus j) told.made) (sym (asked_on e (takes_in p r.tried s) (takes_in p l.tried t))))
     (l.taken ∙ ap (λ o. option_map (λ bytes. bytes ++ l.put) o) r.taken ∙ taken_on r.put l.put told.taken)
 
 -- a run that stopped before its steps were done stops there with more steps to do
-over_longer : (p : Program) (k n : ℕ) (s : State) (e : Ending) (h : Halt) (old new : Snapshot) (told after : Told) (r : Ran p k e s old new told after) → k ≤ n → r.tried ≡ k → exec p k s ≡ Over h r.place → ((j : ℕ) → j ≡ n → exec p n s ≡ Over h r.place → StopsAt p n s e j r.place) → Ran p n e s old new told after
+over_longer : (p : Program) (k n : ℕ) (s : State) (e : Ending) (h : Halt) (old new : Snapshot) (told after : Traffic) (r : IsRun p k e s old new told after) → k ≤ n → r.tried ≡ k → exec p k s ≡ Over h r.place → ((j : ℕ) → j ≡ n → exec p n s ≡ Over h r.place → StopsAt p n s e j r.place) → IsRun p n e s old new told after
 over_longer p k n s e h old new told after r le same x stops =
     let whole : k + (n - k) ≡ n = omega arith in
     let o = over_on p k (n - k) s h r.place x in
@@ -187,7 +187,7 @@ over_longer p k n s e h old new told after r le same x stops =
     (ap (λ j. takes_in p j s) (sym whole) ∙ o.2 ∙ ap (λ j. takes_in p j s) (sym same))
     r.puts r.machine r.left r.made r.taken
 
-pub ran_longer : (p : Program) (k n : ℕ) (s : State) (e : Ending) (old new : Snapshot) (told after : Told) → k ≤ n → stops_early e ≡ true → Ran p k e s old new told after → Ran p n e s old new told after
+pub ran_longer : (p : Program) (k n : ℕ) (s : State) (e : Ending) (old new : Snapshot) (told after : Traffic) → k ≤ n → stops_early e ≡ true → IsRun p k e s old new told after → IsRun p n e s old new told after
 ran_longer p k n s (Done status) old new told after le early r = over_longer p k n s (Done status) (step.Done status) old new told after r le r.stops.0 r.stops.1 (λ j same x. (same, x))
 ran_longer p k n s (Trap code) old new told after le early r = over_longer p k n s (Trap code) (step.Trap code) old new told after r le r.stops.0 r.stops.1 (λ j same x. (same, x))
 ran_longer p k n s (Stuck pc) old new told after le early r = over_longer p k n s (Stuck pc) (step.Stuck pc) old new told after r le r.stops.0 r.stops.1 (λ j same x. (same, x))
@@ -216,25 +216,25 @@ ran_longer p k n s WriteFault old new told after le early r = record {
 }
 
 -- a run of no steps
-pub ran_none : (p : Program) (bytes : List ℕ) (v : Snapshot) (told : Told) → v.halt ≡ None → told.left ≡ Some bytes → Ran p 0 Budget (standing v bytes []) v v told told
+pub ran_none : (p : Program) (bytes : List ℕ) (v : Snapshot) (told : Traffic) → v.halt ≡ None → told.left ≡ Some bytes → IsRun p 0 Budget (snapshot_state v bytes []) v v told told
 ran_none p bytes v told none left =
-    let s : State = standing v bytes [] in
+    let s : State = snapshot_state v bytes [] in
     ran_from p 0 Budget s s v v told told 0 0 0 [] (refl, exec_none p s) (steps_none p s) (takes_none p s) refl (ap (λ h. record v { halt = h }) none) left (counted_none told.made) (taken_none told.taken)
 
 -- a run of all its steps
-pub ran_whole : (p : Program) (k n : ℕ) (s : State) (old new : Snapshot) (told after : Told) → k ≡ n → Ran p k Budget s old new told after → Ran p n Budget s old new told after
-ran_whole p k n s old new told after same r = subst (λ j. Ran p j Budget s old new told after) same r
+pub ran_whole : (p : Program) (k n : ℕ) (s : State) (old new : Snapshot) (told after : Traffic) → k ≡ n → IsRun p k Budget s old new told after → IsRun p n Budget s old new told after
+ran_whole p k n s old new told after same r = subst (λ j. IsRun p j Budget s old new told after) same r
 
 -- one more turn
-pub ran_turn : (p : Program) (k : ℕ) (e : Ending) (s : State) (old mid new : Snapshot) (told between after : Told) → Ran p k Budget s old mid told between → ((x y : List ℕ) → Runs p mid → mid.halt ≡ None → between.left ≡ Some x → Ran p 1 e (standing mid x y) mid new between after) → Runs p mid → Ran p (k + 1) e s old new told after
+pub ran_turn : (p : Program) (k : ℕ) (e : Ending) (s : State) (old mid new : Snapshot) (told between after : Traffic) → IsRun p k Budget s old mid told between → ((x y : List ℕ) → IsMachineOf p mid → mid.halt ≡ None → between.left ≡ Some x → IsRun p 1 e (snapshot_state mid x y) mid new between after) → IsMachineOf p mid → IsRun p (k + 1) e s old new told after
 ran_turn p k e s old mid new told between after r turn runs =
     let t : State = r.place in
-    let here : standing mid t.input t.output ≡ t = ap (λ m. standing m t.input t.output) r.machine in
+    let here : snapshot_state mid t.input t.output ≡ t = ap (λ m. snapshot_state m t.input t.output) r.machine in
     let none : mid.halt ≡ None = ap (λ m. m.halt) r.machine in
-    ran_on p k e s old mid new told between after r (subst (λ u. Ran p 1 e u mid new between after) here (turn t.input t.output runs none r.left))
+    ran_on p k e s old mid new told between after r (subst (λ u. IsRun p 1 e u mid new between after) here (turn t.input t.output runs none r.left))
 
 -- a run from the start is the behaviour of the image
-pub ran_gives : (p : Program) (stack : ℕ) (input : List ℕ) (n : ℕ) (e : Ending) (old new : Snapshot) (told after : Told) → (r : Ran p n e (start p stack input) old new told after) → Gives p stack input n e r.put
+pub ran_gives : (p : Program) (stack : ℕ) (input : List ℕ) (n : ℕ) (e : Ending) (old new : Snapshot) (told after : Traffic) → (r : IsRun p n e (start p stack input) old new told after) → Gives p stack input n e r.put
 ran_gives p stack input n (Done status) old new told after r = ap behaviour r.stops.1 ∙ ap (λ o. behave.Done o status) r.puts
 ran_gives p stack input n (Trap code) old new told after r = ap behaviour r.stops.1 ∙ ap (λ o. behave.Trap o code) r.puts
 ran_gives p stack input n (Stuck pc) old new told after r = ap behaviour r.stops.1 ∙ ap (λ o. behave.Stuck o pc) r.puts
@@ -243,10 +243,18 @@ ran_gives p stack input n InputFault old new told after r = (r.tried, r.stops.0,
 ran_gives p stack input n WriteFault old new told after r = (r.tried, r.stops.0, ap behaviour r.stops.1 ∙ ap (λ o. behave.More o) r.puts)
 
 -- a machine that was just loaded runs its image, and has not come to an end
-pub loaded_runs : (p : Program) (stack : ℕ) (v : Snapshot) → v ≡ loaded p stack → Runs p v × (v.halt ≡ None)
+pub loaded_runs : (p : Program) (stack : ℕ) (v : Snapshot) → v ≡ first_snapshot p stack → IsMachineOf p v × (v.halt ≡ None)
 loaded_runs p stack v e = (record { text = ap (λ u. u.text) e; size = ap (λ u. length u.data_bytes) e }, ap (λ u. u.halt) e)
 
-pub ran_behaves : (p : Program) (stack : ℕ) (input : List ℕ) (n : ℕ) (e : Ending) (old new : Snapshot) (told after : Told) → old ≡ loaded p stack → Ran p n e (standing old input []) old new told after → Behaves p stack input n e told.taken after.taken
+pub ran_behaves : (p : Program) (stack : ℕ) (input : List ℕ) (n : ℕ) (e : Ending) (old new : Snapshot) (told after : Traffic) → old ≡ first_snapshot p stack → IsRun p n e (snapshot_state old input []) old new told after → Behaves p stack input n e told after
 ran_behaves p stack input n e old new told after same r =
-    let s : Ran p n e (start p stack input) old new told after = subst (λ u. Ran p n e (standing u input []) old new told after) same r in
-    record { put = s.put; gives = ran_gives p stack input n e old new told after s; taken = s.taken }
+    let s : IsRun p n e (start p stack input) old new told after = subst (λ u. IsRun p n e (snapshot_state u input []) old new told after) same r in
+    record {
+      tried = s.tried;
+      place = s.place;
+      stops = s.stops;
+      gives = subst (λ o. Gives p stack input n e o) (sym s.puts) (ran_gives p stack input n e old new told after s);
+      left = s.left;
+      made = s.made;
+      taken = s.taken ∙ ap (λ o. option_map (λ bytes. bytes ++ o) told.taken) (sym s.puts);
+    }

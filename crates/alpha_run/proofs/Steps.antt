@@ -12,10 +12,10 @@ use Rattle.alpha_isa.specs.State.{State, register, bytes_at, with_bytes}
 use Rattle.alpha_isa.specs.Step.{address, loaded, stored, memory_step}
 use Rattle.alpha_run.specs.declared.memory.Memory.{Memory}
 use Rattle.alpha_run.specs.declared.processor.Processor.{Processor}
-use Rattle.alpha_run.specs.Machine.{IsMemoryOf, HasBytesOf, stored_in}
-use Rattle.alpha_run.specs.Standing.{standing, Runs, given, advanced_if}
+use Rattle.alpha_run.specs.model.MemoryParts.{IsMemoryOf, HasBytesOf, stored_in}
+use Rattle.alpha_run.specs.model.ProcessorState.{processor_state, IsProcessorOf, next_with_word, advanced_if}
 
-pub memory_of : (p : Program) (m : Processor) (x y : List ℕ) → Runs p m → IsMemoryOf p (standing m x y) m.memory
+pub memory_of : (p : Program) (m : Processor) (x y : List ℕ) → IsProcessorOf p m → IsMemoryOf p (processor_state m x y) m.memory
 memory_of p m x y r = record {
   data_start = r.data_start;
   stack_start = r.stack_start;
@@ -32,31 +32,31 @@ high_is s rb disp word a fits e w = e ∙ ap (λ n. word_at (register s rb + n))
 
 -- ---- loads
 
-given_loaded : (value : List ℕ → ℕ) (ra : ℕ) (bytes : Option (List ℕ)) (s : State) (word : Option ℕ) → word ≡ option_map value bytes → given ra word s ≡ loaded value ra bytes s
+given_loaded : (value : List ℕ → ℕ) (ra : ℕ) (bytes : Option (List ℕ)) (s : State) (word : Option ℕ) → word ≡ option_map value bytes → next_with_word ra word s ≡ loaded value ra bytes s
 given_loaded value ra None s word e = rw e refl
 given_loaded value ra (Some bytes) s word e = rw e refl
 
-pub lda_given : (p : Program) (op : MemoryOp) (ra rb : ℕ) (disp : ℤ) (s : State) (a : ℕ) → op ≡ Lda → a ≡ address s rb disp → given ra (Some a) s ≡ memory_step p op ra rb disp s
+pub lda_given : (p : Program) (op : MemoryOp) (ra rb : ℕ) (disp : ℤ) (s : State) (a : ℕ) → op ≡ Lda → a ≡ address s rb disp → next_with_word ra (Some a) s ≡ memory_step p op ra rb disp s
 lda_given p op ra rb disp s a is e = rw (is, e) refl
 
-pub ldah_given : (p : Program) (op : MemoryOp) (ra rb : ℕ) (disp : ℤ) (s : State) (a : ℕ) → op ≡ Ldah → a ≡ address s rb (disp *ℤ pos 65536) → given ra (Some a) s ≡ memory_step p op ra rb disp s
+pub ldah_given : (p : Program) (op : MemoryOp) (ra rb : ℕ) (disp : ℤ) (s : State) (a : ℕ) → op ≡ Ldah → a ≡ address s rb (disp *ℤ pos 65536) → next_with_word ra (Some a) s ≡ memory_step p op ra rb disp s
 ldah_given p op ra rb disp s a is e = rw (is, e) refl
 
-pub ldbu_given : (p : Program) (op : MemoryOp) (ra rb : ℕ) (disp : ℤ) (s : State) (a : ℕ) (word : Option ℕ) → op ≡ Ldbu → a ≡ address s rb disp → word ≡ option_map (from_le_bytes w8) (bytes_at p s a 1) → given ra word s ≡ memory_step p op ra rb disp s
+pub ldbu_given : (p : Program) (op : MemoryOp) (ra rb : ℕ) (disp : ℤ) (s : State) (a : ℕ) (word : Option ℕ) → op ≡ Ldbu → a ≡ address s rb disp → word ≡ option_map (from_le_bytes w8) (bytes_at p s a 1) → next_with_word ra word s ≡ memory_step p op ra rb disp s
 ldbu_given p op ra rb disp s a word is e w = given_loaded (from_le_bytes w8) ra (bytes_at p s a 1) s word w ∙ rw (is, e) refl
 
-pub ldwu_given : (p : Program) (op : MemoryOp) (ra rb : ℕ) (disp : ℤ) (s : State) (a : ℕ) (word : Option ℕ) → op ≡ Ldwu → a ≡ address s rb disp → word ≡ option_map (from_le_bytes w16) (bytes_at p s a 2) → given ra word s ≡ memory_step p op ra rb disp s
+pub ldwu_given : (p : Program) (op : MemoryOp) (ra rb : ℕ) (disp : ℤ) (s : State) (a : ℕ) (word : Option ℕ) → op ≡ Ldwu → a ≡ address s rb disp → word ≡ option_map (from_le_bytes w16) (bytes_at p s a 2) → next_with_word ra word s ≡ memory_step p op ra rb disp s
 ldwu_given p op ra rb disp s a word is e w = given_loaded (from_le_bytes w16) ra (bytes_at p s a 2) s word w ∙ rw (is, e) refl
 
-pub ldl_given : (p : Program) (op : MemoryOp) (ra rb : ℕ) (disp : ℤ) (s : State) (a : ℕ) (word : Option ℕ) → op ≡ Ldl → a ≡ address s rb disp → word ≡ option_map (λ bytes. sign_extended w32 (from_le_bytes w32 bytes)) (bytes_at p s a 4) → given ra word s ≡ memory_step p op ra rb disp s
+pub ldl_given : (p : Program) (op : MemoryOp) (ra rb : ℕ) (disp : ℤ) (s : State) (a : ℕ) (word : Option ℕ) → op ≡ Ldl → a ≡ address s rb disp → word ≡ option_map (λ bytes. sign_extended w32 (from_le_bytes w32 bytes)) (bytes_at p s a 4) → next_with_word ra word s ≡ memory_step p op ra rb disp s
 ldl_given p op ra rb disp s a word is e w = given_loaded (λ bytes. sign_extended w32 (from_le_bytes w32 bytes)) ra (bytes_at p s a 4) s word w ∙ rw (is, e) refl
 
-pub ldq_given : (p : Program) (op : MemoryOp) (ra rb : ℕ) (disp : ℤ) (s : State) (a : ℕ) (word : Option ℕ) → op ≡ Ldq → a ≡ address s rb disp → word ≡ option_map (from_le_bytes w64) (bytes_at p s a 8) → given ra word s ≡ memory_step p op ra rb disp s
+pub ldq_given : (p : Program) (op : MemoryOp) (ra rb : ℕ) (disp : ℤ) (s : State) (a : ℕ) (word : Option ℕ) → op ≡ Ldq → a ≡ address s rb disp → word ≡ option_map (from_le_bytes w64) (bytes_at p s a 8) → next_with_word ra word s ≡ memory_step p op ra rb disp s
 ldq_given p op ra rb disp s a word is e w = given_loaded (from_le_bytes w64) ra (bytes_at p s a 8) s word w ∙ rw (is, e) refl
 
 -- ---- stores
 
-pub advanced_stored : (done : Bool) (m : Processor) (memory : Memory) (x y : List ℕ) → OnFalse done (HasBytesOf m.memory memory) → advanced_if done (standing (record m { memory = memory }) x y) ≡ stored (stored_in (standing m x y) memory done) (standing m x y)
+pub advanced_stored : (done : Bool) (m : Processor) (memory : Memory) (x y : List ℕ) → OnFalse done (HasBytesOf m.memory memory) → advanced_if done (processor_state (record m { memory = memory }) x y) ≡ stored (stored_in (processor_state m x y) memory done) (processor_state m x y)
 advanced_stored true m memory x y h = refl
 advanced_stored false m memory x y h = rw (h.0, h.1) refl
 

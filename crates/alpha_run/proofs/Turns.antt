@@ -15,9 +15,10 @@ use Rattle.alpha_isa.specs.Step.{Next, step, fetched_step, insn_step, memory_ste
 use Rattle.alpha_run.specs.declared.processor.Turn.{Turn}
 use Rattle.alpha_run.specs.declared.processor.Turn.TheVariants as turn
 use Rattle.alpha_run.specs.declared.processor.Processor.{Processor}
-use Rattle.alpha_run.specs.Standing.{standing}
-use Rattle.alpha_run.specs.Taken.{taken_word}
-use Rattle.alpha_run.specs.Turns.{with_taken, Calls, Steps, asks, takes, is_service}
+use Rattle.alpha_run.specs.model.ProcessorState.{processor_state}
+use Rattle.alpha_run.specs.model.TakenWord.{taken_word}
+use Rattle.alpha_run.specs.model.Turns.{with_taken, Calls, Steps, takes}
+use Rattle.alpha_run.specs.Services.{asks, is_service}
 
 -- no step but a service takes a byte
 asks_none : (p : Program) (s : State) (number : ℕ) → is_service (fetched p s.pc) ≡ false → asks p number s ≡ false
@@ -60,6 +61,6 @@ call_steps p s i function (turn.Puts byte) e same h = (insn_goes p s i (fields.P
 call_steps p s i function turn.Takes e same h = (insn_goes p s i (fields.Pal function) _ e same (sym h.0), service_asks p s i function 3 e same h.1 h.2, refl)
 
 -- the byte that was taken is the first of the input
-pub taken_goes : (m : Processor) (x y : List ℕ) (byte : Option ℕ) (word : ℕ) → word ≡ taken_word byte → byte ≡ slice_get x 0 → advanced (with_register 0 word (standing m (drop 1 x) y)) ≡ advanced (with_taken (standing m x y))
+pub taken_goes : (m : Processor) (x y : List ℕ) (byte : Option ℕ) (word : ℕ) → word ≡ taken_word byte → byte ≡ slice_get x 0 → advanced (with_register 0 word (processor_state m (drop 1 x) y)) ≡ advanced (with_taken (processor_state m x y))
 taken_goes m [] y byte word w b = rw (w, b) refl
 taken_goes m (first ∷ rest) y byte word w b = rw (w, b) refl

@@ -1,9 +1,6 @@
-pub mod Outcome
-pub mod Machine
-pub mod Standing
 pub mod Ending
-pub mod Turns
+pub mod Services
 pub mod Snapshot
 pub mod Inside
 pub mod Run
-pub mod Taken
+pub mod model

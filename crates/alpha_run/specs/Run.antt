@@ -4,20 +4,20 @@ use Rattle.alpha_isa.specs.Program.{Program}
 use Rattle.alpha_isa.specs.State.{State}
 use Rattle.alpha_isa.specs.Step.{Halt, Next, Goes, Over, step, exec}
 use Rattle.alpha_isa.specs.Step as step
-use Rattle.alpha_isa.specs.Behave.{behave_a}
+use Rattle.alpha_isa.specs.Behave.{behave_a, start}
 use Rattle.alpha_isa.specs.Behave as behave
 use Rattle.bk_io.specs.Outside.{next_count}
 use Rattle.alpha_run.specs.declared.ending.Ending.{Ending}
 use Rattle.alpha_run.specs.declared.ending.Ending.TheVariants.{Done, Trap, Stuck, Budget, InputFault, WriteFault}
 use Rattle.alpha_run.specs.Snapshot.{Snapshot}
-use Rattle.alpha_run.specs.Turns.{asks}
+use Rattle.alpha_run.specs.Services.{asks}
 
 -- ---- counts
 
 -- n more on a count, which stays at its end
-abbrev pub counted : ℕ → ℕ → ℕ
-counted zero count = count
-counted (suc n) count = next_count (counted n count)
+abbrev pub count_plus : ℕ → ℕ → ℕ
+count_plus zero count = count
+count_plus (suc n) count = next_count (count_plus n count)
 
 -- how many of the first n steps are done: all that were begun but one that is stuck
 abbrev pub last_step : Halt → ℕ
@@ -42,9 +42,18 @@ takes_in p zero s = 0
 takes_in p (suc n) s = (if asks p 3 s then 1 else 0) + takes_then (step p s) (takes_in p n)
 
 -- how often the input was asked: once for each byte taken, and once where it failed
-abbrev pub asked : Ending → ℕ → ℕ
-asked InputFault taken = suc taken
-asked _ taken = taken
+abbrev pub input_calls : Ending → ℕ → ℕ
+input_calls InputFault taken = suc taken
+input_calls _ taken = taken
+
+-- the counts of faults of the input and the output after a run: one more where they failed, and else as before
+abbrev pub input_faults_after : Ending → ℕ → ℕ
+input_faults_after InputFault faults = next_count faults
+input_faults_after _ faults = faults
+
+abbrev pub output_faults_after : Ending → ℕ → ℕ
+output_faults_after WriteFault faults = next_count faults
+output_faults_after _ faults = faults
 
 -- ---- runs
 
@@ -71,33 +80,33 @@ stops_early Budget = false
 stops_early _ = true
 
 -- the machine after so many more steps and bytes, in the state t
-abbrev pub moved : Snapshot → State → ℕ → ℕ → Ending → Snapshot
-moved m t steps written e = record m {
+abbrev pub snapshot_after : Snapshot → State → ℕ → ℕ → Ending → Snapshot
+snapshot_after m t steps written e = record m {
   pc = t.pc;
   registers = t.registers;
   data_bytes = t.data_bytes;
   stack_bytes = t.stack_bytes;
-  steps = counted steps m.steps;
-  written = counted written m.written;
+  steps = count_plus steps m.steps;
+  written = count_plus written m.written;
   halt = halt_of e;
 }
 
 -- what the input and the output tell before and after a run
-pub record Told : Type 0 where
+pub record Traffic : Type 0 where
   pub left : Option (List ℕ)
   pub made : Option ℕ
   pub taken : Option (List ℕ)
 
 -- a run of n steps from the state s: where it stopped, and what it did to the machine, the input and the output
-pub record Ran (p : Program) (n : ℕ) (e : Ending) (s : State) (old new : Snapshot) (told after : Told) : Type 0 where
+pub record IsRun (p : Program) (n : ℕ) (e : Ending) (s : State) (old new : Snapshot) (told after : Traffic) : Type 0 where
   pub tried : ℕ
   pub place : State
   pub put : List ℕ
   pub stops : StopsAt p n s e tried place
   pub puts : place.output ≡ s.output ++ put
-  pub machine : new ≡ moved old place (steps_in p tried s) (length put) e
+  pub machine : new ≡ snapshot_after old place (steps_in p tried s) (length put) e
   pub left : after.left ≡ Some place.input
-  pub made : after.made ≡ option_map (counted (asked e (takes_in p tried s))) told.made
+  pub made : after.made ≡ option_map (count_plus (input_calls e (takes_in p tried s))) told.made
   pub taken : after.taken ≡ option_map (λ bytes. bytes ++ put) told.taken
 
 -- ---- a run from the start
@@ -111,8 +120,13 @@ Gives p stack input n (Stuck pc) put = behave_a p stack input n ≡ behave.Stuck
 Gives p stack input n Budget put = behave_a p stack input n ≡ behave.More put
 Gives p stack input n _ put = (k : ℕ) × (k < n) × (behave_a p stack input k ≡ behave.More put)
 
--- a run of n steps of a machine that was just loaded
-pub record Behaves (p : Program) (stack : ℕ) (input : List ℕ) (n : ℕ) (e : Ending) (old new : Option (List ℕ)) : Type 0 where
-  pub put : List ℕ
-  pub gives : Gives p stack input n e put
-  pub taken : new ≡ option_map (λ bytes. bytes ++ put) old
+-- A run of n steps from the start of an image: where it stopped, and what it did to the input and the output. Where
+-- the outside failed, it stood at the service that the outside failed at.
+pub record Behaves (p : Program) (stack : ℕ) (input : List ℕ) (n : ℕ) (e : Ending) (before after : Traffic) : Type 0 where
+  pub tried : ℕ
+  pub place : State
+  pub stops : StopsAt p n (start p stack input) e tried place
+  pub gives : Gives p stack input n e place.output
+  pub left : after.left ≡ Some place.input
+  pub made : after.made ≡ option_map (count_plus (input_calls e (takes_in p tried (start p stack input)))) before.made
+  pub taken : after.taken ≡ option_map (λ bytes. bytes ++ place.output) before.taken

@@ -19,8 +19,8 @@ pub record Snapshot : Type 0 where
   pub halt : Option Halt
 
 -- a machine stands as the definition's, with the input that is left and the output so far
-abbrev pub standing : Snapshot → List ℕ → List ℕ → State
-standing m input output = record {
+abbrev pub snapshot_state : Snapshot → List ℕ → List ℕ → State
+snapshot_state m input output = record {
   pc = m.pc;
   registers = m.registers;
   data_bytes = m.data_bytes;
@@ -30,8 +30,8 @@ standing m input output = record {
 }
 
 -- where a machine stands that was just loaded: as the definition's start
-abbrev pub loaded : Program → ℕ → Snapshot
-loaded p stack = record {
+abbrev pub first_snapshot : Program → ℕ → Snapshot
+first_snapshot p stack = record {
   text = map decoded p.words;
   pc = word_address p.entry;
   registers = slice_set (replicate 32 0) 30 (stack_start p + stack);
@@ -43,6 +43,6 @@ loaded p stack = record {
 }
 
 -- the program that a machine runs: its text, and as many bytes of data
-pub record Runs (p : Program) (m : Snapshot) : Type 0 where
+pub record IsMachineOf (p : Program) (m : Snapshot) : Type 0 where
   pub text : m.text ≡ map decoded p.words
   pub size : length m.data_bytes ≡ length p.bytes

@@ -3,13 +3,13 @@
 ghost use Rattle.std.specs.Prelude.{◌≡◌, ◌*◌, ◌^◌, ◌%◌, ◌/◌, ◌<◌, ◌==◌, if◌then◌else◌};
 ghost use Rattle.std.specs.Int.{w8, w16, w32, w64};
 ghost use Rattle.alpha_isa.specs.Arithmetic.{operated, sign_extended, signed, complement, kept_bytes, truth, Gives};
-ghost use Rattle.alpha_run.specs.Outcome.{outcome_is, gives_checked};
+ghost use Rattle.alpha_run.specs.model.OperationResult.{operated_by, gives_checked};
 
 use alpha_isa::insn::OperateOp;
 
 /// What an operation does with its destination.
 #[derive(Clone, Copy, Debug, PartialEq, Eq)]
-pub(crate) enum Outcome {
+pub(crate) enum OperationResult {
     Gives(u64),
     Keeps,
     Overflows,
@@ -67,29 +67,29 @@ fn keep_bytes(word: u64, mask: u64) -> u64
     kept
 }
 
-fn truth_of(holds: bool) -> Outcome
-    ensures { outcome_is result ≡ truth holds }
+fn truth_of(holds: bool) -> OperationResult
+    ensures { operated_by result ≡ truth holds }
 {
-    Outcome::Gives(u64::from(holds))
+    OperationResult::Gives(u64::from(holds))
 }
 
 /// A signed sum, difference or product of 32 bits, where it fits.
-fn long_checked(number: Option<i32>) -> Outcome
-    ensures { outcome_is result ≡ gives_checked number }
+fn long_checked(number: Option<i32>) -> OperationResult
+    ensures { operated_by result ≡ gives_checked number }
 {
     match number {
-        Some(number) => Outcome::Gives(i64::from(number).cast_unsigned()),
-        None => Outcome::Overflows,
+        Some(number) => OperationResult::Gives(i64::from(number).cast_unsigned()),
+        None => OperationResult::Overflows,
     }
 }
 
 /// The same of 64 bits.
-fn quad_checked(number: Option<i64>) -> Outcome
-    ensures { outcome_is result ≡ gives_checked number }
+fn quad_checked(number: Option<i64>) -> OperationResult
+    ensures { operated_by result ≡ gives_checked number }
 {
     match number {
-        Some(number) => Outcome::Gives(number.cast_unsigned()),
-        None => Outcome::Overflows,
+        Some(number) => OperationResult::Gives(number.cast_unsigned()),
+        None => OperationResult::Overflows,
     }
 }
 
@@ -108,18 +108,18 @@ fn shift_signed(word: u64, count: u64) -> u64
 }
 
 /// What an operation does, on the words of its two operands.
-pub(crate) fn operate(op: OperateOp, a: u64, b: u64) -> Outcome
-    ensures { outcome_is result ≡ operated op a b }
+pub(crate) fn operate(op: OperateOp, a: u64, b: u64) -> OperationResult
+    ensures { operated_by result ≡ operated op a b }
 {
     match op {
-        OperateOp::Addl => Outcome::Gives(extend_long(a.wrapping_add(b))),
-        OperateOp::Subl => Outcome::Gives(extend_long(a.wrapping_sub(b))),
+        OperateOp::Addl => OperationResult::Gives(extend_long(a.wrapping_add(b))),
+        OperateOp::Subl => OperationResult::Gives(extend_long(a.wrapping_sub(b))),
         OperateOp::Cmpult => truth_of(a < b),
-        OperateOp::Addq => Outcome::Gives(a.wrapping_add(b)),
-        OperateOp::S4addq => Outcome::Gives(a.wrapping_mul(4).wrapping_add(b)),
-        OperateOp::Subq => Outcome::Gives(a.wrapping_sub(b)),
+        OperateOp::Addq => OperationResult::Gives(a.wrapping_add(b)),
+        OperateOp::S4addq => OperationResult::Gives(a.wrapping_mul(4).wrapping_add(b)),
+        OperateOp::Subq => OperationResult::Gives(a.wrapping_sub(b)),
         OperateOp::Cmpeq => truth_of(a == b),
-        OperateOp::S8addq => Outcome::Gives(a.wrapping_mul(8).wrapping_add(b)),
+        OperateOp::S8addq => OperationResult::Gives(a.wrapping_mul(8).wrapping_add(b)),
         OperateOp::Cmpule => truth_of(a <= b),
         OperateOp::AddlV => long_checked(long_of(a).checked_add(long_of(b))),
         OperateOp::SublV => long_checked(long_of(a).checked_sub(long_of(b))),
@@ -127,32 +127,32 @@ pub(crate) fn operate(op: OperateOp, a: u64, b: u64) -> Outcome
         OperateOp::AddqV => quad_checked(a.cast_signed().checked_add(b.cast_signed())),
         OperateOp::SubqV => quad_checked(a.cast_signed().checked_sub(b.cast_signed())),
         OperateOp::Cmple => truth_of(a.cast_signed() <= b.cast_signed()),
-        OperateOp::And => Outcome::Gives(a & b),
-        OperateOp::Bic => Outcome::Gives(a & !b),
-        OperateOp::Bis => Outcome::Gives(a | b),
+        OperateOp::And => OperationResult::Gives(a & b),
+        OperateOp::Bic => OperationResult::Gives(a & !b),
+        OperateOp::Bis => OperationResult::Gives(a | b),
         OperateOp::Cmoveq => if a == 0 {
-            Outcome::Gives(b)
+            OperationResult::Gives(b)
         } else {
-            Outcome::Keeps
+            OperationResult::Keeps
         },
         OperateOp::Cmovne => if a == 0 {
-            Outcome::Keeps
+            OperationResult::Keeps
         } else {
-            Outcome::Gives(b)
+            OperationResult::Gives(b)
         },
-        OperateOp::Ornot => Outcome::Gives(a | !b),
-        OperateOp::Xor => Outcome::Gives(a ^ b),
-        OperateOp::Eqv => Outcome::Gives(a ^ !b),
-        OperateOp::Zapnot => Outcome::Gives(keep_bytes(a, b)),
-        OperateOp::Srl => Outcome::Gives(a >> (b & 63)),
-        OperateOp::Sll => Outcome::Gives(a << (b & 63)),
-        OperateOp::Sra => Outcome::Gives(shift_signed(a, b)),
-        OperateOp::Mull => Outcome::Gives(extend_long(a.wrapping_mul(b))),
-        OperateOp::Mulq => Outcome::Gives(a.wrapping_mul(b)),
-        OperateOp::Umulh => Outcome::Gives(high_product(a, b)),
+        OperateOp::Ornot => OperationResult::Gives(a | !b),
+        OperateOp::Xor => OperationResult::Gives(a ^ b),
+        OperateOp::Eqv => OperationResult::Gives(a ^ !b),
+        OperateOp::Zapnot => OperationResult::Gives(keep_bytes(a, b)),
+        OperateOp::Srl => OperationResult::Gives(a >> (b & 63)),
+        OperateOp::Sll => OperationResult::Gives(a << (b & 63)),
+        OperateOp::Sra => OperationResult::Gives(shift_signed(a, b)),
+        OperateOp::Mull => OperationResult::Gives(extend_long(a.wrapping_mul(b))),
+        OperateOp::Mulq => OperationResult::Gives(a.wrapping_mul(b)),
+        OperateOp::Umulh => OperationResult::Gives(high_product(a, b)),
         OperateOp::MullV => long_checked(long_of(a).checked_mul(long_of(b))),
         OperateOp::MulqV => quad_checked(a.cast_signed().checked_mul(b.cast_signed())),
-        OperateOp::Sextb => Outcome::Gives(extend_byte(b)),
-        OperateOp::Sextw => Outcome::Gives(extend_short(b)),
+        OperateOp::Sextb => OperationResult::Gives(extend_byte(b)),
+        OperateOp::Sextw => OperationResult::Gives(extend_short(b)),
     }
 }

@@ -1,7 +1,6 @@
 //! The machine: an image is loaded into it, and it runs.
 
-ghost use Rattle.std.specs.Prelude.{◌≡◌, ℕ, ◌+◌, ◌*◌, ◌/◌, ◌<◌, ◌≤◌, ◌^◌, List, map, length, replicate, [], IfOk, IfSome, IsTrue, Option, Some, None, unwrap_or};
-ghost use Rattle.bk_io.specs.Outside.{Rose};
+ghost use Rattle.std.specs.Prelude.{◌≡◌, ℕ, ◌+◌, ◌*◌, ◌/◌, ◌<◌, ◌^◌, List, map, length, replicate, [], IfOk, IfSome, IsTrue, Option, Some, None, unwrap_or};
 ghost use Rattle.alpha_isa.specs.Words.{decoded};
 ghost use Rattle.alpha_isa.specs.Program.{Program, next_part};
 ghost use Rattle.alpha_isa.specs.Behave.{IsStack, start};
@@ -58,17 +57,17 @@ fn decode_all(alloc: Global, words: &[u32]) -> Result<Vec<Option<Insn32>>, Alloc
 }
 
 impl Machine {
-    ghost use Rattle.alpha_run.specs.Snapshot.{loaded, standing, Runs};
-    ghost use Rattle.alpha_run.specs.Ending.{ended};
-    ghost use Rattle.alpha_run.specs.Run.{Ran, Told, Behaves, halt_of, stops_early};
+    ghost use Rattle.alpha_run.specs.Snapshot.{first_snapshot, snapshot_state, IsMachineOf};
+    ghost use Rattle.alpha_run.specs.Ending.{ending_of};
+    ghost use Rattle.alpha_run.specs.Run.{IsRun, Traffic, Behaves, halt_of, stops_early, input_faults_after, output_faults_after};
 
     /// A machine with an image in it, and a stack of so many bytes, from 4,096 to 268,435,456 of them
     /// and a multiple of 16. It takes all the memory that its runs need.
     pub fn load(alloc: Global, image: &Image, stack: u64) -> Result<Machine, AllocError>
         requires { IsStack stack }
-        ensures loaded { IfOk result (λ m. m ≡ loaded image.now stack) }
-        ensures starts { IfOk result (λ m. (bytes : List ℕ) → standing m bytes [] ≡ start image.now stack bytes) }
-        ensures runs { IfOk result (λ m. Runs image.now m) }
+        ensures first_snapshot { IfOk result (λ m. m ≡ first_snapshot image.now stack) }
+        ensures starts { IfOk result (λ m. (bytes : List ℕ) → snapshot_state m bytes [] ≡ start image.now stack bytes) }
+        ensures runs { IfOk result (λ m. IsMachineOf image.now m) }
     {
         let text = decode_all(alloc, image.words.as_slice())?;
         let data = Vec::from_slice(alloc, image.bytes.as_slice())?;
@@ -94,28 +93,28 @@ impl Machine {
         })
     }
 
-    /// Runs at most `budget` steps. A machine whose program came to its end answers that end again.
+    /// IsMachineOf at most `budget` steps. A machine whose program came to its end answers that end again.
     ///
     /// `Budget` comes exactly where the machine still runs after so many steps. The input is asked once for
     /// each byte that a step takes, the one that failed included, and at no other time.
     pub fn run<I: Source, O: Sink>(&mut self, budget: u64, input: &mut I, out: &mut O) -> Ending
         ensures run { (p : Program) (bytes : List ℕ) →
-            Runs p self.old → self.old.halt ≡ None → I.left input.old ≡ Some bytes →
-            Ran p budget result (standing self.old bytes []) self.old self.new
+            IsMachineOf p self.old → self.old.halt ≡ None → I.left input.old ≡ Some bytes →
+            IsRun p budget result (snapshot_state self.old bytes []) self.old self.new
             (record { left = I.left input.old; made = I.made input.old; taken = O.taken out.old })
             (record { left = I.left input.new; made = I.made input.new; taken = O.taken out.new }) }
         // a run of a machine that was just loaded is the behaviour of its image
         ensures behaves { (p : Program) (stack : ℕ) (bytes : List ℕ) →
-            self.old ≡ loaded p stack → I.left input.old ≡ Some bytes →
-            Behaves p stack bytes budget result (O.taken out.old) (O.taken out.new) }
-        ensures again { IfSome self.old.halt (λ h. (result ≡ ended h) × (self.new ≡ self.old) ×
+            self.old ≡ first_snapshot p stack → I.left input.old ≡ Some bytes →
+            Behaves p stack bytes budget result
+            (record { left = I.left input.old; made = I.made input.old; taken = O.taken out.old })
+            (record { left = I.left input.new; made = I.made input.new; taken = O.taken out.new }) }
+        ensures again { IfSome self.old.halt (λ h. (result ≡ ending_of h) × (self.new ≡ self.old) ×
             (input.new ≡ input.old) × (out.new ≡ out.old)) }
         ensures halt { self.new.halt ≡ halt_of result }
-        ensures program { (p : Program) → Runs p self.old → Runs p self.new }
-        ensures input_kept { I.faults input.old ≤ I.faults input.new }
-        ensures input_rose { result ≡ Ending.InputFault → Rose (I.faults input.old) (I.faults input.new) }
-        ensures output_kept { O.faults out.old ≤ O.faults out.new }
-        ensures output_rose { result ≡ Ending.WriteFault → Rose (O.faults out.old) (O.faults out.new) }
+        ensures program { (p : Program) → IsMachineOf p self.old → IsMachineOf p self.new }
+        ensures input_count { I.faults input.new ≡ input_faults_after result (I.faults input.old) }
+        ensures output_count { O.faults out.new ≡ output_faults_after result (O.faults out.old) }
     {
         if let Some(halt) = self.halt {
             return halt.ending();
@@ -131,17 +130,15 @@ impl Machine {
     /// One step. It answers why the machine stops, where it does.
     fn turn<I: Source, O: Sink>(&mut self, input: &mut I, out: &mut O) -> Option<Ending>
         ensures run { (p : Program) (x y : List ℕ) →
-            Runs p self.old → self.old.halt ≡ None → I.left input.old ≡ Some x →
-            Ran p 1 (unwrap_or result Ending.Budget) (standing self.old x y) self.old self.new
+            IsMachineOf p self.old → self.old.halt ≡ None → I.left input.old ≡ Some x →
+            IsRun p 1 (unwrap_or result Ending.Budget) (snapshot_state self.old x y) self.old self.new
             (record { left = I.left input.old; made = I.made input.old; taken = O.taken out.old })
             (record { left = I.left input.new; made = I.made input.new; taken = O.taken out.new }) }
         ensures halt { self.old.halt ≡ None → self.new.halt ≡ halt_of (unwrap_or result Ending.Budget) }
         ensures early { IfSome result (λ e. IsTrue (stops_early e)) }
-        ensures program { (p : Program) → Runs p self.old → Runs p self.new }
-        ensures input_kept { I.faults input.old ≤ I.faults input.new }
-        ensures input_rose { result ≡ Some Ending.InputFault → Rose (I.faults input.old) (I.faults input.new) }
-        ensures output_kept { O.faults out.old ≤ O.faults out.new }
-        ensures output_rose { result ≡ Some Ending.WriteFault → Rose (O.faults out.old) (O.faults out.new) }
+        ensures program { (p : Program) → IsMachineOf p self.old → IsMachineOf p self.new }
+        ensures input_count { I.faults input.new ≡ input_faults_after (unwrap_or result Ending.Budget) (I.faults input.old) }
+        ensures output_count { O.faults out.new ≡ output_faults_after (unwrap_or result Ending.Budget) (O.faults out.old) }
     {
         match self.processor.step() {
             Turn::Goes => {

@@ -55,7 +55,7 @@ fn put_from<const N: usize>(bytes: &mut [u8], place: usize, new: [u8; N])
 }
 
 impl Memory {
-    ghost use Rattle.alpha_run.specs.Machine.{IsMemoryOf, IsLaidAs, HasBytesOf, stored_in};
+    ghost use Rattle.alpha_run.specs.model.MemoryParts.{IsMemoryOf, IsLaidAs, HasBytesOf, stored_in};
 
     /// The `N` bytes at an address, which is a multiple of `N`, where they lie in the data or the stack.
     pub(crate) fn bytes_at<const N: usize>(&self, address: u64) -> Option<[u8; N]>

@@ -5,11 +5,11 @@ ghost use Rattle.std.specs.Bool.{OnTrue};
 ghost use Rattle.alpha_isa.specs.Program.{Program, most_words, fetched};
 ghost use Rattle.alpha_isa.specs.Arithmetic.{word_at, word_from};
 ghost use Rattle.alpha_isa.specs.Step.{is_taken};
-ghost use Rattle.alpha_run.specs.Taken.{taken_word};
+ghost use Rattle.alpha_run.specs.model.TakenWord.{taken_word};
 ghost use Rattle.alpha_isa.specs.Step as step;
 ghost use Rattle.alpha_isa.specs.Lawful.{IsLawful, IsRegister, IsOperand};
 
-use crate::arithmetic::{Outcome, extend_long, operate};
+use crate::arithmetic::{OperationResult, extend_long, operate};
 use crate::ending::Halt;
 use crate::memory::Memory;
 use crate::registers::Registers;
@@ -97,13 +97,13 @@ impl Processor {
     ghost use Rattle.alpha_isa.specs.State.{register, operand, with_register};
     ghost use Rattle.alpha_isa.specs.Step.{Next, Goes, stuck, advanced, memory_step, branch_step, jump_step, operate_step, address};
     ghost use Rattle.alpha_isa.specs.Arithmetic.{operated};
-    ghost use Rattle.alpha_run.specs.Turns.{Calls, Steps, waits, with_taken};
-    ghost use Rattle.alpha_run.specs.Standing.{standing, Runs, IsShort, KeepsText, worked, fitted, given, advanced_if};
+    ghost use Rattle.alpha_run.specs.model.Turns.{Calls, Steps, waits, with_taken};
+    ghost use Rattle.alpha_run.specs.model.ProcessorState.{processor_state, IsProcessorOf, IsShort, KeepsText, next_if_done, next_if_fits, next_with_word, advanced_if};
 
     /// The instruction at the place where the processor stands.
     fn fetch(&self) -> Option<Fields>
         requires { IsShort self.now }
-        ensures value { (p : Program) → Runs p self.now → result ≡ fetched p self.now.pc }
+        ensures value { (p : Program) → IsProcessorOf p self.now → result ≡ fetched p self.now.pc }
         ensures lawful { IfSome result (λ i. IsLawful i) }
         ensures within { IsSome result → self.now.pc < 2 ^ 32 }
     {
@@ -123,7 +123,7 @@ impl Processor {
     /// A register plus a number.
     fn address(&self, rb: u8, number: u64) -> u64
         requires { rb < 32 }
-        ensures { (x y : List ℕ) → result ≡ word_at (register (standing self.now x y) rb + number) }
+        ensures { (x y : List ℕ) → result ≡ word_at (register (processor_state self.now x y) rb + number) }
     {
         self.registers.get(rb).wrapping_add(number)
     }
@@ -131,7 +131,7 @@ impl Processor {
     /// Goes on with the next instruction.
     pub(crate) fn advance(&mut self)
         requires { self.old.pc < 2 ^ 32 }
-        ensures step { (x y : List ℕ) → Goes (standing self.new x y) ≡ advanced (standing self.old x y) }
+        ensures step { (x y : List ℕ) → Goes (processor_state self.new x y) ≡ advanced (processor_state self.old x y) }
         ensures kept { KeepsText self.old self.new }
     {
         self.pc += 4;
@@ -141,7 +141,7 @@ impl Processor {
     fn give(&mut self, ra: u8, word: u64)
         requires register { ra < 32 }
         requires pc { self.old.pc < 2 ^ 32 }
-        ensures step { (x y : List ℕ) → Goes (standing self.new x y) ≡ advanced (with_register ra word (standing self.old x y)) }
+        ensures step { (x y : List ℕ) → Goes (processor_state self.new x y) ≡ advanced (with_register ra word (processor_state self.old x y)) }
         ensures kept { KeepsText self.old self.new }
     {
         self.registers.set(ra, word);
@@ -152,7 +152,7 @@ impl Processor {
     fn load(&mut self, ra: u8, word: Option<u64>) -> bool
         requires register { ra < 32 }
         requires pc { self.old.pc < 2 ^ 32 }
-        ensures step { (x y : List ℕ) → worked result (standing self.new x y) ≡ given ra word (standing self.old x y) }
+        ensures step { (x y : List ℕ) → next_if_done result (processor_state self.new x y) ≡ next_with_word ra word (processor_state self.old x y) }
         ensures kept { KeepsText self.old self.new }
     {
         match word {
@@ -167,7 +167,7 @@ impl Processor {
     /// Goes on after a store, if it was done.
     fn stored(&mut self, done: bool) -> bool
         requires { self.old.pc < 2 ^ 32 }
-        ensures step { (x y : List ℕ) → worked result (standing self.new x y) ≡ advanced_if done (standing self.old x y) }
+        ensures step { (x y : List ℕ) → next_if_done result (processor_state self.new x y) ≡ advanced_if done (processor_state self.old x y) }
         ensures kept { KeepsText self.old self.new }
     {
         if done {
@@ -181,7 +181,7 @@ impl Processor {
         requires ra { ra < 32 }
         requires rb { rb < 32 }
         requires pc { self.old.pc < 2 ^ 32 }
-        ensures step { (p : Program) (x y : List ℕ) → Runs p self.old → worked result (standing self.new x y) ≡ memory_step p op ra rb disp (standing self.old x y) }
+        ensures step { (p : Program) (x y : List ℕ) → IsProcessorOf p self.old → next_if_done result (processor_state self.new x y) ≡ memory_step p op ra rb disp (processor_state self.old x y) }
         ensures kept { KeepsText self.old self.new }
     {
         let address = self.address(rb, bytes_on(disp));
@@ -230,7 +230,7 @@ impl Processor {
     fn branch_step(&mut self, op: BranchOp, ra: u8, disp: i32)
         requires ra { ra < 32 }
         requires pc { self.old.pc < 2 ^ 32 }
-        ensures step { (x y : List ℕ) → Goes (standing self.new x y) ≡ branch_step op ra disp (standing self.old x y) }
+        ensures step { (x y : List ℕ) → Goes (processor_state self.new x y) ≡ branch_step op ra disp (processor_state self.old x y) }
         ensures kept { KeepsText self.old self.new }
     {
         let next = self.pc + 4;
@@ -250,7 +250,7 @@ impl Processor {
         requires ra { ra < 32 }
         requires rb { rb < 32 }
         requires pc { self.old.pc < 2 ^ 32 }
-        ensures step { (x y : List ℕ) → Goes (standing self.new x y) ≡ jump_step ra rb (standing self.old x y) }
+        ensures step { (x y : List ℕ) → Goes (processor_state self.new x y) ≡ jump_step ra rb (processor_state self.old x y) }
         ensures kept { KeepsText self.old self.new }
     {
         let target = self.registers.get(rb) / 4 * 4;
@@ -261,7 +261,7 @@ impl Processor {
     /// The word of a second operand.
     fn operand(&self, rb: Operand) -> u64
         requires { IsOperand rb }
-        ensures { (x y : List ℕ) → result ≡ operand (standing self.now x y) rb }
+        ensures { (x y : List ℕ) → result ≡ operand (processor_state self.now x y) rb }
     {
         match rb {
             Operand::Reg(register) => self.registers.get(register),
@@ -275,25 +275,25 @@ impl Processor {
         requires rb { IsOperand rb }
         requires rc { rc < 32 }
         requires pc { self.old.pc < 2 ^ 32 }
-        ensures step { (x y : List ℕ) → fitted result (standing self.new x y) ≡ operate_step (operated op (register (standing self.old x y) ra) (operand (standing self.old x y) rb)) rc (standing self.old x y) }
+        ensures step { (x y : List ℕ) → next_if_fits result (processor_state self.new x y) ≡ operate_step (operated op (register (processor_state self.old x y) ra) (operand (processor_state self.old x y) rb)) rc (processor_state self.old x y) }
         ensures kept { KeepsText self.old self.new }
     {
         match operate(op, self.registers.get(ra), self.operand(rb)) {
-            Outcome::Gives(word) => {
+            OperationResult::Gives(word) => {
                 self.give(rc, word);
                 true
             }
-            Outcome::Keeps => {
+            OperationResult::Keeps => {
                 self.advance();
                 true
             }
-            Outcome::Overflows => false,
+            OperationResult::Overflows => false,
         }
     }
 
     /// A call of privileged code.
     fn call(&self, function: u32) -> Turn
-        ensures { (x y : List ℕ) → Calls function (standing self.now x y) result }
+        ensures { (x y : List ℕ) → Calls function (processor_state self.now x y) result }
     {
         match (function, self.registers.get(0)) {
             (0xaa, _) => Turn::Over(Halt::Trap {
@@ -311,7 +311,7 @@ impl Processor {
     /// Goes on with a byte that was taken, or with -1 at the end of the input.
     pub(crate) fn took(&mut self, byte: Option<u8>)
         requires { self.old.pc < 2 ^ 32 }
-        ensures step { (x y : List ℕ) → byte ≡ slice_get x 0 → Goes (standing self.new (drop 1 x) y) ≡ advanced (with_taken (standing self.old x y)) }
+        ensures step { (x y : List ℕ) → byte ≡ slice_get x 0 → Goes (processor_state self.new (drop 1 x) y) ≡ advanced (with_taken (processor_state self.old x y)) }
         ensures kept { KeepsText self.old self.new }
     {
         self.give(0, word_taken(byte));
@@ -321,7 +321,7 @@ impl Processor {
     pub(crate) fn step(&mut self) -> Turn
         requires { IsShort self.old }
         ensures within { OnTrue (waits result) (self.new.pc < 2 ^ 32) }
-        ensures step { (p : Program) (x y : List ℕ) → Runs p self.old → Steps p result (standing self.old x y) (standing self.new x y) }
+        ensures step { (p : Program) (x y : List ℕ) → IsProcessorOf p self.old → Steps p result (processor_state self.old x y) (processor_state self.new x y) }
         ensures kept { KeepsText self.old self.new }
     {
         match self.fetch() {

@@ -10,7 +10,7 @@ pub(crate) struct Registers {
 }
 
 impl Registers {
-    ghost use Rattle.alpha_run.specs.Machine.{word_in};
+    ghost use Rattle.alpha_run.specs.model.MemoryParts.{word_in};
 
     /// All registers at 0.
     pub(crate) fn new() -> Registers

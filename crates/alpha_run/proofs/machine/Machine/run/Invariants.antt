@@ -1,16 +1,16 @@
 -- After so many turns the machine stands where a run of so many steps stops.
-use Rattle.std.proofs.Common.{◌≡◌, ℕ, ◌≤◌, List, [], Some, None}
+use Rattle.std.proofs.Common.{◌≡◌, ℕ, List, [], Some, None}
 use Rattle.alpha_isa.specs.Program.{Program}
 use Rattle.alpha_run.specs.declared.ending.Ending.TheVariants.{Budget}
-use Rattle.alpha_run.specs.Snapshot.{standing, Runs}
-use Rattle.alpha_run.specs.Run.{Ran}
+use Rattle.alpha_run.specs.Snapshot.{snapshot_state, IsMachineOf}
+use Rattle.alpha_run.specs.Run.{IsRun}
 use Rattle.alpha_run.proofs.machine.Machine.run.Given as goal
 
 abbrev pub invariant-loop-done : goal.invariant-loop-done
 invariant-loop-done g l = record {
-  run : (p : Program) (bytes : List ℕ) → Runs p l.fn.self → l.fn.self.halt ≡ None → g.I.Source.left l.fn.input ≡ Some bytes → Ran p l._done Budget (standing l.fn.self bytes []) l.fn.self l.self (record { left = g.I.Source.left l.fn.input; made = g.I.Source.made l.fn.input; taken = g.O.Sink.taken l.fn.out }) (record { left = g.I.Source.left l.input; made = g.I.Source.made l.input; taken = g.O.Sink.taken l.out });
+  run : (p : Program) (bytes : List ℕ) → IsMachineOf p l.fn.self → l.fn.self.halt ≡ None → g.I.Source.left l.fn.input ≡ Some bytes → IsRun p l._done Budget (snapshot_state l.fn.self bytes []) l.fn.self l.self (record { left = g.I.Source.left l.fn.input; made = g.I.Source.made l.fn.input; taken = g.O.Sink.taken l.fn.out }) (record { left = g.I.Source.left l.input; made = g.I.Source.made l.input; taken = g.O.Sink.taken l.out });
   running : l.self.halt ≡ None;
-  program : (p : Program) → Runs p l.fn.self → Runs p l.self;
-  input_kept : g.I.Source.faults l.fn.input ≤ g.I.Source.faults l.input;
-  output_kept : g.O.Sink.faults l.fn.out ≤ g.O.Sink.faults l.out;
+  program : (p : Program) → IsMachineOf p l.fn.self → IsMachineOf p l.self;
+  input_count : g.I.Source.faults l.input ≡ g.I.Source.faults l.fn.input;
+  output_count : g.O.Sink.faults l.out ≡ g.O.Sink.faults l.fn.out;
 }

@@ -4,19 +4,19 @@ use Rattle.std.specs.Prelude.{slice_get, IfSome}
 use Rattle.bk_io.specs.Outside.{count_end}
 use Rattle.alpha_run.specs.Ending.{halt_is}
 use Rattle.alpha_run.specs.Run.{last_step, stops_early}
-use Rattle.alpha_run.specs.Standing as processor
+use Rattle.alpha_run.specs.model.ProcessorState.{IsProcessorOf}
 use Rattle.alpha_run.proofs.Machines.{processor_runs, goes_turn, over_turn, write_fault, input_fault, puts_turn, takes_turn, ended_early}
 use Rattle.alpha_run.proofs.machine.Machine.turn.Goals as goal
 
 pub returns-in-Goes-clause-run : goal.returns-in-Goes-clause-run
 returns-in-Goes-clause-run g c p x y r none left =
-    let runs : processor.Runs p c.self.inside.processor = processor_runs p c.self.inside c.args.self.now c.self.view_is c.self.invariant r in
+    let runs : IsProcessorOf p c.self.inside.processor = processor_runs p c.self.inside c.args.self.now c.self.view_is c.self.invariant r in
     let did = c.in-Goes.ensures.step p x y runs in
     goes_turn p x y c.self.inside c.args.self.now c.self.view_is none c.step.new.self c.saturating_add-self-inside.result _ did.0 did.1 c.step.ensures.kept.text c.saturating_add-self-inside.ensures left
 
 pub returns-in-Over-clause-run : goal.returns-in-Over-clause-run
 returns-in-Over-clause-run g c p x y r none left =
-    let runs : processor.Runs p c.self.inside.processor = processor_runs p c.self.inside c.args.self.now c.self.view_is c.self.invariant r in
+    let runs : IsProcessorOf p c.self.inside.processor = processor_runs p c.self.inside c.args.self.now c.self.view_is c.self.invariant r in
     let did = c.in-Over.ensures.step p x y runs in
     let small : c.self.inside.steps < 2 ^ 64 = search rules in
     let steps : c.saturating_add-self-inside-in-Over.result ≡ min (c.self.inside.steps + last_step (halt_is c.in-Over.halt)) count_end = c.saturating_add-self-inside-in-Over.ensures ∙ ap (λ n. min (c.self.inside.steps + n) count_end) c.steps.ensures in
@@ -24,7 +24,7 @@ returns-in-Over-clause-run g c p x y r none left =
 
 pub returns-then-is_err-clause-run : goal.returns-then-is_err-clause-run
 returns-then-is_err-clause-run g c p x y r none left =
-    let runs : processor.Runs p c.self.inside.processor = processor_runs p c.self.inside c.args.self.now c.self.view_is c.self.invariant r in
+    let runs : IsProcessorOf p c.self.inside.processor = processor_runs p c.self.inside c.args.self.now c.self.view_is c.self.invariant r in
     let did = c.in-Puts.ensures.step p x y runs in
     let untaken = c.put.ensures.taken ∙ ap (λ b. cond b (option_map (λ (bytes : List ℕ). bytes ++ c.in-Puts.byte ∷ []) (g.O.Sink.taken c.args.out.now)) (g.O.Sink.taken c.args.out.now)) c.if-is_err.ensures.negation in
     write_fault p x y c.self.inside c.args.self.now c.self.view_is none c.step.new.self _ _ did.3 did.2 c.step.ensures.kept.text left refl refl untaken
@@ -32,7 +32,7 @@ returns-then-is_err-clause-run g c p x y r none left =
 pub returns-else-is_err-clause-run : goal.returns-else-is_err-clause-run
 returns-else-is_err-clause-run g c p x y r none left =
     let z : List ℕ = y ++ c.in-Puts.byte ∷ [] in
-    let runs : processor.Runs p c.self.inside.processor = processor_runs p c.self.inside c.args.self.now c.self.view_is c.self.invariant r in
+    let runs : IsProcessorOf p c.self.inside.processor = processor_runs p c.self.inside c.args.self.now c.self.view_is c.self.invariant r in
     let did = c.in-Puts.ensures.step p x y runs in
     let same = c.in-Puts.ensures.step p x z runs in
     let took = c.put.ensures.taken ∙ ap (λ b. cond b (option_map (λ (bytes : List ℕ). bytes ++ c.in-Puts.byte ∷ []) (g.O.Sink.taken c.args.out.now)) (g.O.Sink.taken c.args.out.now)) c.if-is_err.ensures.negation in
@@ -40,14 +40,14 @@ returns-else-is_err-clause-run g c p x y r none left =
 
 pub returns-in-Ok-clause-run : goal.returns-in-Ok-clause-run
 returns-in-Ok-clause-run g c p x y r none left =
-    let runs : processor.Runs p c.self.inside.processor = processor_runs p c.self.inside c.args.self.now c.self.view_is c.self.invariant r in
+    let runs : IsProcessorOf p c.self.inside.processor = processor_runs p c.self.inside c.args.self.now c.self.view_is c.self.invariant r in
     let did = c.in-Takes.ensures.step p x y runs in
     let byte = subst (λ o. IfSome o (λ (bytes : List ℕ). c.in-Ok.byte ≡ slice_get bytes 0)) left c.in-Ok.ensures.byte in
     takes_turn p x y c.self.inside c.args.self.now c.self.view_is none c.step.new.self c.took.new.self c.in-Ok.byte _ _ _ did.0 did.1 did.2 (c.took.ensures.step x y byte) (c.took.ensures.kept.text ∙ c.step.ensures.kept.text) c.saturating_add-self-inside-in-Takes.ensures left c.in-Ok.ensures.left c.in-Ok.ensures.made refl
 
 pub returns-in_default-clause-run : goal.returns-in_default-clause-run
 returns-in_default-clause-run g c p x y r none left =
-    let runs : processor.Runs p c.self.inside.processor = processor_runs p c.self.inside c.args.self.now c.self.view_is c.self.invariant r in
+    let runs : IsProcessorOf p c.self.inside.processor = processor_runs p c.self.inside c.args.self.now c.self.view_is c.self.invariant r in
     let did = c.in-Takes.ensures.step p x y runs in
     input_fault p x y c.self.inside c.args.self.now c.self.view_is none c.step.new.self _ _ did.2 did.1 c.step.ensures.kept.text left c.in_default.ensures.left c.in_default.ensures.made refl
 

@@ -1,12 +1,11 @@
 -- What a turn of the processor says of a step.
-use Rattle.std.specs.Prelude.{◌≡◌, ℕ, Bool, true, false, ◌&&◌, ◌==◌, [], ◌∷◌, ◌++◌, Option, Some, IsTrue, IsFalse}
-use Rattle.alpha_isa.specs.declared.insn.Fields.{Fields}
-use Rattle.alpha_isa.specs.declared.insn.Fields.TheVariants as fields
-use Rattle.alpha_isa.specs.Program.{Program, fetched}
+use Rattle.std.specs.Prelude.{◌≡◌, ℕ, Bool, true, false, ◌&&◌, ◌==◌, [], ◌∷◌, ◌++◌, IsTrue, IsFalse}
+use Rattle.alpha_isa.specs.Program.{Program}
 use Rattle.alpha_isa.specs.State.{State, register, with_register}
 use Rattle.alpha_isa.specs.Step.{Next, Over, advanced, pal_step, input_word, input_rest}
 use Rattle.alpha_isa.specs.Step as step
 use Rattle.alpha_run.specs.Ending.{halt_is}
+use Rattle.alpha_run.specs.Services.{asks}
 use Rattle.alpha_run.specs.declared.processor.Turn.{Turn}
 use Rattle.alpha_run.specs.declared.processor.Turn.TheVariants as turn
 
@@ -16,15 +15,6 @@ with_put byte s = record s { output = s.output ++ byte ∷ [] }
 
 abbrev pub with_taken : State → State
 with_taken s = with_register 0 (input_word s.input) (record s { input = input_rest s.input })
-
--- the instruction calls a service
-abbrev pub is_service : Option Fields → Bool
-is_service (Some (fields.Pal function)) = function == 0x83
-is_service _ = false
-
--- the next step asks for this service: 2 puts a byte, 3 takes one
-abbrev pub asks : Program → ℕ → State → Bool
-asks p number s = is_service (fetched p s.pc) && (register s 0 == number)
 
 -- a call of this function in this state asks for a byte of the input
 abbrev pub takes : ℕ → State → Bool

@@ -4,12 +4,12 @@ use Rattle.alpha_isa.specs.Words.{decoded}
 use Rattle.alpha_isa.specs.Program.{Program, most_words, data_start, stack_start}
 use Rattle.alpha_isa.specs.State.{State, with_register}
 use Rattle.alpha_isa.specs.Step.{Next, Goes, Over, Trap, stuck, advanced}
-use Rattle.alpha_run.specs.Machine.{IsLaidAs}
+use Rattle.alpha_run.specs.model.MemoryParts.{IsLaidAs}
 use Rattle.alpha_run.specs.declared.processor.Processor.{Processor}
 
 -- with the input that is left and the output so far
-abbrev pub standing : Processor → List ℕ → List ℕ → State
-standing m input output = record {
+abbrev pub processor_state : Processor → List ℕ → List ℕ → State
+processor_state m input output = record {
   pc = m.pc;
   registers = m.registers.words;
   data_bytes = m.memory.data.items;
@@ -19,7 +19,7 @@ standing m input output = record {
 }
 
 -- the text is that of a program, and the memory lies where the program's does
-pub record Runs (p : Program) (m : Processor) : Type 0 where
+pub record IsProcessorOf (p : Program) (m : Processor) : Type 0 where
   pub text : m.text.items ≡ map decoded p.words
   pub data_start : m.memory.data_start ≡ data_start p
   pub stack_start : m.memory.stack_start ≡ stack_start p
@@ -34,19 +34,19 @@ pub record KeepsText (old new : Processor) : Type 0 where
   pub laid : IsLaidAs old.memory new.memory
 
 -- a step that went on, or could not be done
-abbrev pub worked : Bool → State → Next
-worked true s = Goes s
-worked false s = stuck s
+abbrev pub next_if_done : Bool → State → Next
+next_if_done true s = Goes s
+next_if_done false s = stuck s
 
 -- an operation that went on, or whose result does not fit, which has the code 3
-abbrev pub fitted : Bool → State → Next
-fitted true s = Goes s
-fitted false s = Over (Trap 3) s
+abbrev pub next_if_fits : Bool → State → Next
+next_if_fits true s = Goes s
+next_if_fits false s = Over (Trap 3) s
 
 -- a register gets a word that was loaded, if it was
-abbrev pub given : ℕ → Option ℕ → State → Next
-given ra (Some word) s = advanced (with_register ra word s)
-given ra None s = stuck s
+abbrev pub next_with_word : ℕ → Option ℕ → State → Next
+next_with_word ra (Some word) s = advanced (with_register ra word s)
+next_with_word ra None s = stuck s
 
 -- the machine goes on after a store that was done
 abbrev pub advanced_if : Bool → State → Next

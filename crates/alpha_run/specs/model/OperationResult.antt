@@ -2,14 +2,14 @@
 use Rattle.std.specs.Prelude.{ℤ, Option, Some, None}
 use Rattle.alpha_isa.specs.Arithmetic.{Operated, word_from}
 use Rattle.alpha_isa.specs.Arithmetic as arithmetic
-use Rattle.alpha_run.specs.declared.arithmetic.Outcome.{Outcome}
-use Rattle.alpha_run.specs.declared.arithmetic.Outcome.TheVariants.{Gives, Keeps, Overflows}
+use Rattle.alpha_run.specs.declared.arithmetic.OperationResult.{OperationResult}
+use Rattle.alpha_run.specs.declared.arithmetic.OperationResult.TheVariants.{Gives, Keeps, Overflows}
 
 -- what an operation does with its destination
-abbrev pub outcome_is : Outcome → Operated
-outcome_is (Gives word) = arithmetic.Gives word
-outcome_is Keeps = arithmetic.Keeps
-outcome_is Overflows = arithmetic.Overflows
+abbrev pub operated_by : OperationResult → Operated
+operated_by (Gives word) = arithmetic.Gives word
+operated_by Keeps = arithmetic.Keeps
+operated_by Overflows = arithmetic.Overflows
 
 -- a signed result, or none where it does not fit
 abbrev pub gives_checked : Option ℤ → Operated

@@ -1,0 +1,5 @@
+pub mod OperationResult
+pub mod MemoryParts
+pub mod ProcessorState
+pub mod Turns
+pub mod TakenWord
