@@ -1,0 +1,4 @@
+pub mod Outputs
+pub mod Peaks
+pub mod Runs
+pub mod Turns

@@ -1,0 +1,26 @@
+//! Laws of runs, each the contract of a function that does nothing. They hold for all types of values and of what
+//! keeps them.
+
+ghost use Rattle.machine_model.specs.Laws.{StepsKeepEndings, OneEnding, TurnsKeepEndings, PeakRises, OutputGrows, TurnsExtendOutput};
+
+/// An ending stays with more steps, so a run has one at most.
+pub fn one_ending<V, S>()
+    ensures steps { StepsKeepEndings V S }
+    ensures one { OneEnding V S }
+{}
+
+/// More turns keep an ending.
+pub fn turns_keep_endings<V, S>()
+    ensures { TurnsKeepEndings V S }
+{}
+
+/// The peak only rises.
+pub fn peaks_rise<V, S>()
+    ensures { PeakRises V S }
+{}
+
+/// An output only grows, along a run and with more turns.
+pub fn outputs_grow<V, S>()
+    ensures run { OutputGrows V S }
+    ensures turns { TurnsExtendOutput V S }
+{}
