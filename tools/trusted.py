@@ -355,6 +355,7 @@ class Repository:
     def __init__(self):
         self.crates = list(crate_names())
         self.specs, self.code = {}, {}
+        self.unknown = set()  # names that are imported from our crates, and that this script does not find there
         for crate in self.crates:
             folder = CRATES / crate
             for path in sorted((folder / "specs").rglob("*.antt")):
@@ -389,12 +390,14 @@ class Repository:
             return []
         crate, rest = parts[1], parts[3:]
         if rest and rest[0] in ("declared", "contracts"):
-            return self.generated(crate, rest[1:], name)
-        file = self.specs.get((crate, ".".join(rest)))
-        if file is None or name is None:
-            return []
-        found = file.resolve(name)
-        return [Item(crate, "specs", file.module, found)] if found else []
+            items = self.generated(crate, rest[1:], name)
+        else:
+            file = self.specs.get((crate, ".".join(rest)))
+            found = file.resolve(name) if file and name else None
+            items = [Item(crate, "specs", file.module, found)] if found else []
+        if name and not items:
+            self.unknown.add(f"{path}.{name}")
+        return items
 
     def imported(self, names, word):
         """The items that a word stands for by the imports of a file."""
@@ -622,6 +625,13 @@ def unreached(repository, crates):
 
 def main(words):
     repository = Repository()
+    status = answer(repository, words)
+    for name in sorted(repository.unknown):
+        print(f"trusted.py: {name} is not found", file=sys.stderr)
+    return status or (1 if repository.unknown else 0)
+
+
+def answer(repository, words):
     if "--unreached" in words:
         crates = [w for w in words if w != "--unreached"]
         unreached(repository, crates or repository.crates)
