@@ -8,7 +8,7 @@ use Rattle.std.proofs.lemmas.Bool.{ltb-false}
 use Rattle.std.proofs.Math.Nat.{mul_comm}
 use Rattle.std.proofs.Math.Facts.{sfits_to_z}
 use mir.Val.{bits}
-use Rattle.alpha_isa.specs.Arithmetic.{word_at, word_from, signed, sign_extended, kept_bytes}
+use Rattle.alpha_isa.specs.Arithmetic.{word_at, word_from, signed_value, sign_extension, kept_bytes}
 
 -- ---- words
 
@@ -47,21 +47,21 @@ from_low w128 n narrow small = absurd (omega arith)
 pub low_below : (w : Width) (n : ℕ) → n % 2 ^ bits w < 2 ^ bits w
 low_below w n = mod_below n (2 ^ bits w) (pow_pos (bits w))
 
-pub sign_extended-low : (w : Width) (n : ℕ) → bits w ≤ 64 → sign_extended w n % 2 ^ bits w ≡ n % 2 ^ bits w
+pub sign_extended-low : (w : Width) (n : ℕ) → bits w ≤ 64 → sign_extension w n % 2 ^ bits w ≡ n % 2 ^ bits w
 sign_extended-low w n narrow = (from_low w (n % 2 ^ bits w) narrow (low_below w n)).0
 
-pub sign_extended-below : (w : Width) (n : ℕ) → bits w ≤ 64 → sign_extended w n < 2 ^ 64
+pub sign_extended-below : (w : Width) (n : ℕ) → bits w ≤ 64 → sign_extension w n < 2 ^ 64
 sign_extended-below w n narrow = (from_low w (n % 2 ^ bits w) narrow (low_below w n)).1
 
 -- numbers with the same low bits have the same extension and the same signed reading
-pub signed_same : (w : Width) (n m : ℕ) → n % 2 ^ bits w ≡ m % 2 ^ bits w → signed w n ≡ signed w m
+pub signed_same : (w : Width) (n m : ℕ) → n % 2 ^ bits w ≡ m % 2 ^ bits w → signed_value w n ≡ signed_value w m
 signed_same w n m e = ap (cast_signed w) e
 
-pub sign_extended-same : (w : Width) (n m : ℕ) → n % 2 ^ bits w ≡ m % 2 ^ bits w → sign_extended w n ≡ sign_extended w m
+pub sign_extended-same : (w : Width) (n m : ℕ) → n % 2 ^ bits w ≡ m % 2 ^ bits w → sign_extension w n ≡ sign_extension w m
 sign_extended-same w n m e = ap word_from (signed_same w n m e)
 
-pub sign_extended-again : (w : Width) (n : ℕ) → bits w ≤ 64 → sign_extended w (sign_extended w n) ≡ sign_extended w n
-sign_extended-again w n narrow = sign_extended-same w (sign_extended w n) n (sign_extended-low w n narrow)
+pub sign_extended-again : (w : Width) (n : ℕ) → bits w ≤ 64 → sign_extension w (sign_extension w n) ≡ sign_extension w n
+sign_extended-again w n narrow = sign_extended-same w (sign_extension w n) n (sign_extended-low w n narrow)
 
 fits_to_z : (w : Width) (n : ℕ) → n < 2 ^ bits w → FitsSigned w (cast_signed w n)
 fits_to_z w n small = sfits_to_z {w = w} {n = n} (record { fits = small })
@@ -77,9 +77,9 @@ widened w128 z narrow fits = absurd (omega arith)
 signed_word : (w : Width) (n : ℕ) → bits w ≤ 64 → n < 2 ^ bits w → cast_signed w64 (word_from (cast_signed w n)) ≡ cast_signed w n
 signed_word w n narrow small = to_z-of_z w64 (cast_signed w n) (widened w (cast_signed w n) narrow (fits_to_z w n small))
 
-pub signed-sign_extended : (w : Width) (n : ℕ) → bits w ≤ 64 → signed w64 (sign_extended w n) ≡ signed w n
+pub signed-sign_extended : (w : Width) (n : ℕ) → bits w ≤ 64 → signed_value w64 (sign_extension w n) ≡ signed_value w n
 signed-sign_extended w n narrow =
-    ap (cast_signed w64) (word_at-small (sign_extended w n) (sign_extended-below w n narrow)) ∙ signed_word w (n % 2 ^ bits w) narrow (low_below w n)
+    ap (cast_signed w64) (word_at-small (sign_extension w n) (sign_extended-below w n narrow)) ∙ signed_word w (n % 2 ^ bits w) narrow (low_below w n)
 
 -- a signed number that fits is read back from its word
 from_fits : (w : Width) (z : ℤ) → bits w ≤ 64 → FitsSigned w z → word_from z % 2 ^ bits w ≡ cast_unsigned w z
@@ -93,7 +93,7 @@ from_fits w64 (pos n) narrow fits = omega (arith, fits.sfits)
 from_fits w64 (negsuc n) narrow fits = omega (arith, fits.sfits)
 from_fits w128 z narrow fits = absurd (omega arith)
 
-pub signed-word_from : (w : Width) (z : ℤ) → bits w ≤ 64 → FitsSigned w z → signed w (word_from z) ≡ z
+pub signed-word_from : (w : Width) (z : ℤ) → bits w ≤ 64 → FitsSigned w z → signed_value w (word_from z) ≡ z
 signed-word_from w z narrow fits = ap (cast_signed w) (from_fits w z narrow fits) ∙ to_z-of_z w z fits
 
 -- ---- wrapping: an operation that is extended needs no more than the low bits of its operands
@@ -122,17 +122,17 @@ low_factors w n k =
     ∙ sym (mul-mod_first k (n % 2 ^ bits w) (2 ^ bits w))
     ∙ ap (λ j. j % 2 ^ bits w) (mul_comm (k % 2 ^ bits w) (n % 2 ^ bits w))
 
-pub sign_extended-sum : (w : Width) (n k : ℕ) → bits w ≤ 64 → sign_extended w (sign_extended w n + k) ≡ sign_extended w (n + k)
-sign_extended-sum w n k narrow = sign_extended-same w (sign_extended w n + k) (n + k) (low_sum w (sign_extended w n) n k (sign_extended-low w n narrow))
+pub sign_extended-sum : (w : Width) (n k : ℕ) → bits w ≤ 64 → sign_extension w (sign_extension w n + k) ≡ sign_extension w (n + k)
+sign_extended-sum w n k narrow = sign_extended-same w (sign_extension w n + k) (n + k) (low_sum w (sign_extension w n) n k (sign_extended-low w n narrow))
 
-pub sign_extended-product : (w : Width) (n k : ℕ) → bits w ≤ 64 → sign_extended w (sign_extended w n * k) ≡ sign_extended w (n * k)
-sign_extended-product w n k narrow = sign_extended-same w (sign_extended w n * k) (n * k) (low_product w (sign_extended w n) n k (sign_extended-low w n narrow))
+pub sign_extended-product : (w : Width) (n k : ℕ) → bits w ≤ 64 → sign_extension w (sign_extension w n * k) ≡ sign_extension w (n * k)
+sign_extended-product w n k narrow = sign_extended-same w (sign_extension w n * k) (n * k) (low_product w (sign_extension w n) n k (sign_extended-low w n narrow))
 
 -- the signed sum and product of the low bits, wrapped
-pub signed-sum : (w : Width) (n k : ℕ) → signed w (n + k) ≡ int_wrap w (signed w n +ℤ signed w k)
+pub signed-sum : (w : Width) (n k : ℕ) → signed_value w (n + k) ≡ int_wrap w (signed_value w n +ℤ signed_value w k)
 signed-sum w n k = signed_same w (n + k) (n % 2 ^ bits w + k % 2 ^ bits w) (low_both w n k) ∙ wrapping_add-bits w (n % 2 ^ bits w) (k % 2 ^ bits w) (low_below w n) (low_below w k)
 
-pub signed-product : (w : Width) (n k : ℕ) → signed w (n * k) ≡ int_wrap w (signed w n *ℤ signed w k)
+pub signed-product : (w : Width) (n k : ℕ) → signed_value w (n * k) ≡ int_wrap w (signed_value w n *ℤ signed_value w k)
 signed-product w n k = ap (cast_signed w) (low_factors w n k) ∙ wrapping_mul-bits w (n % 2 ^ bits w) (k % 2 ^ bits w) (low_below w n) (low_below w k)
 
 -- ---- zero extension

@@ -7,10 +7,10 @@ use Rattle.alpha_isa.specs.declared.insn.Fields.TheVariants as fields
 use Rattle.alpha_isa.specs.declared.insn.MemoryOp.{MemoryOp}
 use Rattle.alpha_isa.specs.declared.insn.MemoryOp.TheVariants.{Lda, Ldah, Ldbu, Ldwu, Stw, Stb, Ldl, Ldq, Stl, Stq}
 use Rattle.alpha_isa.specs.declared.insn.BranchOp.{BranchOp}
-use Rattle.alpha_isa.specs.Arithmetic.{Operated, Gives, Keeps, Overflows}
-use Rattle.alpha_isa.specs.Program.{Program, fetched, data_start, stack_start}
+use Rattle.alpha_isa.specs.Arithmetic.{OperationEffect, Gives, Keeps, Overflows}
+use Rattle.alpha_isa.specs.Program.{Program, instruction_at, data_start, stack_start}
 use Rattle.alpha_isa.specs.State.{State, register, with_register, with_bytes, with_part, lies_in}
-use Rattle.alpha_isa.specs.Step.{Next, Goes, Over, Done, Trap, advanced, stuck, input_word, input_rest, loaded, stored, memory_step, branch_step, links, next_pc, address, jump_step, operate_step, service_step, pal_step, insn_step, fetched_step, step, go_on, exec}
+use Rattle.alpha_isa.specs.Step.{Next, Goes, Over, Done, Trap, next_instruction, stuck, input_word, input_rest, load_into, go_on_stored, memory_step, branch_step, links, next_pc, address, jump_step, operate_step, service_step, pal_step, insn_step, fetched_step, step, go_on, exec}
 use Rattle.alpha_isa.specs.Laws.{output_at, Extends}
 
 -- ---- one run after another
@@ -39,10 +39,10 @@ still : (old : List ℕ) (n : Next) → output_at n ≡ old → Grows old n
 unfolding Grows
 still old n e = ([], e ∙ sym (append-nil old))
 
-given : (ra word : ℕ) (s : State) → Grows s.output (advanced (with_register ra word s))
-given ra word s = still s.output (advanced (with_register ra word s)) (with_register-output ra word s)
+given : (ra word : ℕ) (s : State) → Grows s.output (next_instruction (with_register ra word s))
+given ra word s = still s.output (next_instruction (with_register ra word s)) (with_register-output ra word s)
 
-loaded_grows : (value : List ℕ → ℕ) (ra : ℕ) (o : Option (List ℕ)) (s : State) → Grows s.output (loaded value ra o s)
+loaded_grows : (value : List ℕ → ℕ) (ra : ℕ) (o : Option (List ℕ)) (s : State) → Grows s.output (load_into value ra o s)
 loaded_grows value ra None s = still s.output (stuck s) refl
 loaded_grows value ra (Some bytes) s = given ra (value bytes) s
 
@@ -50,13 +50,13 @@ one_of : (old : List ℕ) (b : Bool) (x y : Next) → Grows old x → Grows old 
 one_of old true x y f g = f
 one_of old false x y f g = g
 
-stored_one : (s : State) (b c d : Bool) (t u : State) → t.output ≡ s.output → u.output ≡ s.output → Grows s.output (stored (cond b None (cond c (Some t) (cond d (Some u) None))) s)
+stored_one : (s : State) (b c d : Bool) (t u : State) → t.output ≡ s.output → u.output ≡ s.output → Grows s.output (go_on_stored (cond b None (cond c (Some t) (cond d (Some u) None))) s)
 stored_one s true c d t u e f = still s.output (stuck s) refl
-stored_one s false true d t u e f = still s.output (advanced t) e
-stored_one s false false true t u e f = still s.output (advanced u) f
+stored_one s false true d t u e f = still s.output (next_instruction t) e
+stored_one s false false true t u e f = still s.output (next_instruction u) f
 stored_one s false false false t u e f = still s.output (stuck s) refl
 
-stored_grows : (p : Program) (s : State) (a : ℕ) (new : List ℕ) → Grows s.output (stored (with_bytes p s a new) s)
+stored_grows : (p : Program) (s : State) (a : ℕ) (new : List ℕ) → Grows s.output (go_on_stored (with_bytes p s a new) s)
 stored_grows p s a new =
     stored_one s (not (eqb (a % length new) 0)) (lies_in a (length new) (data_start p) s.data_bytes) (lies_in a (length new) (stack_start p) s.stack_bytes)
     (record s { data_bytes = with_part s.data_bytes (a - data_start p) new })
@@ -80,21 +80,21 @@ branch_grows op ra disp s =
     still s.output (branch_step op ra disp s)
     (cond_both (links op) (with_register ra (next_pc s) s) s (λ (u : State). u.output ≡ s.output) (λ e. with_register-output ra (next_pc s) s) (λ e. refl))
 
-operate_grows : (o : Operated) (rc : ℕ) (s : State) → Grows s.output (operate_step o rc s)
+operate_grows : (o : OperationEffect) (rc : ℕ) (s : State) → Grows s.output (operate_step o rc s)
 operate_grows (Gives word) rc s = given rc word s
-operate_grows Keeps rc s = still s.output (advanced s) refl
+operate_grows Keeps rc s = still s.output (next_instruction s) refl
 operate_grows Overflows rc s = still s.output _ refl
 
-put_grows : (byte : ℕ) (s : State) → Grows s.output (advanced (record s { output = s.output ++ byte ∷ [] }))
+put_grows : (byte : ℕ) (s : State) → Grows s.output (next_instruction (record s { output = s.output ++ byte ∷ [] }))
 unfolding Grows
 put_grows byte s = (byte ∷ [], refl)
 
 service_grows : (number : ℕ) (s : State) → Grows s.output (service_step number s)
 service_grows number s =
     let ends : Next = Over (Done (register s 16 % 256)) s in
-    let puts : Next = advanced (record s { output = s.output ++ (register s 16 % 256) ∷ [] }) in
+    let puts : Next = next_instruction (record s { output = s.output ++ (register s 16 % 256) ∷ [] }) in
     let rest : State = record s { input = input_rest s.input } in
-    let takes : Next = advanced (with_register 0 (input_word s.input) rest) in
+    let takes : Next = next_instruction (with_register 0 (input_word s.input) rest) in
     one_of s.output (eqb number 1) ends (cond (eqb number 2) puts (cond (eqb number 3) takes (stuck s))) (still s.output ends refl)
     (one_of s.output (eqb number 2) puts (cond (eqb number 3) takes (stuck s)) (put_grows (register s 16 % 256) s)
     (one_of s.output (eqb number 3) takes (stuck s) (still s.output takes (with_register-output 0 (input_word s.input) rest)) (still s.output (stuck s) refl)))
@@ -118,7 +118,7 @@ fetched_grows p (Some i) s = insn_grows p i s
 
 step_grows : (p : Program) (s : State) → Grows s.output (step p s)
 unfolding step
-step_grows p s = fetched_grows p (fetched p s.pc) s
+step_grows p s = fetched_grows p (instruction_at p s.pc) s
 
 -- ---- the output of a run
 

@@ -18,13 +18,13 @@ use Rattle.alpha_isa.specs.declared.insn.OperateOp.{OperateOp}
 use Rattle.alpha_isa.specs.declared.insn.OperateOp.TheVariants.{Addl, Subl, Cmpult, Addq, S4addq, Subq, Cmpeq, S8addq, Cmpule, AddlV, SublV, Cmplt, AddqV, SubqV, Cmple, And, Bic, Bis, Cmoveq, Cmovne, Ornot, Xor, Eqv, Zapnot, Srl, Sll, Sra, Mull, Mulq, Umulh, MullV, MulqV, Sextb, Sextw}
 use Rattle.alpha_isa.specs.Lawful.{IsLawful, IsOperand, IsDisplacement, IsBranchDisplacement, IsFirstOperand, is_call}
 use Rattle.alpha_isa.specs.Codes.{memory_code, branch_code, jump_code, operate_opcode, operate_function, memory_at, branch_at, jump_at, operate_at, memory_ops, branch_ops, jump_ops, operate_ops}
-use Rattle.alpha_isa.specs.Words.{branch_bits, branch_displacement, operand_bits, word_of, opcode_of, ra_of, rb_of, rc_of, operand_at, extends, operation, memory_insn, branch_insn, jump_insn, operate_insn, pal_insn, is_operate, decoded}
+use Rattle.alpha_isa.specs.Words.{branch_bits, branch_displacement, operand_bits, word_of, opcode_of, ra_of, rb_of, rc_of, operand_at, extends, operation, memory_insn, branch_insn, jump_insn, operate_insn, pal_insn, is_operate, insn_of}
 
 -- ---- from an instruction to its word and back
 
 -- each format has its opcodes
-memory_format : (op : MemoryOp) (w : ℕ) → opcode_of w ≡ memory_code op → decoded w ≡ memory_insn w
-unfolding decoded
+memory_format : (op : MemoryOp) (w : ℕ) → opcode_of w ≡ memory_code op → insn_of w ≡ memory_insn w
+unfolding insn_of
 memory_format Lda w e = rw e refl
 memory_format Ldah w e = rw e refl
 memory_format Ldbu w e = rw e refl
@@ -49,8 +49,8 @@ memory_found Ldq = refl
 memory_found Stl = refl
 memory_found Stq = refl
 
-branch_format : (op : BranchOp) (w : ℕ) → opcode_of w ≡ branch_code op → decoded w ≡ branch_insn w
-unfolding decoded
+branch_format : (op : BranchOp) (w : ℕ) → opcode_of w ≡ branch_code op → insn_of w ≡ branch_insn w
+unfolding insn_of
 branch_format Br w e = rw e refl
 branch_format Bsr w e = rw e refl
 branch_format Blbc w e = rw e refl
@@ -75,8 +75,8 @@ branch_found Bne = refl
 branch_found Bge = refl
 branch_found Bgt = refl
 
-jump_format : (w : ℕ) → opcode_of w ≡ 0x1A → decoded w ≡ jump_insn w
-unfolding decoded
+jump_format : (w : ℕ) → opcode_of w ≡ 0x1A → insn_of w ≡ jump_insn w
+unfolding insn_of
 jump_format w e = rw e refl
 
 jump_found : (op : JumpOp) → jump_at (jump_code op) ≡ Some op
@@ -85,8 +85,8 @@ jump_found Jmp = refl
 jump_found Jsr = refl
 jump_found Ret = refl
 
-operate_format : (op : OperateOp) (w : ℕ) → opcode_of w ≡ operate_opcode op → decoded w ≡ operate_insn w
-unfolding decoded
+operate_format : (op : OperateOp) (w : ℕ) → opcode_of w ≡ operate_opcode op → insn_of w ≡ operate_insn w
+unfolding insn_of
 operate_format Addl w e = rw e refl
 operate_format Subl w e = rw e refl
 operate_format Cmpult w e = rw e refl
@@ -233,7 +233,7 @@ memory_fields op w ra rb disp e a b d =
     let found : memory_at (opcode_of w) ≡ Some op = ap memory_at e ∙ memory_found op in
     ap (option_map (λ o. fields.Memory o (ra_of w) (rb_of w) (cast_signed w16 (w % 2 ^ 16)))) found ∙ cc
 
-memory_decoded : (op : MemoryOp) (c ra rb n : ℕ) (disp : ℤ) → c ≡ memory_code op → ra < 32 → rb < 32 → n < 2 ^ 16 → cast_signed w16 n ≡ disp → decoded (c * 2 ^ 26 + ra * 2 ^ 21 + rb * 2 ^ 16 + n) ≡ Some (fields.Memory op ra rb disp)
+memory_decoded : (op : MemoryOp) (c ra rb n : ℕ) (disp : ℤ) → c ≡ memory_code op → ra < 32 → rb < 32 → n < 2 ^ 16 → cast_signed w16 n ≡ disp → insn_of (c * 2 ^ 26 + ra * 2 ^ 21 + rb * 2 ^ 16 + n) ≡ Some (fields.Memory op ra rb disp)
 memory_decoded op c ra rb n disp code p q small d =
     let w : ℕ = c * 2 ^ 26 + ra * 2 ^ 21 + rb * 2 ^ 16 + n in
     let e : w / 2 ^ 26 ≡ c = omega arith in
@@ -248,7 +248,7 @@ branch_fields op w ra disp e a d =
     let found : branch_at (opcode_of w) ≡ Some op = ap branch_at e ∙ branch_found op in
     ap (option_map (λ o. fields.Branch o (ra_of w) (branch_displacement (w % 2 ^ 21)))) found ∙ cc
 
-branch_decoded : (op : BranchOp) (c ra n : ℕ) (disp : ℤ) → c ≡ branch_code op → ra < 32 → n < 2 ^ 21 → branch_displacement n ≡ disp → decoded (c * 2 ^ 26 + ra * 2 ^ 21 + n) ≡ Some (fields.Branch op ra disp)
+branch_decoded : (op : BranchOp) (c ra n : ℕ) (disp : ℤ) → c ≡ branch_code op → ra < 32 → n < 2 ^ 21 → branch_displacement n ≡ disp → insn_of (c * 2 ^ 26 + ra * 2 ^ 21 + n) ≡ Some (fields.Branch op ra disp)
 branch_decoded op c ra n disp code p small d =
     let w : ℕ = c * 2 ^ 26 + ra * 2 ^ 21 + n in
     let e : w / 2 ^ 26 ≡ c = omega arith in
@@ -262,7 +262,7 @@ jump_fields op w ra rb hints e a b =
     let found : jump_at (w / 2 ^ 14 % 4) ≡ Some op = ap jump_at e ∙ jump_found op in
     rw (eq-eqb (w % 2 ^ 14) 0 hints) (ap (option_map (λ o. fields.Jump o (ra_of w) (rb_of w))) found ∙ cc)
 
-jump_decoded : (op : JumpOp) (c ra rb : ℕ) → c ≡ jump_code op → c < 4 → ra < 32 → rb < 32 → decoded (0x1A * 2 ^ 26 + ra * 2 ^ 21 + rb * 2 ^ 16 + c * 2 ^ 14) ≡ Some (fields.Jump op ra rb)
+jump_decoded : (op : JumpOp) (c ra rb : ℕ) → c ≡ jump_code op → c < 4 → ra < 32 → rb < 32 → insn_of (0x1A * 2 ^ 26 + ra * 2 ^ 21 + rb * 2 ^ 16 + c * 2 ^ 14) ≡ Some (fields.Jump op ra rb)
 jump_decoded op c ra rb code small p q =
     let w : ℕ = 0x1A * 2 ^ 26 + ra * 2 ^ 21 + rb * 2 ^ 16 + c * 2 ^ 14 in
     let e : w / 2 ^ 26 ≡ 0x1A = omega arith in
@@ -293,7 +293,7 @@ operand_small : (rb : Operand) → IsOperand rb → (k : ℕ) × (k < 512) × (o
 operand_small (Reg r) p = (r * 2 ^ 4, omega arith, omega arith)
 operand_small (Literal n) p = (n * 2 + 1, omega arith, omega arith)
 
-operate_decoded : (op : OperateOp) (rb : Operand) (c ra k f rc : ℕ) → c ≡ operate_opcode op → f ≡ operate_function op → f < 2 ^ 7 → k < 512 → operand_bits rb ≡ k * 2 ^ 12 → ra < 32 → rc < 32 → IsFirstOperand op ra → IsOperand rb → decoded (c * 2 ^ 26 + ra * 2 ^ 21 + k * 2 ^ 12 + f * 2 ^ 5 + rc) ≡ Some (fields.Operate op ra rb rc)
+operate_decoded : (op : OperateOp) (rb : Operand) (c ra k f rc : ℕ) → c ≡ operate_opcode op → f ≡ operate_function op → f < 2 ^ 7 → k < 512 → operand_bits rb ≡ k * 2 ^ 12 → ra < 32 → rc < 32 → IsFirstOperand op ra → IsOperand rb → insn_of (c * 2 ^ 26 + ra * 2 ^ 21 + k * 2 ^ 12 + f * 2 ^ 5 + rc) ≡ Some (fields.Operate op ra rb rc)
 operate_decoded op rb c ra k f rc code function small below bits p r first is_operand =
     let w : ℕ = c * 2 ^ 26 + ra * 2 ^ 21 + k * 2 ^ 12 + f * 2 ^ 5 + rc in
     let e : w / 2 ^ 26 ≡ c = omega (arith, small, below, p, r) in
@@ -309,15 +309,15 @@ jump_small Jmp = lit< tt
 jump_small Jsr = lit< tt
 jump_small Ret = lit< tt
 
-pal_decoded : (n : ℕ) → is_call n ≡ true → decoded n ≡ Some (fields.Pal n)
-unfolding decoded pal_insn
+pal_decoded : (n : ℕ) → is_call n ≡ true → insn_of n ≡ Some (fields.Pal n)
+unfolding insn_of pal_insn
 pal_decoded n p = elim (or_cases (eqb n 0x83) (eqb n 0xAA) p) [
   | inl e ↦ rw (eqb-true n 0x83 e) refl
   | inr e ↦ rw (eqb-true n 0xAA e) refl
 ]
 
 -- the word of a lawful instruction stands for it
-pub word_decoded : (i : Fields) → IsLawful i → decoded (word_of i) ≡ Some i
+pub word_decoded : (i : Fields) → IsLawful i → insn_of (word_of i) ≡ Some i
 word_decoded (fields.Memory op ra rb disp) l = memory_decoded op (memory_code op) ra rb (cast_unsigned w16 disp) disp refl l.0 l.1 (displacement_small disp l.2) (displacement_again disp l.2)
 word_decoded (fields.Branch op ra disp) l = branch_decoded op (branch_code op) ra (branch_bits disp) disp refl l.0 (branch_small disp l.1) (branch_again disp l.1)
 word_decoded (fields.Jump op ra rb) l = jump_decoded op (jump_code op) ra rb refl (jump_small op) l.0 l.1
@@ -434,10 +434,10 @@ first_back _ ra p e = p
 operate_stands : (op : OperateOp) (rb : Operand) (w : ℕ) → operate_opcode op ≡ opcode_of w → operate_function op ≡ w / 2 ^ 5 % 128 → operand_bits rb ≡ w / 2 ^ 12 % 512 * 2 ^ 12 → word_of (fields.Operate op (ra_of w) rb (rc_of w)) ≡ w
 operate_stands op rb w e f bits = rw (e, f, bits) (omega arith)
 
-operated : (o : Option OperateOp) (p : Option Operand) (w : ℕ) (i : Fields) → o ≡ operate_at (opcode_of w) (w / 2 ^ 5 % 128) → p ≡ operand_at w → operation o p (ra_of w) (rc_of w) ≡ Some i → Stands w i
-operated None p w i eo ep e = cc
-operated (Some op) None w i eo ep e = cc
-operated (Some op) (Some rb) w i eo ep e =
+operation_effect : (o : Option OperateOp) (p : Option Operand) (w : ℕ) (i : Fields) → o ≡ operate_at (opcode_of w) (w / 2 ^ 5 % 128) → p ≡ operand_at w → operation o p (ra_of w) (rc_of w) ≡ Some i → Stands w i
+operation_effect None p w i eo ep e = cc
+operation_effect (Some op) None w i eo ep e = cc
+operation_effect (Some op) (Some rb) w i eo ep e =
     elim (chosen (extends op && not (eqb (ra_of w) 31)) None (Some (fields.Operate op (ra_of w) rb (rc_of w))) (Some i) e) [
       | inl h ↦ cc
       | inr h ↦ (let same : fields.Operate op (ra_of w) rb (rc_of w) ≡ i = cc in
@@ -450,7 +450,7 @@ operated (Some op) (Some rb) w i eo ep e =
 
 operate_back : (w : ℕ) (i : Fields) → operate_insn w ≡ Some i → Stands w i
 unfolding operate_insn
-operate_back w i e = operated (operate_at (opcode_of w) (w / 2 ^ 5 % 128)) (operand_at w) w i refl refl e
+operate_back w i e = operation_effect (operate_at (opcode_of w) (w / 2 ^ 5 % 128)) (operand_at w) w i refl refl e
 
 pal_back : (w : ℕ) (i : Fields) → pal_insn w ≡ Some i → Stands w i
 unfolding pal_insn
@@ -461,8 +461,8 @@ pal_back w i e =
     ]
 
 -- the instruction that a word stands for is lawful, and the word is its word
-pub decoded_word : (w : ℕ) (i : Fields) → decoded w ≡ Some i → IsLawful i × (word_of i ≡ w)
-unfolding decoded
+pub decoded_word : (w : ℕ) (i : Fields) → insn_of w ≡ Some i → IsLawful i × (word_of i ≡ w)
+unfolding insn_of
 decoded_word w i e =
     let o : ℕ = opcode_of w in
     let low : Option Fields = cond (ltb o 0x30) (memory_insn w) (branch_insn w) in

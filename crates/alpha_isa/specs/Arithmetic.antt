@@ -17,12 +17,12 @@ abbrev pub word_from : ℤ → ℕ
 word_from z = cast_unsigned w64 z
 
 -- the low bits of a word as a signed number
-abbrev pub signed : Width → ℕ → ℤ
-signed w n = cast_signed w (n % 2 ^ bits w)
+abbrev pub signed_value : Width → ℕ → ℤ
+signed_value w n = cast_signed w (n % 2 ^ bits w)
 
 -- the low bits of a word with their sign in all bits above them
-abbrev pub sign_extended : Width → ℕ → ℕ
-sign_extended w n = word_from (signed w n)
+abbrev pub sign_extension : Width → ℕ → ℕ
+sign_extension w n = word_from (signed_value w n)
 
 -- a signed number lies in the range of its width
 abbrev pub fits : Width → ℤ → Bool
@@ -45,58 +45,58 @@ kept_bytes (suc k) n mask = (if mask % 2 == 1 then n % 256 else 0) + 256 * kept_
 -- ---- operations
 
 -- what an operation does with its destination: it gets a word, keeps its own, or the operation traps
-pub data Operated : Type 0 where
-  Gives : ℕ → Operated
-  Keeps : Operated
-  Overflows : Operated
+pub data OperationEffect : Type 0 where
+  Gives : ℕ → OperationEffect
+  Keeps : OperationEffect
+  Overflows : OperationEffect
 
 -- a result of 64 bits; one of 32 bits, with its sign extended; a truth value
-abbrev pub quad : ℕ → Operated
+abbrev pub quad : ℕ → OperationEffect
 quad n = Gives (word_at n)
 
-abbrev pub long : ℕ → Operated
-long n = Gives (sign_extended w32 n)
+abbrev pub long : ℕ → OperationEffect
+long n = Gives (sign_extension w32 n)
 
-abbrev pub truth : Bool → Operated
+abbrev pub truth : Bool → OperationEffect
 truth b = Gives (if b then 1 else 0)
 
 -- a signed result, which traps where it does not fit
-abbrev pub checked : Width → ℤ → Operated
-checked w z = if fits w z then Gives (word_from z) else Overflows
+abbrev pub checked_effect : Width → ℤ → OperationEffect
+checked_effect w z = if fits w z then Gives (word_from z) else Overflows
 
 -- an operation on the words of its two operands
-abbrev pub operated : OperateOp → ℕ → ℕ → Operated
-operated Addl a b = long (a + b)
-operated Subl a b = long (difference a b)
-operated Cmpult a b = truth (nat_lt a b)
-operated Addq a b = quad (a + b)
-operated S4addq a b = quad (4 * a + b)
-operated Subq a b = quad (difference a b)
-operated Cmpeq a b = truth (a == b)
-operated S8addq a b = quad (8 * a + b)
-operated Cmpule a b = truth (nat_le a b)
-operated AddlV a b = checked w32 (signed w32 a +ℤ signed w32 b)
-operated SublV a b = checked w32 (signed w32 a -ℤ signed w32 b)
-operated Cmplt a b = truth (int_lt (signed w64 a) (signed w64 b))
-operated AddqV a b = checked w64 (signed w64 a +ℤ signed w64 b)
-operated SubqV a b = checked w64 (signed w64 a -ℤ signed w64 b)
-operated Cmple a b = truth (int_le (signed w64 a) (signed w64 b))
-operated And a b = Gives (bit_and a b)
-operated Bic a b = Gives (bit_and a (complement b))
-operated Bis a b = Gives (bit_or a b)
-operated Cmoveq a b = if a == 0 then Gives b else Keeps
-operated Cmovne a b = if a == 0 then Keeps else Gives b
-operated Ornot a b = Gives (bit_or a (complement b))
-operated Xor a b = Gives (bit_xor a b)
-operated Eqv a b = Gives (bit_xor a (complement b))
-operated Zapnot a b = Gives (kept_bytes 8 a b)
-operated Srl a b = Gives (a / 2 ^ (b % 64))
-operated Sll a b = quad (a * 2 ^ (b % 64))
-operated Sra a b = Gives (word_from (int_shr (signed w64 a) (b % 64)))
-operated Mull a b = long (a * b)
-operated Mulq a b = quad (a * b)
-operated Umulh a b = Gives (a * b / 2 ^ 64)
-operated MullV a b = checked w32 (signed w32 a *ℤ signed w32 b)
-operated MulqV a b = checked w64 (signed w64 a *ℤ signed w64 b)
-operated Sextb a b = Gives (sign_extended w8 b)
-operated Sextw a b = Gives (sign_extended w16 b)
+abbrev pub operation_effect : OperateOp → ℕ → ℕ → OperationEffect
+operation_effect Addl a b = long (a + b)
+operation_effect Subl a b = long (difference a b)
+operation_effect Cmpult a b = truth (nat_lt a b)
+operation_effect Addq a b = quad (a + b)
+operation_effect S4addq a b = quad (4 * a + b)
+operation_effect Subq a b = quad (difference a b)
+operation_effect Cmpeq a b = truth (a == b)
+operation_effect S8addq a b = quad (8 * a + b)
+operation_effect Cmpule a b = truth (nat_le a b)
+operation_effect AddlV a b = checked_effect w32 (signed_value w32 a +ℤ signed_value w32 b)
+operation_effect SublV a b = checked_effect w32 (signed_value w32 a -ℤ signed_value w32 b)
+operation_effect Cmplt a b = truth (int_lt (signed_value w64 a) (signed_value w64 b))
+operation_effect AddqV a b = checked_effect w64 (signed_value w64 a +ℤ signed_value w64 b)
+operation_effect SubqV a b = checked_effect w64 (signed_value w64 a -ℤ signed_value w64 b)
+operation_effect Cmple a b = truth (int_le (signed_value w64 a) (signed_value w64 b))
+operation_effect And a b = Gives (bit_and a b)
+operation_effect Bic a b = Gives (bit_and a (complement b))
+operation_effect Bis a b = Gives (bit_or a b)
+operation_effect Cmoveq a b = if a == 0 then Gives b else Keeps
+operation_effect Cmovne a b = if a == 0 then Keeps else Gives b
+operation_effect Ornot a b = Gives (bit_or a (complement b))
+operation_effect Xor a b = Gives (bit_xor a b)
+operation_effect Eqv a b = Gives (bit_xor a (complement b))
+operation_effect Zapnot a b = Gives (kept_bytes 8 a b)
+operation_effect Srl a b = Gives (a / 2 ^ (b % 64))
+operation_effect Sll a b = quad (a * 2 ^ (b % 64))
+operation_effect Sra a b = Gives (word_from (int_shr (signed_value w64 a) (b % 64)))
+operation_effect Mull a b = long (a * b)
+operation_effect Mulq a b = quad (a * b)
+operation_effect Umulh a b = Gives (a * b / 2 ^ 64)
+operation_effect MullV a b = checked_effect w32 (signed_value w32 a *ℤ signed_value w32 b)
+operation_effect MulqV a b = checked_effect w64 (signed_value w64 a *ℤ signed_value w64 b)
+operation_effect Sextb a b = Gives (sign_extension w8 b)
+operation_effect Sextw a b = Gives (sign_extension w16 b)

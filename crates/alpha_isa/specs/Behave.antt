@@ -30,14 +30,14 @@ pub data Behaviour : Type 0 where
   Stuck : (output : List ℕ) (pc : ℕ) → Behaviour
   More : (output : List ℕ) → Behaviour
 
-abbrev pub halted : Halt → List ℕ → Behaviour
-halted (step.Done status) output = Done output status
-halted (step.Trap code) output = Trap output code
-halted (step.Stuck pc) output = Stuck output pc
+abbrev pub behaviour_of_halt : Halt → List ℕ → Behaviour
+behaviour_of_halt (step.Done status) output = Done output status
+behaviour_of_halt (step.Trap code) output = Trap output code
+behaviour_of_halt (step.Stuck pc) output = Stuck output pc
 
 abbrev pub behaviour : Next → Behaviour
 behaviour (step.Goes s) = More s.output
-behaviour (step.Over h s) = halted h s.output
+behaviour (step.Over h s) = behaviour_of_halt h s.output
 
 -- the run of an image on a stack of this size and this input, in at most m steps
 abbrev pub behave_a : Program → ℕ → List ℕ → ℕ → Behaviour

@@ -12,10 +12,10 @@ abbrev pub mark : List ℕ
 mark = 0x4D ∷ 0x53 ∷ 0x41 ∷ 0x31 ∷ []
 
 -- the mark, the version, how many words and bytes there are, the entry, then the words and the bytes
-unfoldable pub spelled : Program → List ℕ
-spelled p = mark ++ (number 1 ++ (number (length p.words) ++ (number (length p.bytes) ++ (number p.entry ++ (flat_map number p.words ++ p.bytes)))))
+unfoldable pub image_spelling : Program → List ℕ
+image_spelling p = mark ++ (number 1 ++ (number (length p.words) ++ (number (length p.bytes) ++ (number p.entry ++ (flat_map number p.words ++ p.bytes)))))
 
 -- these are the bytes of an image
 pub record IsImage (bytes : List ℕ) (p : Program) : Type 0 where
   pub lawful : IsLawful p
-  pub bytes_are : bytes ≡ spelled p
+  pub bytes_are : bytes ≡ image_spelling p

@@ -1,7 +1,7 @@
 -- What an image holds, and where its parts lie in the addresses of the machine.
-use Rattle.std.specs.Prelude.{ℕ, ◌+◌, ◌-◌, ◌*◌, ◌/◌, ◌^◌, ◌<◌, ◌≤◌, nat_lt, List, length, slice_get, Option, None, option_and_then, if◌then◌else◌}
+use Rattle.std.specs.Prelude.{ℕ, ◌+◌, ◌-◌, ◌*◌, ◌/◌, ◌^◌, ◌<◌, ◌≤◌, nat_lt, List, length, slice_get, get_or, Option, None, option_and_then, if◌then◌else◌}
 use Rattle.alpha_isa.specs.declared.insn.Fields.{Fields}
-use Rattle.alpha_isa.specs.Words.{decoded}
+use Rattle.alpha_isa.specs.Words.{insn_of}
 
 -- the words of the text, the bytes of the data, and the number of the word where a run begins
 pub record Program : Type 0 where
@@ -16,10 +16,11 @@ most_words = 2 ^ 28
 abbrev pub most_bytes : ℕ
 most_bytes = 67108864
 
--- an image keeps its limits, and begins at a word of its text
+-- an image keeps its limits, its words have 32 bits, and it begins at a word of its text
 pub record IsLawful (p : Program) : Type 0 where
   pub some_words : 1 ≤ length p.words
   pub words : length p.words ≤ most_words
+  pub are_words : (i : ℕ) → get_or p.words i 0 < 2 ^ 32
   pub bytes : length p.bytes ≤ most_bytes
   pub entry : p.entry < length p.words
 
@@ -47,5 +48,5 @@ abbrev pub word_address : ℕ → ℕ
 word_address n = text_start + 4 * n
 
 -- the instruction at an address, none outside the text and where its word stands for none
-abbrev pub fetched : Program → ℕ → Option Fields
-fetched p pc = if nat_lt pc text_start then None else option_and_then decoded (slice_get p.words ((pc - text_start) / 4))
+abbrev pub instruction_at : Program → ℕ → Option Fields
+instruction_at p pc = if nat_lt pc text_start then None else option_and_then insn_of (slice_get p.words ((pc - text_start) / 4))

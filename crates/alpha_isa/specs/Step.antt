@@ -8,8 +8,8 @@ use Rattle.alpha_isa.specs.declared.insn.MemoryOp.{MemoryOp}
 use Rattle.alpha_isa.specs.declared.insn.MemoryOp.TheVariants.{Lda, Ldah, Ldbu, Ldwu, Stw, Stb, Ldl, Ldq, Stl, Stq}
 use Rattle.alpha_isa.specs.declared.insn.BranchOp.{BranchOp}
 use Rattle.alpha_isa.specs.declared.insn.BranchOp.TheVariants.{Br, Bsr, Blbc, Beq, Blt, Ble, Blbs, Bne, Bge, Bgt}
-use Rattle.alpha_isa.specs.Arithmetic.{Operated, Gives, Keeps, Overflows, word_at, word_from, signed, sign_extended, operated}
-use Rattle.alpha_isa.specs.Program.{Program, fetched}
+use Rattle.alpha_isa.specs.Arithmetic.{OperationEffect, Gives, Keeps, Overflows, word_at, word_from, signed_value, sign_extension, operation_effect}
+use Rattle.alpha_isa.specs.Program.{Program, instruction_at}
 use Rattle.alpha_isa.specs.State.{State, register, with_register, operand, bytes_at, with_bytes}
 
 -- how a run ends: with a status, by a trap, or at a place where there is nothing that it can do
@@ -27,8 +27,8 @@ pub data Next : Type 0 where
 abbrev pub next_pc : State → ℕ
 next_pc s = s.pc + 4
 
-abbrev pub advanced : State → Next
-advanced s = Goes (record s { pc = next_pc s })
+abbrev pub next_instruction : State → Next
+next_instruction s = Goes (record s { pc = next_pc s })
 
 abbrev pub stuck : State → Next
 stuck s = Over (Stuck s.pc) s
@@ -40,25 +40,25 @@ abbrev pub address : State → ℕ → ℤ → ℕ
 address s rb disp = word_at (register s rb + word_from disp)
 
 -- a load gives what was read to a register, and a store goes on from what was written
-abbrev pub loaded : (List ℕ → ℕ) → ℕ → Option (List ℕ) → State → Next
-loaded value ra None s = stuck s
-loaded value ra (Some bytes) s = advanced (with_register ra (value bytes) s)
+abbrev pub load_into : (List ℕ → ℕ) → ℕ → Option (List ℕ) → State → Next
+load_into value ra None s = stuck s
+load_into value ra (Some bytes) s = next_instruction (with_register ra (value bytes) s)
 
-abbrev pub stored : Option State → State → Next
-stored None s = stuck s
-stored (Some t) s = advanced t
+abbrev pub go_on_stored : Option State → State → Next
+go_on_stored None s = stuck s
+go_on_stored (Some t) s = next_instruction t
 
 abbrev pub memory_step : Program → MemoryOp → ℕ → ℕ → ℤ → State → Next
-memory_step p Lda ra rb disp s = advanced (with_register ra (address s rb disp) s)
-memory_step p Ldah ra rb disp s = advanced (with_register ra (address s rb (disp *ℤ pos 65536)) s)
-memory_step p Ldbu ra rb disp s = loaded (from_le_bytes w8) ra (bytes_at p s (address s rb disp) 1) s
-memory_step p Ldwu ra rb disp s = loaded (from_le_bytes w16) ra (bytes_at p s (address s rb disp) 2) s
-memory_step p Ldl ra rb disp s = loaded (λ bytes. sign_extended w32 (from_le_bytes w32 bytes)) ra (bytes_at p s (address s rb disp) 4) s
-memory_step p Ldq ra rb disp s = loaded (from_le_bytes w64) ra (bytes_at p s (address s rb disp) 8) s
-memory_step p Stb ra rb disp s = stored (with_bytes p s (address s rb disp) (to_le_bytes w8 (register s ra))) s
-memory_step p Stw ra rb disp s = stored (with_bytes p s (address s rb disp) (to_le_bytes w16 (register s ra))) s
-memory_step p Stl ra rb disp s = stored (with_bytes p s (address s rb disp) (to_le_bytes w32 (register s ra))) s
-memory_step p Stq ra rb disp s = stored (with_bytes p s (address s rb disp) (to_le_bytes w64 (register s ra))) s
+memory_step p Lda ra rb disp s = next_instruction (with_register ra (address s rb disp) s)
+memory_step p Ldah ra rb disp s = next_instruction (with_register ra (address s rb (disp *ℤ pos 65536)) s)
+memory_step p Ldbu ra rb disp s = load_into (from_le_bytes w8) ra (bytes_at p s (address s rb disp) 1) s
+memory_step p Ldwu ra rb disp s = load_into (from_le_bytes w16) ra (bytes_at p s (address s rb disp) 2) s
+memory_step p Ldl ra rb disp s = load_into (λ bytes. sign_extension w32 (from_le_bytes w32 bytes)) ra (bytes_at p s (address s rb disp) 4) s
+memory_step p Ldq ra rb disp s = load_into (from_le_bytes w64) ra (bytes_at p s (address s rb disp) 8) s
+memory_step p Stb ra rb disp s = go_on_stored (with_bytes p s (address s rb disp) (to_le_bytes w8 (register s ra))) s
+memory_step p Stw ra rb disp s = go_on_stored (with_bytes p s (address s rb disp) (to_le_bytes w16 (register s ra))) s
+memory_step p Stl ra rb disp s = go_on_stored (with_bytes p s (address s rb disp) (to_le_bytes w32 (register s ra))) s
+memory_step p Stq ra rb disp s = go_on_stored (with_bytes p s (address s rb disp) (to_le_bytes w64 (register s ra))) s
 
 -- ---- branches and jumps
 
@@ -70,10 +70,10 @@ is_taken Blbc a = a % 2 == 0
 is_taken Blbs a = a % 2 == 1
 is_taken Beq a = a == 0
 is_taken Bne a = not (a == 0)
-is_taken Blt a = int_lt (signed w64 a) (pos 0)
-is_taken Bge a = not (int_lt (signed w64 a) (pos 0))
-is_taken Ble a = not (int_lt (pos 0) (signed w64 a))
-is_taken Bgt a = int_lt (pos 0) (signed w64 a)
+is_taken Blt a = int_lt (signed_value w64 a) (pos 0)
+is_taken Bge a = not (int_lt (signed_value w64 a) (pos 0))
+is_taken Ble a = not (int_lt (pos 0) (signed_value w64 a))
+is_taken Bgt a = int_lt (pos 0) (signed_value w64 a)
 
 -- br and bsr leave the next address in their register
 abbrev pub links : BranchOp → Bool
@@ -97,9 +97,9 @@ jump_step ra rb s = Goes (record (with_register ra (next_pc s) s) { pc = registe
 -- ---- operations
 
 -- a trap for overflow has the code 3, and nothing is written
-abbrev pub operate_step : Operated → ℕ → State → Next
-operate_step (Gives word) rc s = advanced (with_register rc word s)
-operate_step Keeps rc s = advanced s
+abbrev pub operate_step : OperationEffect → ℕ → State → Next
+operate_step (Gives word) rc s = next_instruction (with_register rc word s)
+operate_step Keeps rc s = next_instruction s
 operate_step Overflows rc s = Over (Trap 3) s
 
 -- ---- services
@@ -117,8 +117,8 @@ input_rest (byte ∷ bytes) = bytes
 abbrev pub service_step : ℕ → State → Next
 service_step number s =
     if number == 1 then Over (Done (register s 16 % 256)) s
-    else if number == 2 then advanced (record s { output = s.output ++ (register s 16 % 256) ∷ [] })
-    else if number == 3 then advanced (with_register 0 (input_word s.input) (record s { input = input_rest s.input }))
+    else if number == 2 then next_instruction (record s { output = s.output ++ (register s 16 % 256) ∷ [] })
+    else if number == 3 then next_instruction (with_register 0 (input_word s.input) (record s { input = input_rest s.input }))
     else stuck s
 
 -- 83 (hexadecimal) calls a service, AA traps with the code in register 16
@@ -134,7 +134,7 @@ abbrev pub insn_step : Program → Fields → State → Next
 insn_step p (fields.Memory op ra rb disp) s = memory_step p op ra rb disp s
 insn_step p (fields.Branch op ra disp) s = branch_step op ra disp s
 insn_step p (fields.Jump op ra rb) s = jump_step ra rb s
-insn_step p (fields.Operate op ra rb rc) s = operate_step (operated op (register s ra) (operand s rb)) rc s
+insn_step p (fields.Operate op ra rb rc) s = operate_step (operation_effect op (register s ra) (operand s rb)) rc s
 insn_step p (fields.Pal function) s = pal_step function s
 
 abbrev pub fetched_step : Program → Option Fields → State → Next
@@ -143,7 +143,7 @@ fetched_step p (Some i) s = insn_step p i s
 
 -- one step from a state
 unfoldable pub step : Program → State → Next
-step p s = fetched_step p (fetched p s.pc) s
+step p s = fetched_step p (instruction_at p s.pc) s
 
 -- at most so many steps: where the machine stands then, or how it ended
 abbrev pub go_on : Next → (State → Next) → Next

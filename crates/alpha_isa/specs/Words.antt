@@ -81,8 +81,8 @@ abbrev pub is_operate : ℕ → Bool
 is_operate opcode = (opcode == 0x10) || (opcode == 0x11) || (opcode == 0x12) || (opcode == 0x13) || (opcode == 0x1C)
 
 -- the instruction that a word stands for, if any
-unfoldable pub decoded : ℕ → Option Fields
-decoded word =
+unfoldable pub insn_of : ℕ → Option Fields
+insn_of word =
     if opcode_of word == 0 then pal_insn word
     else if opcode_of word == 0x1A then jump_insn word
     else if is_operate (opcode_of word) then operate_insn word

@@ -3,7 +3,7 @@
 ghost use Rattle.std.specs.Prelude.{◌≡◌, ◌≢◌, ◌*◌, ◌<◌, ◌^◌, ◌↔◌, IfSome, IsTrue, Some};
 ghost use Rattle.alpha_isa.specs.declared.insn.Fields.{Fields};
 ghost use Rattle.alpha_isa.specs.Lawful.{IsLawful, IsBranchDisplacement};
-ghost use Rattle.alpha_isa.specs.Words.{word_of, decoded, pal_insn, memory_insn, branch_insn, jump_insn, operate_insn, operand_at, branch_displacement, opcode_of, ra_of, rb_of, rc_of, is_operate, extends};
+ghost use Rattle.alpha_isa.specs.Words.{word_of, insn_of, pal_insn, memory_insn, branch_insn, jump_insn, operate_insn, operand_at, branch_displacement, opcode_of, ra_of, rb_of, rc_of, is_operate, extends};
 
 use crate::codes::{branch_op, jump_op, memory_op, operate_op};
 use crate::encode::{JUMP, encode};
@@ -13,7 +13,7 @@ use crate::insn::{Fields, Insn32, Operand, OperateOp};
 pub fn decode(word: u32) -> Option<Insn32>
     ensures found { IfSome result (λ i. word_of i ≡ word) }
     ensures only { (i : Fields) → IsLawful i → word_of i ≡ word → result ≡ Some i }
-    ensures exact { result ≡ decoded word }
+    ensures exact { result ≡ insn_of word }
 {
     let fields = fields_of(word)?;
     Some(Insn32 { fields })
@@ -27,9 +27,9 @@ pub fn decode_encoded(insn: &Insn32) -> Option<Insn32>
     decode(encode(insn))
 }
 
-#[tactic(auto, unfolding(crate::specs::Words::decoded))]
+#[tactic(auto, unfolding(crate::specs::Words::insn_of))]
 fn fields_of(word: u32) -> Option<Fields>
-    ensures { result ≡ decoded word }
+    ensures { result ≡ insn_of word }
 {
     match word >> 26 {
         0 => pal(word),

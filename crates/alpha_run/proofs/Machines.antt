@@ -1,10 +1,10 @@
 -- A turn of a machine is a run of one step.
 use Rattle.std.proofs.Common.{◌≡◌, ℕ, ◌+◌, ◌*◌, ◌^◌, ◌<◌, min, List, [], ◌∷◌, ◌++◌, length, map, drop, true, false, Option, Some, None, option_map, refl, sym, ap, ◌∙◌, subst, arith, append-nil}
 use Rattle.std.proofs.lemmas.List.{length-map}
-use Rattle.alpha_isa.specs.Words.{decoded}
+use Rattle.alpha_isa.specs.Words.{insn_of}
 use Rattle.alpha_isa.specs.Program.{Program, text_start, data_start, next_part}
 use Rattle.alpha_isa.specs.State.{State}
-use Rattle.alpha_isa.specs.Step.{Next, Goes, Over, advanced, step, exec}
+use Rattle.alpha_isa.specs.Step.{Next, Goes, Over, next_instruction, step, exec}
 use Rattle.alpha_isa.specs.Step as step
 use Rattle.bk_io.specs.Outside.{next_count, count_end}
 use Rattle.alpha_run.specs.declared.ending.Ending.{Ending}
@@ -25,9 +25,9 @@ use Rattle.alpha_run.proofs.Runs.{exec_one, exec_none, steps_one-goes, steps_one
 -- a machine that runs a program has its text, and its memory lies where the program's does
 pub processor_runs : (p : Program) (m : Inside) (v : Snapshot) → snapshot_of m ≡ v → IsSound m → snapshot.IsMachineOf p v → IsProcessorOf p m.processor
 processor_runs p m v is sound r =
-    let text : m.processor.text.items ≡ map decoded p.words = ap (λ u. u.text) is ∙ r.text in
+    let text : m.processor.text.items ≡ map insn_of p.words = ap (λ u. u.text) is ∙ r.text in
     let size : length m.processor.memory.data.items ≡ length p.bytes = ap (λ u. length u.data_bytes) is ∙ r.size in
-    let words : length m.processor.text.items ≡ length p.words = ap length text ∙ length-map p.words decoded in
+    let words : length m.processor.text.items ≡ length p.words = ap length text ∙ length-map p.words insn_of in
     let begins : m.processor.memory.data_start ≡ data_start p = sound.data_start ∙ ap (λ n. next_part (text_start + 4 * n)) words in
     record {
       text = text;
@@ -41,10 +41,10 @@ stops_over p s t (step.Done status) e = (refl, e)
 stops_over p s t (step.Trap code) e = (refl, e)
 stops_over p s t (step.Stuck pc) e = (refl, e)
 
-halted : (h : step.Halt) → Some h ≡ halt_of (ending_of h)
-halted (step.Done status) = refl
-halted (step.Trap code) = refl
-halted (step.Stuck pc) = refl
+behaviour_of_halt : (h : step.Halt) → Some h ≡ halt_of (ending_of h)
+behaviour_of_halt (step.Done status) = refl
+behaviour_of_halt (step.Trap code) = refl
+behaviour_of_halt (step.Stuck pc) = refl
 
 unasked : (h : step.Halt) → input_calls (ending_of h) 0 ≡ 0
 unasked (step.Done status) = refl
@@ -87,7 +87,7 @@ module _ (p : Program) (x y : List ℕ) (m : Inside) (v : Snapshot) (is : snapsh
       let hs : step.Halt = halt_is h in
       from_here e _ told told
       (subst (λ k. IsRun p 1 k s v (snapshot_of (record { processor = q; steps = st; written = m.written; halt = Some h })) told told) (sym is_e)
-      (ran_from p 1 (ending_of hs) s t v _ told told 1 (last_step hs) 0 [] (stops_over p s t hs (exec_one p s (Over hs t) goes)) (steps_one-over p s t hs goes) (takes_one-no p s (Over hs t) a goes) (sym (append-nil y)) (moved_is q x y st m.written (Some h) (last_step hs) 0 (ending_of hs) text (steps ∙ last_counted hs m.steps small) refl (halted hs)) left (counted_none told.made ∙ ap (λ n. option_map (count_plus n) told.made) (sym (unasked hs))) (taken_none told.taken)))
+      (ran_from p 1 (ending_of hs) s t v _ told told 1 (last_step hs) 0 [] (stops_over p s t hs (exec_one p s (Over hs t) goes)) (steps_one-over p s t hs goes) (takes_one-no p s (Over hs t) a goes) (sym (append-nil y)) (moved_is q x y st m.written (Some h) (last_step hs) 0 (ending_of hs) text (steps ∙ last_counted hs m.steps small) refl (behaviour_of_halt hs)) left (counted_none told.made ∙ ap (λ n. option_map (count_plus n) told.made) (sym (unasked hs))) (taken_none told.taken)))
 
   pub write_fault : (q : Processor) (told after : Traffic) → processor_state q x y ≡ processor_state m.processor x y → asks p 2 (processor_state m.processor x y) ≡ true → q.text.items ≡ m.processor.text.items → told.left ≡ Some x → after.left ≡ told.left → after.made ≡ told.made → after.taken ≡ told.taken → IsRun p 1 ending.WriteFault (snapshot_state v x y) v (snapshot_of (record { processor = q; steps = m.steps; written = m.written; halt = m.halt })) told after
   write_fault q told after same a text left left' made taken =
@@ -103,19 +103,19 @@ module _ (p : Program) (x y : List ℕ) (m : Inside) (v : Snapshot) (is : snapsh
       from_here ending.InputFault _ told after
       (ran_from p 1 ending.InputFault s t v _ told after 0 0 0 [] (omega arith, exec_none p s ∙ ap Goes (sym same), ap (asks p 3) same ∙ a) (steps_none p s) (takes_none p s) (sym (append-nil y)) (moved_is q x y m.steps m.written m.halt 0 0 ending.InputFault text refl refl still) (left' ∙ left) made (taken ∙ taken_none told.taken))
 
-  pub puts_turn : (q a : Processor) (byte st w : ℕ) (told after : Traffic) → step p (processor_state m.processor x y) ≡ advanced (processor_state m.processor x (y ++ byte ∷ [])) → asks p 3 (processor_state m.processor x y) ≡ false → processor_state q x (y ++ byte ∷ []) ≡ processor_state m.processor x (y ++ byte ∷ []) → Goes (processor_state a x (y ++ byte ∷ [])) ≡ advanced (processor_state q x (y ++ byte ∷ [])) → a.text.items ≡ m.processor.text.items → st ≡ next_count m.steps → w ≡ next_count m.written → told.left ≡ Some x → after.left ≡ told.left → after.made ≡ told.made → after.taken ≡ option_map (λ bytes. bytes ++ byte ∷ []) told.taken → IsRun p 1 ending.Budget (snapshot_state v x y) v (snapshot_of (record { processor = a; steps = st; written = w; halt = m.halt })) told after
+  pub puts_turn : (q a : Processor) (byte st w : ℕ) (told after : Traffic) → step p (processor_state m.processor x y) ≡ next_instruction (processor_state m.processor x (y ++ byte ∷ [])) → asks p 3 (processor_state m.processor x y) ≡ false → processor_state q x (y ++ byte ∷ []) ≡ processor_state m.processor x (y ++ byte ∷ []) → Goes (processor_state a x (y ++ byte ∷ [])) ≡ next_instruction (processor_state q x (y ++ byte ∷ [])) → a.text.items ≡ m.processor.text.items → st ≡ next_count m.steps → w ≡ next_count m.written → told.left ≡ Some x → after.left ≡ told.left → after.made ≡ told.made → after.taken ≡ option_map (λ bytes. bytes ++ byte ∷ []) told.taken → IsRun p 1 ending.Budget (snapshot_state v x y) v (snapshot_of (record { processor = a; steps = st; written = w; halt = m.halt })) told after
   puts_turn q a byte st w told after goes no_take same on text steps written left left' made taken =
       let s : State = processor_state m.processor x y in
       let z : List ℕ = y ++ byte ∷ [] in
       let t : State = processor_state a x z in
-      let e : step p s ≡ Goes t = goes ∙ ap advanced (sym same) ∙ sym on in
+      let e : step p s ≡ Goes t = goes ∙ ap next_instruction (sym same) ∙ sym on in
       from_here ending.Budget _ told after
       (ran_from p 1 ending.Budget s t v _ told after 1 1 0 (byte ∷ []) (refl, exec_one p s (Goes t) e) (steps_one-goes p s t e) (takes_one-no p s (Goes t) no_take e) refl (moved_is a x z st w m.halt 1 1 ending.Budget text steps written still) (left' ∙ left) (made ∙ counted_none told.made) taken)
 
-  pub takes_turn : (q a : Processor) (byte : Option ℕ) (st : ℕ) (told after : Traffic) → step p (processor_state m.processor x y) ≡ advanced (with_taken (processor_state m.processor x y)) → asks p 3 (processor_state m.processor x y) ≡ true → processor_state q x y ≡ processor_state m.processor x y → Goes (processor_state a (drop 1 x) y) ≡ advanced (with_taken (processor_state q x y)) → a.text.items ≡ m.processor.text.items → st ≡ next_count m.steps → told.left ≡ Some x → after.left ≡ option_map (drop 1) told.left → after.made ≡ option_map next_count told.made → after.taken ≡ told.taken → IsRun p 1 ending.Budget (snapshot_state v x y) v (snapshot_of (record { processor = a; steps = st; written = m.written; halt = m.halt })) told after
+  pub takes_turn : (q a : Processor) (byte : Option ℕ) (st : ℕ) (told after : Traffic) → step p (processor_state m.processor x y) ≡ next_instruction (with_taken (processor_state m.processor x y)) → asks p 3 (processor_state m.processor x y) ≡ true → processor_state q x y ≡ processor_state m.processor x y → Goes (processor_state a (drop 1 x) y) ≡ next_instruction (with_taken (processor_state q x y)) → a.text.items ≡ m.processor.text.items → st ≡ next_count m.steps → told.left ≡ Some x → after.left ≡ option_map (drop 1) told.left → after.made ≡ option_map next_count told.made → after.taken ≡ told.taken → IsRun p 1 ending.Budget (snapshot_state v x y) v (snapshot_of (record { processor = a; steps = st; written = m.written; halt = m.halt })) told after
   takes_turn q a byte st told after goes take same on text steps left left' made taken =
       let s : State = processor_state m.processor x y in
       let t : State = processor_state a (drop 1 x) y in
-      let e : step p s ≡ Goes t = goes ∙ ap (λ u. advanced (with_taken u)) (sym same) ∙ sym on in
+      let e : step p s ≡ Goes t = goes ∙ ap (λ u. next_instruction (with_taken u)) (sym same) ∙ sym on in
       from_here ending.Budget _ told after
       (ran_from p 1 ending.Budget s t v _ told after 1 1 1 [] (refl, exec_one p s (Goes t) e) (steps_one-goes p s t e) (takes_one-yes p s t take e) (sym (append-nil y)) (moved_is a (drop 1 x) y st m.written m.halt 1 0 ending.Budget text steps refl still) (left' ∙ ap (option_map (drop 1)) left) made (taken ∙ taken_none told.taken))

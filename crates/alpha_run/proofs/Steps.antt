@@ -6,10 +6,10 @@ use Rattle.std.specs.Int.RustNames.{FitsSigned}
 use Rattle.std.proofs.lemmas.Int.{to_z-of_z}
 use Rattle.alpha_isa.specs.declared.insn.MemoryOp.{MemoryOp}
 use Rattle.alpha_isa.specs.declared.insn.MemoryOp.TheVariants.{Lda, Ldah, Ldbu, Ldwu, Ldl, Ldq, Stb, Stw, Stl, Stq}
-use Rattle.alpha_isa.specs.Arithmetic.{word_at, word_from, sign_extended}
+use Rattle.alpha_isa.specs.Arithmetic.{word_at, word_from, sign_extension}
 use Rattle.alpha_isa.specs.Program.{Program}
 use Rattle.alpha_isa.specs.State.{State, register, bytes_at, with_bytes}
-use Rattle.alpha_isa.specs.Step.{address, loaded, stored, memory_step}
+use Rattle.alpha_isa.specs.Step.{address, load_into, go_on_stored, memory_step}
 use Rattle.alpha_run.specs.declared.memory.Memory.{Memory}
 use Rattle.alpha_run.specs.declared.processor.Processor.{Processor}
 use Rattle.alpha_run.specs.model.MemoryParts.{IsMemoryOf, HasBytesOf, stored_in}
@@ -32,7 +32,7 @@ high_is s rb disp word a fits e w = e ∙ ap (λ n. word_at (register s rb + n))
 
 -- ---- loads
 
-given_loaded : (value : List ℕ → ℕ) (ra : ℕ) (bytes : Option (List ℕ)) (s : State) (word : Option ℕ) → word ≡ option_map value bytes → next_with_word ra word s ≡ loaded value ra bytes s
+given_loaded : (value : List ℕ → ℕ) (ra : ℕ) (bytes : Option (List ℕ)) (s : State) (word : Option ℕ) → word ≡ option_map value bytes → next_with_word ra word s ≡ load_into value ra bytes s
 given_loaded value ra None s word e = rw e refl
 given_loaded value ra (Some bytes) s word e = rw e refl
 
@@ -48,26 +48,26 @@ ldbu_given p op ra rb disp s a word is e w = given_loaded (from_le_bytes w8) ra 
 pub ldwu_given : (p : Program) (op : MemoryOp) (ra rb : ℕ) (disp : ℤ) (s : State) (a : ℕ) (word : Option ℕ) → op ≡ Ldwu → a ≡ address s rb disp → word ≡ option_map (from_le_bytes w16) (bytes_at p s a 2) → next_with_word ra word s ≡ memory_step p op ra rb disp s
 ldwu_given p op ra rb disp s a word is e w = given_loaded (from_le_bytes w16) ra (bytes_at p s a 2) s word w ∙ rw (is, e) refl
 
-pub ldl_given : (p : Program) (op : MemoryOp) (ra rb : ℕ) (disp : ℤ) (s : State) (a : ℕ) (word : Option ℕ) → op ≡ Ldl → a ≡ address s rb disp → word ≡ option_map (λ bytes. sign_extended w32 (from_le_bytes w32 bytes)) (bytes_at p s a 4) → next_with_word ra word s ≡ memory_step p op ra rb disp s
-ldl_given p op ra rb disp s a word is e w = given_loaded (λ bytes. sign_extended w32 (from_le_bytes w32 bytes)) ra (bytes_at p s a 4) s word w ∙ rw (is, e) refl
+pub ldl_given : (p : Program) (op : MemoryOp) (ra rb : ℕ) (disp : ℤ) (s : State) (a : ℕ) (word : Option ℕ) → op ≡ Ldl → a ≡ address s rb disp → word ≡ option_map (λ bytes. sign_extension w32 (from_le_bytes w32 bytes)) (bytes_at p s a 4) → next_with_word ra word s ≡ memory_step p op ra rb disp s
+ldl_given p op ra rb disp s a word is e w = given_loaded (λ bytes. sign_extension w32 (from_le_bytes w32 bytes)) ra (bytes_at p s a 4) s word w ∙ rw (is, e) refl
 
 pub ldq_given : (p : Program) (op : MemoryOp) (ra rb : ℕ) (disp : ℤ) (s : State) (a : ℕ) (word : Option ℕ) → op ≡ Ldq → a ≡ address s rb disp → word ≡ option_map (from_le_bytes w64) (bytes_at p s a 8) → next_with_word ra word s ≡ memory_step p op ra rb disp s
 ldq_given p op ra rb disp s a word is e w = given_loaded (from_le_bytes w64) ra (bytes_at p s a 8) s word w ∙ rw (is, e) refl
 
 -- ---- stores
 
-pub advanced_stored : (done : Bool) (m : Processor) (memory : Memory) (x y : List ℕ) → OnFalse done (HasBytesOf m.memory memory) → advanced_if done (processor_state (record m { memory = memory }) x y) ≡ stored (stored_in (processor_state m x y) memory done) (processor_state m x y)
+pub advanced_stored : (done : Bool) (m : Processor) (memory : Memory) (x y : List ℕ) → OnFalse done (HasBytesOf m.memory memory) → advanced_if done (processor_state (record m { memory = memory }) x y) ≡ go_on_stored (stored_in (processor_state m x y) memory done) (processor_state m x y)
 advanced_stored true m memory x y h = refl
 advanced_stored false m memory x y h = rw (h.0, h.1) refl
 
-pub stb_stored : (p : Program) (op : MemoryOp) (ra rb : ℕ) (disp : ℤ) (s : State) (a word : ℕ) (o : Option State) → op ≡ Stb → a ≡ address s rb disp → word ≡ register s ra → o ≡ with_bytes p s a (to_le_bytes w8 word) → stored o s ≡ memory_step p op ra rb disp s
+pub stb_stored : (p : Program) (op : MemoryOp) (ra rb : ℕ) (disp : ℤ) (s : State) (a word : ℕ) (o : Option State) → op ≡ Stb → a ≡ address s rb disp → word ≡ register s ra → o ≡ with_bytes p s a (to_le_bytes w8 word) → go_on_stored o s ≡ memory_step p op ra rb disp s
 stb_stored p op ra rb disp s a word o is e w b = rw (is, b, w, e) refl
 
-pub stw_stored : (p : Program) (op : MemoryOp) (ra rb : ℕ) (disp : ℤ) (s : State) (a word : ℕ) (o : Option State) → op ≡ Stw → a ≡ address s rb disp → word ≡ register s ra → o ≡ with_bytes p s a (to_le_bytes w16 word) → stored o s ≡ memory_step p op ra rb disp s
+pub stw_stored : (p : Program) (op : MemoryOp) (ra rb : ℕ) (disp : ℤ) (s : State) (a word : ℕ) (o : Option State) → op ≡ Stw → a ≡ address s rb disp → word ≡ register s ra → o ≡ with_bytes p s a (to_le_bytes w16 word) → go_on_stored o s ≡ memory_step p op ra rb disp s
 stw_stored p op ra rb disp s a word o is e w b = rw (is, b, w, e) refl
 
-pub stl_stored : (p : Program) (op : MemoryOp) (ra rb : ℕ) (disp : ℤ) (s : State) (a word : ℕ) (o : Option State) → op ≡ Stl → a ≡ address s rb disp → word ≡ register s ra → o ≡ with_bytes p s a (to_le_bytes w32 word) → stored o s ≡ memory_step p op ra rb disp s
+pub stl_stored : (p : Program) (op : MemoryOp) (ra rb : ℕ) (disp : ℤ) (s : State) (a word : ℕ) (o : Option State) → op ≡ Stl → a ≡ address s rb disp → word ≡ register s ra → o ≡ with_bytes p s a (to_le_bytes w32 word) → go_on_stored o s ≡ memory_step p op ra rb disp s
 stl_stored p op ra rb disp s a word o is e w b = rw (is, b, w, e) refl
 
-pub stq_stored : (p : Program) (op : MemoryOp) (ra rb : ℕ) (disp : ℤ) (s : State) (a word : ℕ) (o : Option State) → op ≡ Stq → a ≡ address s rb disp → word ≡ register s ra → o ≡ with_bytes p s a (to_le_bytes w64 word) → stored o s ≡ memory_step p op ra rb disp s
+pub stq_stored : (p : Program) (op : MemoryOp) (ra rb : ℕ) (disp : ℤ) (s : State) (a word : ℕ) (o : Option State) → op ≡ Stq → a ≡ address s rb disp → word ≡ register s ra → o ≡ with_bytes p s a (to_le_bytes w64 word) → go_on_stored o s ≡ memory_step p op ra rb disp s
 stq_stored p op ra rb disp s a word o is e w b = rw (is, b, w, e) refl

@@ -2,7 +2,7 @@
 use Rattle.std.specs.Prelude.{ℕ, Bool, false, ◌&&◌, ◌==◌, Option, Some}
 use Rattle.alpha_isa.specs.declared.insn.Fields.{Fields}
 use Rattle.alpha_isa.specs.declared.insn.Fields.TheVariants as fields
-use Rattle.alpha_isa.specs.Program.{Program, fetched}
+use Rattle.alpha_isa.specs.Program.{Program, instruction_at}
 use Rattle.alpha_isa.specs.State.{State, register}
 
 -- the instruction calls a service
@@ -12,4 +12,4 @@ is_service _ = false
 
 -- the next step asks for this service: 2 puts a byte, 3 takes one
 abbrev pub asks : Program → ℕ → State → Bool
-asks p number s = is_service (fetched p s.pc) && (register s 0 == number)
+asks p number s = is_service (instruction_at p s.pc) && (register s 0 == number)

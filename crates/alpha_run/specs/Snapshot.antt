@@ -1,7 +1,7 @@
 -- What a contract sees of a machine.
 use Rattle.std.specs.Prelude.{◌≡◌, ℕ, ◌+◌, List, length, map, replicate, slice_set, Option, None}
 use Rattle.alpha_isa.specs.declared.insn.Fields.{Fields}
-use Rattle.alpha_isa.specs.Words.{decoded}
+use Rattle.alpha_isa.specs.Words.{insn_of}
 use Rattle.alpha_isa.specs.Program.{Program, word_address, stack_start}
 use Rattle.alpha_isa.specs.State.{State}
 use Rattle.alpha_isa.specs.Step.{Halt}
@@ -32,7 +32,7 @@ snapshot_state m input output = record {
 -- where a machine stands that was just loaded: as the definition's start
 abbrev pub first_snapshot : Program → ℕ → Snapshot
 first_snapshot p stack = record {
-  text = map decoded p.words;
+  text = map insn_of p.words;
   pc = word_address p.entry;
   registers = slice_set (replicate 32 0) 30 (stack_start p + stack);
   data_bytes = p.bytes;
@@ -44,5 +44,5 @@ first_snapshot p stack = record {
 
 -- the program that a machine runs: its text, and as many bytes of data
 pub record IsMachineOf (p : Program) (m : Snapshot) : Type 0 where
-  pub text : m.text ≡ map decoded p.words
+  pub text : m.text ≡ map insn_of p.words
   pub size : length m.data_bytes ≡ length p.bytes

@@ -2,7 +2,7 @@
 
 ghost use Rattle.std.specs.Prelude.{◌≡◌, ◌*◌, ◌^◌, ◌%◌, ◌/◌, ◌<◌, ◌==◌, if◌then◌else◌};
 ghost use Rattle.std.specs.Int.{w8, w16, w32, w64};
-ghost use Rattle.alpha_isa.specs.Arithmetic.{operated, sign_extended, signed, complement, kept_bytes, truth, Gives};
+ghost use Rattle.alpha_isa.specs.Arithmetic.{operation_effect, sign_extension, signed_value, complement, kept_bytes, truth, Gives};
 ghost use Rattle.alpha_run.specs.model.OperationResult.{operated_by, gives_checked};
 
 use alpha_isa::insn::OperateOp;
@@ -17,26 +17,26 @@ pub(crate) enum OperationResult {
 
 /// The low 32 bits as a signed number.
 fn long_of(word: u64) -> i32
-    ensures { result ≡ signed w32 word }
+    ensures { result ≡ signed_value w32 word }
 {
     ((word & 0xffff_ffff) as u32).cast_signed()
 }
 
 /// The low 32 bits with their sign in all bits above them.
 pub(crate) fn extend_long(word: u64) -> u64
-    ensures { result ≡ sign_extended w32 word }
+    ensures { result ≡ sign_extension w32 word }
 {
     i64::from(long_of(word)).cast_unsigned()
 }
 
 fn extend_byte(word: u64) -> u64
-    ensures { result ≡ sign_extended w8 word }
+    ensures { result ≡ sign_extension w8 word }
 {
     i64::from(((word & 0xff) as u8).cast_signed()).cast_unsigned()
 }
 
 fn extend_short(word: u64) -> u64
-    ensures { result ≡ sign_extended w16 word }
+    ensures { result ≡ sign_extension w16 word }
 {
     i64::from(((word & 0xffff) as u16).cast_signed()).cast_unsigned()
 }
@@ -102,14 +102,14 @@ fn high_product(a: u64, b: u64) -> u64
 
 /// A word shifted right with its sign.
 fn shift_signed(word: u64, count: u64) -> u64
-    ensures { operated OperateOp.Sra word count ≡ Gives result }
+    ensures { operation_effect OperateOp.Sra word count ≡ Gives result }
 {
     (word.cast_signed() >> (count & 63)).cast_unsigned()
 }
 
 /// What an operation does, on the words of its two operands.
 pub(crate) fn operate(op: OperateOp, a: u64, b: u64) -> OperationResult
-    ensures { operated_by result ≡ operated op a b }
+    ensures { operated_by result ≡ operation_effect op a b }
 {
     match op {
         OperateOp::Addl => OperationResult::Gives(extend_long(a.wrapping_add(b))),

@@ -1,7 +1,7 @@
 //! The machine: an image is loaded into it, and it runs.
 
 ghost use Rattle.std.specs.Prelude.{◌≡◌, ℕ, ◌+◌, ◌*◌, ◌/◌, ◌<◌, ◌^◌, List, map, length, replicate, [], IfOk, IfSome, IsTrue, Option, Some, None, unwrap_or};
-ghost use Rattle.alpha_isa.specs.Words.{decoded};
+ghost use Rattle.alpha_isa.specs.Words.{insn_of};
 ghost use Rattle.alpha_isa.specs.Program.{Program, next_part};
 ghost use Rattle.alpha_isa.specs.Behave.{IsStack, start};
 
@@ -51,7 +51,7 @@ fn part_from(address: u64) -> u64
 
 /// The instructions of the words, none where a word stands for none.
 fn decode_all(alloc: Global, words: &[u32]) -> Result<Vec<Option<Insn32>>, AllocError>
-    ensures { IfOk result (λ text. text.items ≡ map decoded words.now) }
+    ensures { IfOk result (λ text. text.items ≡ map insn_of words.now) }
 {
     words.iter().map(|word| decode(*word)).collect(alloc)
 }

@@ -5,7 +5,7 @@ ghost use Rattle.std.specs.Bool.{OnFalse};
 ghost use Rattle.alpha_isa.specs.Program.{Program};
 ghost use Rattle.alpha_isa.specs.State.{State, lies_in, part_of, with_part};
 ghost use Rattle.alpha_isa.specs.State as state;
-ghost use Rattle.alpha_isa.specs.Arithmetic.{sign_extended};
+ghost use Rattle.alpha_isa.specs.Arithmetic.{sign_extension};
 ghost use Rattle.std.specs.Int.{w8, w16, w32, w64, from_le_bytes, to_le_bytes};
 
 use crate::arithmetic::extend_long;
@@ -111,7 +111,7 @@ impl Memory {
     }
 
     pub(crate) fn read_long(&self, address: u64) -> Option<u64>
-        ensures { (p : Program) (s : State) → IsMemoryOf p s self.now → result ≡ option_map (λ bytes. sign_extended w32 (from_le_bytes w32 bytes)) (state.bytes_at p s address 4) }
+        ensures { (p : Program) (s : State) → IsMemoryOf p s self.now → result ≡ option_map (λ bytes. sign_extension w32 (from_le_bytes w32 bytes)) (state.bytes_at p s address 4) }
     {
         let bytes = self.bytes_at::<4>(address)?;
         Some(extend_long(u64::from(u32::from_le_bytes(bytes))))

@@ -2,7 +2,7 @@
 
 ghost use Rattle.std.specs.Prelude.{◌≡◌, ℕ, ◌+◌, ◌*◌, ◌<◌, ◌≤◌, ◌^◌, pos, ◌*ℤ◌, List, length, Option, Some, None, IfSome, slice_get, drop, IsSome, if◌then◌else◌};
 ghost use Rattle.std.specs.Bool.{OnTrue};
-ghost use Rattle.alpha_isa.specs.Program.{Program, most_words, fetched};
+ghost use Rattle.alpha_isa.specs.Program.{Program, most_words, instruction_at};
 ghost use Rattle.alpha_isa.specs.Arithmetic.{word_at, word_from};
 ghost use Rattle.alpha_isa.specs.Step.{is_taken};
 ghost use Rattle.alpha_run.specs.model.TakenWord.{taken_word};
@@ -95,15 +95,15 @@ fn links(op: BranchOp) -> bool
 
 impl Processor {
     ghost use Rattle.alpha_isa.specs.State.{register, operand, with_register};
-    ghost use Rattle.alpha_isa.specs.Step.{Next, Goes, stuck, advanced, memory_step, branch_step, jump_step, operate_step, address};
-    ghost use Rattle.alpha_isa.specs.Arithmetic.{operated};
+    ghost use Rattle.alpha_isa.specs.Step.{Next, Goes, stuck, next_instruction, memory_step, branch_step, jump_step, operate_step, address};
+    ghost use Rattle.alpha_isa.specs.Arithmetic.{operation_effect};
     ghost use Rattle.alpha_run.specs.model.Turns.{Calls, Steps, waits, with_taken};
     ghost use Rattle.alpha_run.specs.model.ProcessorState.{processor_state, IsProcessorOf, IsShort, KeepsText, next_if_done, next_if_fits, next_with_word, advanced_if};
 
     /// The instruction at the place where the processor stands.
     fn fetch(&self) -> Option<Fields>
         requires { IsShort self.now }
-        ensures value { (p : Program) → IsProcessorOf p self.now → result ≡ fetched p self.now.pc }
+        ensures value { (p : Program) → IsProcessorOf p self.now → result ≡ instruction_at p self.now.pc }
         ensures lawful { IfSome result (λ i. IsLawful i) }
         ensures within { IsSome result → self.now.pc < 2 ^ 32 }
     {
@@ -131,7 +131,7 @@ impl Processor {
     /// Goes on with the next instruction.
     pub(crate) fn advance(&mut self)
         requires { self.old.pc < 2 ^ 32 }
-        ensures step { (x y : List ℕ) → Goes (processor_state self.new x y) ≡ advanced (processor_state self.old x y) }
+        ensures step { (x y : List ℕ) → Goes (processor_state self.new x y) ≡ next_instruction (processor_state self.old x y) }
         ensures kept { KeepsText self.old self.new }
     {
         self.pc += 4;
@@ -141,7 +141,7 @@ impl Processor {
     fn give(&mut self, ra: u8, word: u64)
         requires register { ra < 32 }
         requires pc { self.old.pc < 2 ^ 32 }
-        ensures step { (x y : List ℕ) → Goes (processor_state self.new x y) ≡ advanced (with_register ra word (processor_state self.old x y)) }
+        ensures step { (x y : List ℕ) → Goes (processor_state self.new x y) ≡ next_instruction (with_register ra word (processor_state self.old x y)) }
         ensures kept { KeepsText self.old self.new }
     {
         self.registers.set(ra, word);
@@ -275,7 +275,7 @@ impl Processor {
         requires rb { IsOperand rb }
         requires rc { rc < 32 }
         requires pc { self.old.pc < 2 ^ 32 }
-        ensures step { (x y : List ℕ) → next_if_fits result (processor_state self.new x y) ≡ operate_step (operated op (register (processor_state self.old x y) ra) (operand (processor_state self.old x y) rb)) rc (processor_state self.old x y) }
+        ensures step { (x y : List ℕ) → next_if_fits result (processor_state self.new x y) ≡ operate_step (operation_effect op (register (processor_state self.old x y) ra) (operand (processor_state self.old x y) rb)) rc (processor_state self.old x y) }
         ensures kept { KeepsText self.old self.new }
     {
         match operate(op, self.registers.get(ra), self.operand(rb)) {
@@ -311,7 +311,7 @@ impl Processor {
     /// Goes on with a byte that was taken, or with -1 at the end of the input.
     pub(crate) fn took(&mut self, byte: Option<u8>)
         requires { self.old.pc < 2 ^ 32 }
-        ensures step { (x y : List ℕ) → byte ≡ slice_get x 0 → Goes (processor_state self.new (drop 1 x) y) ≡ advanced (with_taken (processor_state self.old x y)) }
+        ensures step { (x y : List ℕ) → byte ≡ slice_get x 0 → Goes (processor_state self.new (drop 1 x) y) ≡ next_instruction (with_taken (processor_state self.old x y)) }
         ensures kept { KeepsText self.old self.new }
     {
         self.give(0, word_taken(byte));

@@ -7,7 +7,7 @@ use Rattle.std.proofs.lemmas.Bool.{ltb-false, eqb-true}
 use Rattle.std.proofs.Math.Seq.{take-add}
 use Rattle.std.specs.Prelude.{flat_map}
 use Rattle.alpha_isa.specs.Program.{Program, most_words, most_bytes}
-use Rattle.alpha_isa.specs.ImageFormat.{mark, number, spelled, IsImage}
+use Rattle.alpha_isa.specs.ImageFormat.{mark, number, image_spelling, IsImage}
 use Rattle.std.specs.Option.{option_eq}
 use Rattle.msc_cli.specs.ImageFault.{number_at, version_of, word_count, byte_count, entry_of, due_length, first_of, differs_at, field_fault, mark_fault, version_fault, words_fault, bytes_fault, entry_fault, length_fault, header_fault, image_fault}
 
@@ -123,8 +123,8 @@ header_is bytes h fields =
 
 -- the image whose words and bytes stand behind such fields
 pub image_is : (bytes : List ℕ) (p : Program) → AreBytes bytes → header_fault bytes ≡ None → length bytes ≡ due_length bytes
-    → flat_map number p.words ≡ take (4 * word_count bytes) (drop 20 bytes) → length p.words ≡ word_count bytes → p.bytes ≡ drop (20 + 4 * word_count bytes) bytes → p.entry ≡ entry_of bytes → bytes ≡ spelled p
-unfolding spelled
+    → flat_map number p.words ≡ take (4 * word_count bytes) (drop 20 bytes) → length p.words ≡ word_count bytes → p.bytes ≡ drop (20 + 4 * word_count bytes) bytes → p.entry ≡ entry_of bytes → bytes ≡ image_spelling p
+unfolding image_spelling
 image_is bytes p h e due words count bytes_are entry =
     let data_count : length p.bytes ≡ byte_count bytes = ap length bytes_are ∙ simp length-drop (omega arith) in
     let behind : drop 20 bytes ≡ flat_map number p.words ++ p.bytes =

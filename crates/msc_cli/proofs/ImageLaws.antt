@@ -5,7 +5,7 @@ use Rattle.std.proofs.lemmas.Bool.{le-ltb, lt-ltb, le-leb}
 use Rattle.std.specs.Prelude.{flat_map}
 use Rattle.std.specs.Int.{w32, from_le_bytes}
 use Rattle.alpha_isa.specs.Program.{Program, IsLawful}
-use Rattle.alpha_isa.specs.ImageFormat.{number, spelled, IsImage}
+use Rattle.alpha_isa.specs.ImageFormat.{number, image_spelling, IsImage}
 use Rattle.msc_cli.specs.ImageFault.{version_of, word_count, byte_count, entry_of, due_length, first_of, field_fault, mark_fault, version_fault, words_fault, bytes_fault, entry_fault, length_fault, header_fault, image_fault}
 use Rattle.msc_cli.specs.ReadImage.{AreWords}
 
@@ -18,13 +18,13 @@ length-numbers [] = refl
 length-numbers (w ∷ ws) = ap (λ n. suc (suc (suc (suc n)))) (length-numbers ws) ∙ omega arith
 
 -- the length of the whole
-pub length-spelled : (p : Program) → length (spelled p) ≡ 20 + 4 * length p.words + length p.bytes
-unfolding spelled
+pub length-spelled : (p : Program) → length (image_spelling p) ≡ 20 + 4 * length p.words + length p.bytes
+unfolding image_spelling
 length-spelled p = omega (arith, length-append (flat_map number p.words) p.bytes, length-numbers p.words)
 
 -- the fields of an image's bytes
-field_of : (p : Program) → IsLawful p → AreWords p.words → (version_of (spelled p) ≡ 1) × (word_count (spelled p) ≡ length p.words) × (byte_count (spelled p) ≡ length p.bytes) × (entry_of (spelled p) ≡ p.entry)
-unfolding spelled
+field_of : (p : Program) → IsLawful p → AreWords p.words → (version_of (image_spelling p) ≡ 1) × (word_count (image_spelling p) ≡ length p.words) × (byte_count (image_spelling p) ≡ length p.bytes) × (entry_of (image_spelling p) ≡ p.entry)
+unfolding image_spelling
 field_of p lawful words = (
   again 1 (omega arith),
   again (length p.words) (omega (arith, lawful.words)),
@@ -37,8 +37,8 @@ no_field_fault bytes at is_right whole right =
     let long : nat_lt (length bytes) (at + 4) ≡ false = le-ltb (length bytes) (at + 4) whole in
     rw (long, right) refl
 
-no_mark_fault : (p : Program) → mark_fault (spelled p) ≡ None
-unfolding spelled
+no_mark_fault : (p : Program) → mark_fault (image_spelling p) ≡ None
+unfolding image_spelling
 no_mark_fault p = refl
 
 both_none : (a b : Option ℕ) → a ≡ None → b ≡ None → first_of a b ≡ None
@@ -56,12 +56,12 @@ within a n m low high e =
     let most : nat_le a m ≡ true = le-leb a m (omega arith) in
     rw (least, most) refl
 
-no_spelled_fault : (p : Program) → IsLawful p → AreWords p.words → image_fault (spelled p) ≡ None
+no_spelled_fault : (p : Program) → IsLawful p → AreWords p.words → image_fault (image_spelling p) ≡ None
 unfolding image_fault header_fault
 no_spelled_fault p lawful words =
     let size = length-spelled p in
     let fields = field_of p lawful words in
-    let bytes : List ℕ = spelled p in
+    let bytes : List ℕ = image_spelling p in
     let behind_words : Option ℕ = first_of (bytes_fault bytes) (entry_fault bytes) in
     let behind_version : Option ℕ = first_of (words_fault bytes) behind_words in
     both_none (header_fault bytes) (length_fault bytes)
@@ -89,14 +89,14 @@ words_once (w ∷ ws) (v ∷ vs) r s a b n e =
 behind_header : Program → List ℕ
 behind_header p = flat_map number p.words ++ p.bytes
 
-drop-spelled : (p : Program) → drop 20 (spelled p) ≡ behind_header p
-unfolding spelled behind_header
+drop-spelled : (p : Program) → drop 20 (image_spelling p) ≡ behind_header p
+unfolding image_spelling behind_header
 drop-spelled p = refl
 
 pub one : (bytes : List ℕ) (p q : Program) → AreWords p.words → AreWords q.words → IsImage bytes p → IsImage bytes q → p ≡ q
 unfolding behind_header
 one bytes p q ws vs is js =
-    let same : spelled p ≡ spelled q = sym is.bytes_are ∙ js.bytes_are in
+    let same : image_spelling p ≡ image_spelling q = sym is.bytes_are ∙ js.bytes_are in
     let f = field_of p is.lawful ws in
     let g = field_of q js.lawful vs in
     let counts : length p.words ≡ length q.words = sym f.1 ∙ ap word_count same ∙ g.1 in

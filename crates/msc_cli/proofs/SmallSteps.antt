@@ -6,7 +6,7 @@ use Rattle.alpha_isa.specs.declared.insn.Fields.{Fields}
 use Rattle.alpha_isa.specs.declared.insn.Fields.TheVariants.{Pal}
 use Rattle.alpha_isa.specs.Lawful.{IsLawful}
 use Rattle.alpha_isa.specs.Words.{word_of}
-use Rattle.alpha_isa.specs.Program.{Program, word_address, fetched}
+use Rattle.alpha_isa.specs.Program.{Program, word_address, instruction_at}
 use Rattle.alpha_isa.specs.State.{State, register}
 use Rattle.alpha_isa.specs.Step.{Goes, step, exec, go_on, fetched_step, service_step, insn_step}
 use Rattle.alpha_isa.proofs.Words.{word_decoded}
@@ -26,11 +26,11 @@ drop-suc (y ∷ ys) zero x rest e = cc
 drop-suc (y ∷ ys) (suc i) x rest e = drop-suc ys i x rest e
 
 -- the instruction at an address
-fetched_is : (p : Program) (i pc : ℕ) (f : Fields) (rest : List ℕ) → drop i p.words ≡ word_of f ∷ rest → IsLawful f → pc ≡ word_address i → fetched p pc ≡ Some f
+fetched_is : (p : Program) (i pc : ℕ) (f : Fields) (rest : List ℕ) → drop i p.words ≡ word_of f ∷ rest → IsLawful f → pc ≡ word_address i → instruction_at p pc ≡ Some f
 fetched_is p i pc f rest here lawful e =
     let past : nat_lt (word_address i) 65536 ≡ false = le-ltb (word_address i) 65536 (omega arith) in
     let number : (word_address i - 65536) / 4 ≡ i = omega arith in
-    subst (λ at. fetched p at ≡ Some f) (sym e)
+    subst (λ at. instruction_at p at ≡ Some f) (sym e)
     (rw (past, number, slice_get-drop p.words i (word_of f) rest here) (word_decoded f lawful))
 
 -- a step does the instruction that stands there

@@ -5,7 +5,7 @@ use Rattle.c_mean.specs.Behaviour.{Done}
 use Rattle.c_mean.specs.Small.{SmallUnit, IsSmall, behave_c, meaning}
 use Rattle.alpha_isa.specs.Program.{Program, IsLawful}
 use Rattle.alpha_isa.specs.Behave.{IsStack}
-use Rattle.alpha_isa.specs.ImageFormat.{spelled}
+use Rattle.alpha_isa.specs.ImageFormat.{image_spelling}
 use Rattle.msc_cli.specs.declared.outcome.Outcome.{Outcome}
 use Rattle.msc_cli.specs.declared.outcome.Outcome.TheVariants.{Built, FileFault, WriteFault, Refused, NoMemory}
 use Rattle.msc_cli.specs.declared.outcome.SourceFault.TheVariants.{Form}
@@ -36,8 +36,8 @@ IsFront limit file text = ((text ≡ file) × (length file < limit)) ⊎ ((text 
 
 -- what is answered where an image is written, and what the output took
 abbrev pub Writes : Program → Outcome → Option (List ℕ) → Option (List ℕ) → Type 0
-Writes p Built old new = IsLawful p × (new ≡ appended (spelled p) old)
-Writes p WriteFault old new = IsLawful p × TookFront (spelled p) old new
+Writes p Built old new = IsLawful p × (new ≡ appended (image_spelling p) old)
+Writes p WriteFault old new = IsLawful p × TookFront (image_spelling p) old new
 Writes p NoMemory old new = new ≡ old
 Writes p _ old new = ⊥
 

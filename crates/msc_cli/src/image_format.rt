@@ -2,7 +2,7 @@
 
 ghost use Rattle.std.specs.Prelude.{◌≡◌, ◌++◌, flat_map, IfOk, OnOk};
 ghost use Rattle.alpha_isa.specs.Program.{IsLawful};
-ghost use Rattle.alpha_isa.specs.ImageFormat.{number, spelled};
+ghost use Rattle.alpha_isa.specs.ImageFormat.{number, image_spelling};
 
 use alpha_isa::image::Image;
 use std::alloc::{AllocError, Global};
@@ -15,9 +15,9 @@ pub(crate) const VERSION: u32 = 1;
 
 /// The bytes of an image: the mark, the version, how many words and bytes there are, the entry, the words,
 /// and the bytes. Each number has four bytes, the lowest first.
-#[tactic(auto, unfolding(alpha_isa::specs::ImageFormat::spelled))]
+#[tactic(auto, unfolding(alpha_isa::specs::ImageFormat::image_spelling))]
 pub fn image_bytes(alloc: Global, image: &Image) -> Result<Vec<u8>, AllocError>
-    ensures bytes { IfOk result (λ bytes. bytes.items ≡ spelled image.now) }
+    ensures bytes { IfOk result (λ bytes. bytes.items ≡ image_spelling image.now) }
     ensures lawful { OnOk result (IsLawful image.now) }
 {
     let mut bytes = Vec::from_slice(alloc, MARK)?;

@@ -1,9 +1,9 @@
 -- Where a processor stands, as the state of a step, and the program that it runs.
 use Rattle.std.specs.Prelude.{◌≡◌, ℕ, ◌≤◌, List, length, map, Bool, true, false, Option, Some, None}
-use Rattle.alpha_isa.specs.Words.{decoded}
+use Rattle.alpha_isa.specs.Words.{insn_of}
 use Rattle.alpha_isa.specs.Program.{Program, most_words, data_start, stack_start}
 use Rattle.alpha_isa.specs.State.{State, with_register}
-use Rattle.alpha_isa.specs.Step.{Next, Goes, Over, Trap, stuck, advanced}
+use Rattle.alpha_isa.specs.Step.{Next, Goes, Over, Trap, stuck, next_instruction}
 use Rattle.alpha_run.specs.model.MemoryParts.{IsLaidAs}
 use Rattle.alpha_run.specs.declared.processor.Processor.{Processor}
 
@@ -20,7 +20,7 @@ processor_state m input output = record {
 
 -- the text is that of a program, and the memory lies where the program's does
 pub record IsProcessorOf (p : Program) (m : Processor) : Type 0 where
-  pub text : m.text.items ≡ map decoded p.words
+  pub text : m.text.items ≡ map insn_of p.words
   pub data_start : m.memory.data_start ≡ data_start p
   pub stack_start : m.memory.stack_start ≡ stack_start p
 
@@ -45,10 +45,10 @@ next_if_fits false s = Over (Trap 3) s
 
 -- a register gets a word that was loaded, if it was
 abbrev pub next_with_word : ℕ → Option ℕ → State → Next
-next_with_word ra (Some word) s = advanced (with_register ra word s)
+next_with_word ra (Some word) s = next_instruction (with_register ra word s)
 next_with_word ra None s = stuck s
 
 -- the machine goes on after a store that was done
 abbrev pub advanced_if : Bool → State → Next
-advanced_if true s = advanced s
+advanced_if true s = next_instruction s
 advanced_if false s = stuck s
