@@ -8,6 +8,7 @@ pub mod RulesExpr
 pub mod RulesDecl
 pub mod ReadExpr
 pub mod Says
+pub mod Instances
 pub mod SoundPlain
 pub mod SoundExpr
 pub mod ReadSpecifiers
@@ -20,3 +21,4 @@ pub mod ReadUnits
 pub mod SoundUnits
 pub mod Few
 pub mod FewUnits
+pub mod Exact

@@ -21,7 +21,7 @@ use Rattle.c_grammar.specs.Levels.{level_of, binding_level, operand_level, resul
 use Rattle.c_grammar.specs.Tokens.{TypeNames, is_type, place, is_mark, is_name, is_text, begins_type}
 use Rattle.c_grammar.specs.Types.{takes_name, may_be_nameless, nameless, with_shape, with_shapes, parameter_of, without_void, comma_of}
 use Rattle.c_grammar.specs.Grammar.{AreConsts, IsPlain, AreTexts, IsExpr, IsWhole, AreAssignments, AreArguments, IsTypeName, IsDeclarator, AreParameters, AreSomeParameters, IsParameter}
-use Rattle.c_grammar.specs.Parser.{IsEnd, Parser, and_then, pure, consts}
+use Rattle.c_grammar.specs.Parser.{Parser, and_then, pure, consts}
 use Rattle.c_grammar.specs.ParseExpr.{plain, texts_from, list_from, whole, type_name, parameter, arguments, parameters, behind_name, cast_behind, brackets_behind, bracket_operand, size_of_type, size_of_value, size_of, operand_by, operand, member, step_by, climb, tight, length_of, suffixes, group_behind, core_bracket, core, pointer_declarator, shaping, expr, declarator}
 use Rattle.std.specs.Prelude.{◌≢◌}
 use Rattle.std.proofs.lemmas.Bool.{ltb-true, ltb-false}
@@ -30,7 +30,8 @@ use Rattle.c_grammar.proofs.Facts.{levels}
 use Rattle.c_grammar.proofs.Reach.{place-append}
 use Rattle.c_grammar.proofs.First.{first, first_listed}
 use Rattle.c_grammar.proofs.ReadPlain.{plain_begins}
-use Rattle.c_grammar.proofs.Says.{Says, ok_says, err_says, refused_says, bind_says, bind_says_at, if_says, token_says, done_says, expect_says, consts_says, listed_says, weaker}
+use Rattle.c_grammar.proofs.Says.{Instance, Viable, Says, lexeme_of, ok_says, err_says, refused_says, bind_says, bind_says_at, if_says, token_says, done_says, expect_says, consts_says, listed_says, weaker}
+use Rattle.c_grammar.proofs.Instances.{number, some_number, whole_number, some_declarator}
 use Rattle.c_grammar.proofs.SoundPlain.{plain_says}
 
 -- the levels that are asked for
@@ -166,6 +167,26 @@ module _ (s : TypeNames) where
   weaken (IsExpr.conditional a t b r c x v z low h tk g rk o) j le = IsExpr.conditional a t b r c x v z (omega arith) h tk g rk o
   weaken (IsExpr.assignment a t b op x z low h kind g) j le = IsExpr.assignment a t b op x z (omega arith) h kind g
 
+  level_cap : {m : ℕ} {a : List Lexeme} {x : Expr} → IsExpr s m a x → m ≤ 19
+  level_cap (IsExpr.name t low kind listed) = low
+  level_cap (IsExpr.number t low kind) = low
+  level_cap (IsExpr.character t low kind) = low
+  level_cap (IsExpr.texts a xs low h) = low
+  level_cap (IsExpr.brackets l a r x low lk h rk) = low
+  level_cap (IsExpr.call t l a r xs low kind listed lk h rk) = low
+  level_cap (IsExpr.index a l b r x z low h lk g rk) = omega arith
+  level_cap (IsExpr.field a t n x low h tk nk) = omega arith
+  level_cap (IsExpr.arrow a t n x low h tk nk) = omega arith
+  level_cap (IsExpr.postfix a t op x low h kind) = omega arith
+  level_cap (IsExpr.prefix_step t a op x low kind h) = omega arith
+  level_cap (IsExpr.unary t a op x low kind h) = omega arith
+  level_cap (IsExpr.size_of t a x low kind h) = omega arith
+  level_cap (IsExpr.size_of_type t l a r ty low kind lk h rk) = omega arith
+  level_cap (IsExpr.cast l a r b ty x low lk h rk g) = omega arith
+  level_cap (IsExpr.binary a t b op x z low kind h g) = let l = levels op in omega arith
+  level_cap (IsExpr.conditional a t b r c x v z low h tk g rk o) = omega arith
+  level_cap (IsExpr.assignment a t b op x z low h kind g) = omega arith
+
   loosen : {naming : Naming} {m : ℕ} {a : List Lexeme} {d : Declarator} → IsDeclarator s naming m a d → IsDeclarator s naming 0 a d
   loosen (IsDeclarator.star t a b d low kind c h) = IsDeclarator.star t a b d (omega arith) kind c h
   loosen (IsDeclarator.own_name t kind takes) = IsDeclarator.own_name t kind takes
@@ -184,6 +205,7 @@ module _ (s : TypeNames) where
     unfolding whole
     whole_says ts = bind_says_at (list_from (rec 2) (length ts) [] ts) _ ts (λ a xs. AreAssignments s a xs) _ (listed_of (length ts) ts) (λ a xs r e h.
         done_says (comma_of (place ts) xs) a r (λ a x. IsWhole s a x) (subst (λ at. IsWhole s a (comma_of at xs)) (sym (ap place e ∙ place-append a r (first_listed s h).0)) (IsWhole.commas a xs h)))
+        (λ a xs h. ([], comma_of (place a) xs, subst (λ c. IsWhole s c (comma_of (place a) xs)) (sym (append-nil a)) (IsWhole.commas a xs h)))
 
     arguments_says : (ts : List Lexeme) → Says (arguments s rec dec ts) ts (λ a xs. (b : List Lexeme) × (r : Lexeme) × (a ≡ b ++ r ∷ []) × AreArguments s b xs × (r.kind ≡ k.Mark p.RightParen))
     unfolding arguments
@@ -197,12 +219,14 @@ module _ (s : TypeNames) where
     type_says ts = bind_says_at (plain s ts) _ ts (λ a ty. IsPlain s a ty) _ (plain_says s ts) (λ a ty r e h.
         bind_says (dec nm.Refused r) _ r (λ b d. IsDeclarator s nm.Refused 0 b d) _ (sound_d nm.Refused r) (λ b d u g.
         done_says (record { at = place ts; ty = with_shapes d.shapes ty }) b u (λ c z. IsTypeName s (a ++ c) z) (subst (λ at. IsTypeName s (a ++ b) (record { at = at; ty = with_shapes d.shapes ty })) (sym (ap place e ∙ place-append a r (plain_begins s h).0)) (IsTypeName.type_name a b ty d h g))))
+        (λ a ty h. ([], record { at = place a; ty = ty }, IsTypeName.type_name a [] ty nameless h (IsDeclarator.no_name refl)))
 
     parameter_says : (ts : List Lexeme) → Says (parameter s rec dec ts) ts (λ a x. IsParameter s a x)
     unfolding parameter
     parameter_says ts = bind_says_at (plain s ts) _ ts (λ a ty. IsPlain s a ty) _ (plain_says s ts) (λ a ty r e h.
         bind_says (dec nm.Optional r) _ r (λ b d. IsDeclarator s nm.Optional 0 b d) _ (sound_d nm.Optional r) (λ b d u g.
         done_says (parameter_of (place ts) ty d) b u (λ c z. IsParameter s (a ++ c) z) (subst (λ at. IsParameter s (a ++ b) (parameter_of at ty d)) (sym (ap place e ∙ place-append a r (plain_begins s h).0)) (IsParameter.parameter a b ty d h g))))
+        (λ a ty h. ([], parameter_of (place a) ty nameless, IsParameter.parameter a [] ty nameless h (IsDeclarator.no_name refl)))
 
     parameters_of : (j : ℕ) (ts : List Lexeme) → Says (list_from (parameter s rec dec) j [] ts) ts (λ a xs. AreSomeParameters s a xs)
     parameters_of j ts = weaker (list_from (parameter s rec dec) j [] ts) ts _ _ (λ a ys q. subst (λ z. AreSomeParameters s a z) (sym q.1) q.2)
@@ -240,9 +264,13 @@ module _ (s : TypeNames) where
     brackets_says least l ts cap lk = bind_says (whole s rec dec ts) _ ts (λ a x. IsWhole s a x) _ (whole_says ts) (λ a x u h. expect_says p.RightParen _ u _ (λ r v rk.
         ok_says (x, 19) v _ (record { wanted = omega arith; is = IsExpr.brackets {m = 19} l a r x (omega arith) lk h rk })))
 
+    some_brackets : (least : ℕ) (l : Lexeme) → least ≤ 17 → l.kind ≡ k.Mark p.LeftParen → Instance (λ b q. IsOperand s least (l ∷ b) q)
+    some_brackets least l cap lk = (number ∷ lexeme_of (k.Mark p.RightParen) ∷ [], (e.Number 0 [], 19), record { wanted = omega arith;
+      is = IsExpr.brackets {m = 19} l (number ∷ []) (lexeme_of (k.Mark p.RightParen)) (e.Number 0 []) (omega arith) lk (whole_number s) refl })
+
     bracketed_says : (least : ℕ) (l : Lexeme) (ts : List Lexeme) → least ≤ 17 → l.kind ≡ k.Mark p.LeftParen → Says (bracket_operand s rec dec least l.at ts) ts (λ b q. IsOperand s least (l ∷ b) q)
     bracketed_says least l ts cap lk = if_says (begins_type s ts) _ _ ts _
-        (λ yes. if_says (ltb least 17) (cast_behind s rec dec l.at ts) (Err ts) ts _ (λ low. let h = ltb-true least 17 low in cast_says least l ts (omega arith) lk) (λ high. refused_says ts _))
+        (λ yes. if_says (ltb least 17) (cast_behind s rec dec l.at ts) (Err ts) ts _ (λ low. let h = ltb-true least 17 low in cast_says least l ts (omega arith) lk) (λ high. refused_says ts _ (some_brackets least l cap lk)))
         (λ other. brackets_says least l ts cap lk)
 
     size_value_says : (least : ℕ) (t : Lexeme) (ts : List Lexeme) → least ≤ 17 → t.kind ≡ k.Word w.Sizeof → Says (size_of_value s rec dec t.at ts) ts (λ b q. IsOperand s least (t ∷ b) q)
@@ -278,13 +306,16 @@ module _ (s : TypeNames) where
         (λ a xs u q. let P : List Lexeme → Type 0 = λ a. Says (Ok ((e.Text t.at xs, 19), u)) u (λ c z. IsOperand s least (a ++ c) z) in
         subst P (sym q.1) (done_says (e.Text t.at xs, 19) (t ∷ q.0) u (IsOperand s least) (record { wanted = omega arith; is = IsExpr.texts {m = 19} (t ∷ q.0) xs (omega arith) q.2 })))
 
+    some_operand : (least : ℕ) → least ≤ 17 → Instance (IsOperand s least)
+    some_operand least cap = (number ∷ [], (e.Number 0 [], 19), record { wanted = omega arith; is = some_number s 19 (omega arith) })
+
     operand_says : (kind : TokenKind) (least : ℕ) (t : Lexeme) (ts : List Lexeme) → least ≤ 17 → t.kind ≡ kind → Says (operand_by s rec dec least (prefix_of kind) (t ∷ ts)) (t ∷ ts) (IsOperand s least)
-    operand_says k.Name least t ts cap kind = if_says (is_type s t) (Err (t ∷ ts)) _ (t ∷ ts) _ (λ yes. refused_says (t ∷ ts) _) (λ other. token_says _ t ts _ (named_says least t ts cap kind other))
+    operand_says k.Name least t ts cap kind = if_says (is_type s t) (Err (t ∷ ts)) _ (t ∷ ts) _ (λ yes. refused_says (t ∷ ts) _ (some_operand least cap)) (λ other. token_says _ t ts _ (named_says least t ts cap kind other))
     operand_says k.Number least t ts cap kind = token_says (Ok ((e.Number t.at t.spelling, 19), ts)) t ts _ (ok_says (e.Number t.at t.spelling, 19) ts _ (record { wanted = omega arith; is = IsExpr.number {m = 19} t (omega arith) kind }))
     operand_says k.Char least t ts cap kind = token_says (Ok ((e.Character t.at t.spelling, 19), ts)) t ts _ (ok_says (e.Character t.at t.spelling, 19) ts _ (record { wanted = omega arith; is = IsExpr.character {m = 19} t (omega arith) kind }))
     operand_says k.Text least t ts cap kind = texts_operand least t ts cap kind
     operand_says (k.Word w.Sizeof) least t ts cap kind = token_says _ t ts _ (size_says least t ts cap kind)
-    operand_says (k.Word _) least t ts cap kind = refused_says (t ∷ ts) _
+    operand_says (k.Word _) least t ts cap kind = refused_says (t ∷ ts) _ (some_operand least cap)
     operand_says (k.Mark p.LeftParen) least t ts cap kind = token_says _ t ts _ (bracketed_says least t ts cap kind)
     operand_says (k.Mark p.Increment) least t ts cap kind = step_prefix_says least t ts _ cap (ap prefix_of kind)
     operand_says (k.Mark p.Decrement) least t ts cap kind = step_prefix_says least t ts _ cap (ap prefix_of kind)
@@ -294,34 +325,34 @@ module _ (s : TypeNames) where
     operand_says (k.Mark p.Minus) least t ts cap kind = unary_says least t ts _ cap (ap prefix_of kind)
     operand_says (k.Mark p.Tilde) least t ts cap kind = unary_says least t ts _ cap (ap prefix_of kind)
     operand_says (k.Mark p.Exclamation) least t ts cap kind = unary_says least t ts _ cap (ap prefix_of kind)
-    operand_says (k.Mark _) least t ts cap kind = refused_says (t ∷ ts) _
-    operand_says k.End least t ts cap kind = refused_says (t ∷ ts) _
+    operand_says (k.Mark _) least t ts cap kind = refused_says (t ∷ ts) _ (some_operand least cap)
+    operand_says k.End least t ts cap kind = refused_says (t ∷ ts) _ (some_operand least cap)
 
     -- ---- the loop over operators
 
     member_says : (make : List ℕ → Expr) (ts : List Lexeme) (T : List Lexeme → Expr → Type 0) → ((n : Lexeme) → n.kind ≡ k.Name → T (n ∷ []) (make n.spelling)) → Says (and_then (member ts) (λ name. pure (make name))) ts T
     unfolding member
-    member_says make [] T h = refused_says [] T
+    member_says make [] T h = refused_says [] T (lexeme_of k.Name ∷ [], make [], h (lexeme_of k.Name) refl)
     member_says make (n ∷ r) T h = bind_says (member (n ∷ r)) _ (n ∷ r) (λ a name. T a (make name)) T
-        (if_says (is_name n.kind) _ _ (n ∷ r) _ (λ yes. token_says _ n r _ (ok_says n.spelling r _ (h n (name_is n.kind yes)))) (λ other. refused_says (n ∷ r) _)) (λ a name u g. done_says (make name) a u T g)
+        (if_says (is_name n.kind) _ _ (n ∷ r) _ (λ yes. token_says _ n r _ (ok_says n.spelling r _ (h n (name_is n.kind yes)))) (λ other. refused_says (n ∷ r) _ (lexeme_of k.Name ∷ [], [], h (lexeme_of k.Name) refl))) (λ a name u g. done_says (make name) a u T g)
 
-    step_says : (class : Infix) (t : Lexeme) (level : ℕ) (done : List Lexeme) (x : Expr) (ts : List Lexeme) → infix_of t.kind ≡ class → operand_level class ≤ level → IsExpr s level done x
+    step_says : (class : Infix) (t : Lexeme) (level : ℕ) (done : List Lexeme) (x : Expr) (ts : List Lexeme) → infix_of t.kind ≡ class → 2 ≤ binding_level class → operand_level class ≤ level → IsExpr s level done x
         → Says (step_by s rec dec class (place done) x ts) ts (λ b z. IsExpr s (result_level class) (done ++ t ∷ b) z)
-    step_says i.Index t level done x ts kind le h = bind_says (whole s rec dec ts) _ ts (λ a z. IsWhole s a z) _ (whole_says ts) (λ a z u g. expect_says p.RightBracket _ u _ (λ r v rk.
+    step_says i.Index t level done x ts kind two le h = bind_says (whole s rec dec ts) _ ts (λ a z. IsWhole s a z) _ (whole_says ts) (λ a z u g. expect_says p.RightBracket _ u _ (λ r v rk.
         ok_says (e.Index (place done) x z) v _ (IsExpr.index {m = 18} done t a r x z (omega arith) (weaken h 18 le) (index_is t.kind kind) g rk)))
-    step_says i.Field t level done x ts kind le h = member_says (e.Field (place done) x) ts _ (λ n nk. IsExpr.field {m = 18} done t n x (omega arith) (weaken h 18 le) (field_is t.kind kind) nk)
-    step_says i.Arrow t level done x ts kind le h = member_says (e.Arrow (place done) x) ts _ (λ n nk. IsExpr.arrow {m = 18} done t n x (omega arith) (weaken h 18 le) (arrow_is t.kind kind) nk)
-    step_says (i.Step op) t level done x ts kind le h = ok_says (e.Postfix (place done) op x) ts _ (IsExpr.postfix {m = 18} done t op x (omega arith) (weaken h 18 le) kind)
-    step_says (i.Binary op) t level done x ts kind le h = bind_says (rec (suc (level_of op)) ts) _ ts (λ b z. IsExpr s (suc (level_of op)) b z) _ (sound (suc (level_of op)) ts (above_wanted op)) (λ b z u g.
+    step_says i.Field t level done x ts kind two le h = member_says (e.Field (place done) x) ts _ (λ n nk. IsExpr.field {m = 18} done t n x (omega arith) (weaken h 18 le) (field_is t.kind kind) nk)
+    step_says i.Arrow t level done x ts kind two le h = member_says (e.Arrow (place done) x) ts _ (λ n nk. IsExpr.arrow {m = 18} done t n x (omega arith) (weaken h 18 le) (arrow_is t.kind kind) nk)
+    step_says (i.Step op) t level done x ts kind two le h = ok_says (e.Postfix (place done) op x) ts _ (IsExpr.postfix {m = 18} done t op x (omega arith) (weaken h 18 le) kind)
+    step_says (i.Binary op) t level done x ts kind two le h = bind_says (rec (suc (level_of op)) ts) _ ts (λ b z. IsExpr s (suc (level_of op)) b z) _ (sound (suc (level_of op)) ts (above_wanted op)) (λ b z u g.
         done_says (e.Binary (place done) op x z) b u (λ c y. IsExpr s (level_of op) (done ++ t ∷ c) y) (IsExpr.binary {m = level_of op} done t b op x z (omega arith) kind (weaken h (level_of op) le) g))
-    step_says i.Conditional t level done x ts kind le h = bind_says (whole s rec dec ts) _ ts (λ a z. IsWhole s a z) _ (whole_says ts) (λ b v u g. expect_says p.Colon _ u _ (λ r u' rk.
+    step_says i.Conditional t level done x ts kind two le h = bind_says (whole s rec dec ts) _ ts (λ a z. IsWhole s a z) _ (whole_says ts) (λ b v u g. expect_says p.Colon _ u _ (λ r u' rk.
         bind_says (rec 4 u') _ u' (λ c z. IsExpr s 4 c z) _ (sound 4 u' four_wanted) (λ c z w' o.
         done_says (e.Conditional (place done) x v z) c w' (λ c y. IsExpr s 4 (done ++ t ∷ (b ++ (r ∷ c))) y) (IsExpr.conditional {m = 4} done t b r c x v z (omega arith) (weaken h 6 le) (choose_is t.kind kind) g rk o))))
-    step_says (i.Assign op) t level done x ts kind le h = bind_says (rec 2 ts) _ ts (λ b z. IsExpr s 2 b z) _ (sound 2 ts two_wanted) (λ b z u g.
+    step_says (i.Assign op) t level done x ts kind two le h = bind_says (rec 2 ts) _ ts (λ b z. IsExpr s 2 b z) _ (sound 2 ts two_wanted) (λ b z u g.
         done_says (e.Assign (place done) op x z) b u (λ c y. IsExpr s 2 (done ++ t ∷ c) y) (IsExpr.assignment {m = 2} done t b op x z (omega arith) (weaken h 17 le) kind g))
-    step_says i.Comma t level done x ts kind le h = refused_says ts _
-    step_says i.Tight t level done x ts kind le h = refused_says ts _
-    step_says i.Nothing t level done x ts kind le h = refused_says ts _
+    step_says i.Comma t level done x ts kind two le h = absurd (let cap = level_cap h in omega arith)
+    step_says i.Tight t level done x ts kind two le h = absurd (let cap = level_cap h in omega arith)
+    step_says i.Nothing t level done x ts kind two le h = absurd (let cap = level_cap h in omega arith)
 
     climb_says : (least j level : ℕ) (x : Expr) (done ts : List Lexeme) → Wanted least → least ≤ level → IsExpr s level done x → Says (climb s rec dec (place done) least j level x ts) ts (λ a z. IsExpr s least (done ++ a) z)
     unfolding climb
@@ -329,9 +360,9 @@ module _ (s : TypeNames) where
     climb_says least (suc j) level x done [] w' low h = if_says (ltb 0 least) _ _ [] _ (λ yes. done_says x done [] (λ a z. IsExpr s least a z) (weaken h least low))
         (λ other. absurd (let le = ltb-false 0 least other in let two = w'.two in omega arith))
     climb_says least (suc j) level x done (t ∷ ts) w' low h = if_says (ltb (binding_level (infix_of t.kind)) least) _ _ (t ∷ ts) _ (λ yes. done_says x done (t ∷ ts) (λ a z. IsExpr s least a z) (weaken h least low))
-        (λ other. if_says (ltb level (operand_level (infix_of t.kind))) (Err (t ∷ ts)) _ (t ∷ ts) _ (λ tight. refused_says (t ∷ ts) _) (λ loose.
+        (λ other. if_says (ltb level (operand_level (infix_of t.kind))) (Err (t ∷ ts)) _ (t ∷ ts) _ (λ tight. refused_says (t ∷ ts) _ ([], x, subst (λ c. IsExpr s least c x) (sym (append-nil done)) (weaken h least low))) (λ loose.
         token_says _ t ts _ (bind_says (step_by s rec dec (infix_of t.kind) (place done) x ts) _ ts (λ b z. IsExpr s (result_level (infix_of t.kind)) (done ++ t ∷ b) z) _
-        (step_says (infix_of t.kind) t level done x ts refl (ltb-false level (operand_level (infix_of t.kind)) loose) h) (λ b z r g.
+        (step_says (infix_of t.kind) t level done x ts refl (let two = w'.two in let above = ltb-false (binding_level (infix_of t.kind)) least other in omega arith) (ltb-false level (operand_level (infix_of t.kind)) loose) h) (λ b z r g.
         let above = makes_above (infix_of t.kind) least w' (ltb-false (binding_level (infix_of t.kind)) least other) in
         let o = climb_says least j (result_level (infix_of t.kind)) z (done ++ t ∷ b) r w' above g in
         let P : ℕ → Type 0 = λ at. Says (climb s rec dec at least j (result_level (infix_of t.kind)) z r) r (λ a z. IsExpr s least (done ++ t ∷ (b ++ a)) z) in
@@ -339,10 +370,11 @@ module _ (s : TypeNames) where
 
     tight_says : (m : ℕ) (ts : List Lexeme) → Wanted m → Says (tight s rec dec m ts) ts (λ a x. IsExpr s m a x)
     unfolding operand
-    tight_says m [] w' = refused_says [] _
+    tight_says m [] w' = let c = w'.cap in refused_says [] _ (number ∷ [], e.Number 0 [], some_number s m (omega arith))
     tight_says m (t ∷ ts) w' = bind_says_at (operand_by s rec dec m (prefix_of t.kind) (t ∷ ts)) _ (t ∷ ts) (IsOperand s m) _ (operand_says t.kind m t ts w'.cap refl) (λ a q r e h.
         let P : ℕ → Type 0 = λ at. Says (climb s rec dec at m (length r) q.1 q.0 r) r (λ b z. IsExpr s m (a ++ b) z) in
         subst P (sym (ap place e ∙ place-append a r (first s h.is).0)) (climb_says m (length r) q.1 q.0 a r w' h.wanted h.is))
+        (λ a q h. ([], q.0, subst (λ c. IsExpr s m c q.0) (sym (append-nil a)) (weaken h.is m h.wanted)))
 
     -- ---- declarators
 
@@ -379,23 +411,33 @@ module _ (s : TypeNames) where
     group_says naming l t ts lk tk = bind_says (pointer_declarator s rec dec naming ts) _ ts (λ a d. IsDeclarator s naming 0 (t ∷ a) d) _ (starred_says naming t ts tk) (λ a d u h. expect_says p.RightParen _ u _ (λ r v rk.
         ok_says d v _ (IsDeclarator.group l t a r d lk tk h rk)))
 
-    nameless_says : (naming : Naming) (r ts : List Lexeme) → IsEnd r ts → Says (cond (may_be_nameless naming) (Ok (nameless, ts)) (Err r)) ts (λ a d. IsDeclarator s naming 1 a d)
-    nameless_says naming r ts end = if_says (may_be_nameless naming) (Ok (nameless, ts)) (Err r) ts _ (λ may. ok_says nameless ts _ (IsDeclarator.no_name may)) (λ not. err_says r ts _ end)
+    nameless_says : (naming : Naming) (r ts : List Lexeme) → Viable r ts (λ a d. IsDeclarator s naming 1 a d) → Says (cond (may_be_nameless naming) (Ok (nameless, ts)) (Err r)) ts (λ a d. IsDeclarator s naming 1 a d)
+    nameless_says naming r ts v = if_says (may_be_nameless naming) (Ok (nameless, ts)) (Err r) ts _ (λ may. ok_says nameless ts _ (IsDeclarator.no_name may)) (λ not. err_says r ts _ v)
+
+    name_wanted : (naming : Naming) (ts : List Lexeme) → Viable ts ts (λ a d. IsDeclarator s naming 1 a d)
+    name_wanted naming ts = let v = some_declarator s naming 1 in ([], refl, v.0, v.1, v.2)
+
+    star_wanted : (naming : Naming) (l : Lexeme) (ts : List Lexeme) → l.kind ≡ k.Mark p.LeftParen → Viable ts (l ∷ ts) (λ a d. IsDeclarator s naming 1 a d)
+    star_wanted naming l ts lk =
+        let v = some_declarator s naming 0 in
+        let star = lexeme_of (k.Mark p.Star) in
+        let close = lexeme_of (k.Mark p.RightParen) in
+        (l ∷ [], refl, star ∷ v.0 ++ close ∷ [], with_shape v.1 sh.Pointer, IsDeclarator.group l star v.0 close (with_shape v.1 sh.Pointer) lk refl (IsDeclarator.star star [] v.0 v.1 (omega arith) refl AreConsts.none v.2) refl)
 
     bracket_says : (naming : Naming) (l : Lexeme) (ts : List Lexeme) → l.kind ≡ k.Mark p.LeftParen → Says (core_bracket s rec dec naming (l ∷ ts)) (l ∷ ts) (λ a d. IsDeclarator s naming 1 a d)
-    bracket_says naming l [] lk = nameless_says naming [] (l ∷ []) (l ∷ [], refl)
+    bracket_says naming l [] lk = nameless_says naming [] (l ∷ []) (star_wanted naming l [] lk)
     bracket_says naming l (t ∷ ts) lk = if_says (is_mark p.Star t.kind) _ _ (l ∷ t ∷ ts) _
         (λ yes. token_says _ l (t ∷ ts) _ (token_says _ t ts _ (group_says naming l t ts lk (mark_is p.Star t.kind yes))))
-        (λ other. nameless_says naming (t ∷ ts) (l ∷ t ∷ ts) (l ∷ [], refl))
+        (λ other. nameless_says naming (t ∷ ts) (l ∷ t ∷ ts) (star_wanted naming l (t ∷ ts) lk))
 
     core_says : (naming : Naming) (ts : List Lexeme) → Says (core s rec dec naming ts) ts (λ a d. IsDeclarator s naming 1 a d)
     unfolding core
-    core_says naming [] = nameless_says naming [] [] ([], refl)
+    core_says naming [] = nameless_says naming [] [] (name_wanted naming [])
     core_says naming (t ∷ ts) = if_says (is_name t.kind) _ _ (t ∷ ts) _
         (λ yes. if_says (takes_name naming (is_type s t)) _ _ (t ∷ ts) _
         (λ takes. token_says _ t ts _ (ok_says (record { name = Some (record { at = t.at; name = t.spelling }); shapes = [] }) ts _ (IsDeclarator.own_name t (name_is t.kind yes) takes)))
-        (λ other. nameless_says naming (t ∷ ts) (t ∷ ts) ([], refl)))
-        (λ other. if_says (is_mark p.LeftParen t.kind) _ _ (t ∷ ts) _ (λ yes. bracket_says naming t ts (mark_is p.LeftParen t.kind yes)) (λ none. nameless_says naming (t ∷ ts) (t ∷ ts) ([], refl)))
+        (λ other. nameless_says naming (t ∷ ts) (t ∷ ts) (name_wanted naming (t ∷ ts))))
+        (λ other. if_says (is_mark p.LeftParen t.kind) _ _ (t ∷ ts) _ (λ yes. bracket_says naming t ts (mark_is p.LeftParen t.kind yes)) (λ none. nameless_says naming (t ∷ ts) (t ∷ ts) (name_wanted naming (t ∷ ts))))
 
     core_suffixes : (naming : Naming) (ts : List Lexeme) → Says (and_then (core s rec dec naming ts) (λ d r. suffixes s rec dec (length r) d r)) ts (λ a d. IsDeclarator s naming 0 a d)
     core_suffixes naming ts = bind_says (core s rec dec naming ts) _ ts (λ a d. IsDeclarator s naming 1 a d) _ (core_says naming ts) (λ a d r h. weaker _ r _ _ (λ b z q. loosen q) (suffixes_says naming (length r) a d r h))
@@ -408,9 +450,9 @@ mutual
   unfolding expr
 
   pub sound_expr : (s : TypeNames) (n : ℕ) → SoundE s (expr s n)
-  sound_expr s zero m ts w' = refused_says ts _
+  sound_expr s zero m ts w' = let c = w'.cap in refused_says ts _ (number ∷ [], e.Number 0 [], some_number s m (omega arith))
   sound_expr s (suc n) m ts w' = tight_says s (expr s n) (declarator s n) (sound_expr s n) (sound_declarator s n) m ts w'
 
   pub sound_declarator : (s : TypeNames) (n : ℕ) → SoundD s (declarator s n)
-  sound_declarator s zero naming ts = refused_says ts _
+  sound_declarator s zero naming ts = refused_says ts _ (some_declarator s naming 0)
   sound_declarator s (suc n) naming ts = shaping_says s (expr s n) (declarator s n) (sound_expr s n) (sound_declarator s n) naming ts

@@ -1,5 +1,5 @@
 -- A specifier that is read is in the grammar.
-use Rattle.std.proofs.Common.{◌≡◌, ℕ, zero, suc, Bool, true, false, cond, List, [], ◌∷◌, ◌++◌, length, Option, Some, None, refl, sym, ap, ◌∙◌, subst}
+use Rattle.std.proofs.Common.{◌≡◌, ℕ, zero, suc, Bool, true, false, not, ◌&&◌, cond, List, [], ◌∷◌, ◌++◌, length, Option, Some, None, refl, sym, ap, ◌∙◌, subst}
 use Rattle.c_lexer.specs.declared.token.TokenKind.{TokenKind}
 use Rattle.c_lexer.specs.declared.token.TokenKind.TheVariants as k
 use Rattle.c_lexer.specs.declared.token.Keyword.TheVariants as w
@@ -18,7 +18,7 @@ use Rattle.c_grammar.specs.declared.word_set.Sign.{Sign}
 use Rattle.c_grammar.specs.declared.word_set.Sign.TheVariants as g
 use Rattle.c_grammar.specs.declared.word_set.WordSet.{WordSet}
 use Rattle.c_grammar.specs.Classes.{specifier_of}
-use Rattle.c_grammar.specs.WordSets.{no_words, with_word, basic_by, basic_of}
+use Rattle.c_grammar.specs.WordSets.{no_words, takes_int, with_word, basic_by, basic_of}
 use Rattle.c_grammar.specs.Tokens.{TypeNames, is_type, is_name}
 use Rattle.c_grammar.specs.Grammar.{AreConsts, AreWords, IsPlain}
 use Rattle.c_grammar.specs.Parser.{Parser, consts}
@@ -26,7 +26,7 @@ use Rattle.c_grammar.specs.declared.shapes.SpecifierStart.TheVariants as ss
 use Rattle.c_grammar.specs.ParseExpr.{start_of, word_or_end, words_from, named_type, tag_type, tag, specifier_behind, specifier_from, plain}
 use Rattle.c_grammar.proofs.Words.{behind_words, turn}
 use Rattle.c_grammar.proofs.Outcomes.{no_true, name_is}
-use Rattle.c_grammar.proofs.Says.{Says, ok_says, refused_says, bind_says, if_says, token_says, done_says, consts_says, weaker}
+use Rattle.c_grammar.proofs.Says.{Instance, Says, lexeme_of, ok_says, refused_says, bind_says, if_says, token_says, done_says, consts_says, weaker}
 
 -- ---- a class and its kinds
 
@@ -117,6 +117,13 @@ word_spells x t.Int v e = where_fits _ (record x { int = true }) v (int_spells x
 word_spells x t.Signed v e = where_fits _ (record x { sign = Some g.Signed }) v (sign_spells x.base g.Signed x.int) e
 word_spells x t.Unsigned v e = where_fits _ (record x { sign = Some g.Unsigned }) v (sign_spells x.base g.Unsigned x.int) e
 
+-- with no word yet, `int` may follow
+int_fits : (base : Option BaseWord) (sign : Option Sign) (int : Bool) → basic_by base sign int ≡ None → (takes_int base && not int) ≡ true
+int_fits (Some base) sign int e = no_some (sym e ∙ (base_spells base sign int).1)
+int_fits None (Some sign) int e = no_some (sym e ∙ (sign_spells None sign int).1)
+int_fits None None true e = no_some (sym e)
+int_fits None None false e = refl
+
 -- ---- the loop
 
 -- What is read from a set on: more words, or with none yet what `U` says of the token in their place.
@@ -133,6 +140,15 @@ module _ (s : TypeNames) (on : Specifier → ℕ → Parser TypeNode) (U : Lexem
   past_word x u word e f (From.words {x = v} a z q h g) = From.words (u ∷ a) z q (AreWords.more u word a v z e f h) g
   past_word x u word e f (From.tail {x = v} a q r ty n c h) = let o = word_spells x word v f in no_some (sym n ∙ o.1)
 
+  -- the word `int`
+  some_int : (x : WordSet) → basic_of x ≡ None → Instance (λ a ty. From U x a ty)
+  some_int x n =
+      let z : WordSet = record x { int = true } in
+      let spells = int_spells x.base x.sign in
+      let fits : with_word x t.Int ≡ Some z = ap (λ b. cond b (Some z) None) (int_fits x.base x.sign x.int n) in
+      let int = lexeme_of (k.Word w.Int) in
+      (int ∷ [], y.Basic spells.0, From.words (int ∷ []) z spells.0 (AreWords.more int t.Int [] z z refl fits AreWords.none) spells.1)
+
   start_says : (o : Option BasicType) (class : Specifier) (ts : List Lexeme) (T : List Lexeme → TypeNode → Type 0) → ((q : BasicType) → o ≡ Some q → T [] (y.Basic q))
       → (o ≡ None → Says (specifier_behind s on (ss.Other class) ts) ts T) → Says (specifier_behind s on (start_of o class) ts) ts T
   start_says (Some q) class ts T f g = ok_says (y.Basic q) ts T (f q refl)
@@ -148,7 +164,7 @@ module _ (s : TypeNames) (on : Specifier → ℕ → Parser TypeNode) (U : Lexem
       → Says (behind_words s on (word_or_end o (λ v. words_from j v r) (start_of (basic_of x) (c.Word word), u ∷ r))) (u ∷ r) (λ a ty. From U x a ty)
   unfolding specifier_from
   word_says (Some v) j x u r word e f h = token_says (specifier_from s on j v r) u r _ (weaker (specifier_from s on j v r) r _ _ (λ a ty q. past_word x u word e f q) (h v))
-  word_says None j x u r word e f h = stop_says x (c.Word word) (u ∷ r) (λ n. refused_says (u ∷ r) _)
+  word_says None j x u r word e f h = stop_says x (c.Word word) (u ∷ r) (λ n. refused_says (u ∷ r) _ (some_int x n))
 
   module _ (struct_says : (u : Lexeme) (r : List Lexeme) → u.kind ≡ k.Word w.Struct → Says (on c.Struct u.at r) r (λ b ty. U u b ty))
       (enum_says : (u : Lexeme) (r : List Lexeme) → u.kind ≡ k.Word w.Enum → Says (on c.Enum u.at r) r (λ b ty. U u b ty))
@@ -157,7 +173,7 @@ module _ (s : TypeNames) (on : Specifier → ℕ → Parser TypeNode) (U : Lexem
     unfolding named_type
     named_says x u r e n = if_says (is_type s u) _ _ (u ∷ r) _
         (λ yes. token_says _ u r _ (bind_says (consts (length r) r) _ r (λ a q. AreConsts a) _ (consts_says (length r) r) (λ a q v h. done_says (y.Named u.spelling) a v (λ a ty. From U x (u ∷ a) ty) (From.tail [] u a (y.Named u.spelling) n AreConsts.none (named u a e yes h)))))
-        (λ other. refused_says (u ∷ r) _)
+        (λ other. refused_says (u ∷ r) _ (some_int x n))
 
     turn_says : (j : ℕ) (x : WordSet) (class : Specifier) (u : Lexeme) (r : List Lexeme) → specifier_of u.kind ≡ class → ((v : WordSet) → Says (specifier_from s on j v r) r (λ a ty. From U v a ty))
         → Says (turn s on j x class (u ∷ r)) (u ∷ r) (λ a ty. From U x a ty)
@@ -167,12 +183,12 @@ module _ (s : TypeNames) (on : Specifier → ℕ → Parser TypeNode) (U : Lexem
     turn_says j x c.Struct u r e h = stop_says x c.Struct (u ∷ r) (λ n. token_says (on c.Struct u.at r) u r _ (weaker (on c.Struct u.at r) r _ _ (λ b ty q. From.tail [] u b ty n AreConsts.none q) (struct_says u r (struct_is u.kind e))))
     turn_says j x c.Enum u r e h = stop_says x c.Enum (u ∷ r) (λ n. token_says (on c.Enum u.at r) u r _ (weaker (on c.Enum u.at r) r _ _ (λ b ty q. From.tail [] u b ty n AreConsts.none q) (enum_says u r (enum_is u.kind e))))
     turn_says j x c.Name u r e h = stop_says x c.Name (u ∷ r) (λ n. named_says x u r (named_is u.kind e) n)
-    turn_says j x c.Nothing u r e h = stop_says x c.Nothing (u ∷ r) (λ n. refused_says (u ∷ r) _)
+    turn_says j x c.Nothing u r e h = stop_says x c.Nothing (u ∷ r) (λ n. refused_says (u ∷ r) _ (some_int x n))
 
     pub specifier_says : (j : ℕ) (x : WordSet) (ts : List Lexeme) → Says (specifier_from s on j x ts) ts (λ a ty. From U x a ty)
     unfolding specifier_from words_from
-    specifier_says zero x ts = stop_says x c.Nothing ts (λ n. refused_says ts _)
-    specifier_says (suc j) x [] = stop_says x c.Nothing [] (λ n. refused_says [] _)
+    specifier_says zero x ts = stop_says x c.Nothing ts (λ n. refused_says ts _ (some_int x n))
+    specifier_says (suc j) x [] = stop_says x c.Nothing [] (λ n. refused_says [] _ (some_int x n))
     specifier_says (suc j) x (u ∷ r) = turn_says j x (specifier_of u.kind) u r refl (λ v. specifier_says j v r)
 
 -- ---- without braces
@@ -183,12 +199,15 @@ pub data IsTail (s : TypeNames) (u : Lexeme) : List Lexeme → TypeNode → Type
   struct : (v : Lexeme) (a : List Lexeme) → u.kind ≡ k.Word w.Struct → v.kind ≡ k.Name → AreConsts a → IsTail s u (v ∷ a) (y.Struct v.at (Some v.spelling) None)
   enum : (v : Lexeme) (a : List Lexeme) → u.kind ≡ k.Word w.Enum → v.kind ≡ k.Name → AreConsts a → IsTail s u (v ∷ a) (y.Enum v.at (Some v.spelling) None)
 
+some_tag : (class : Specifier) (T : List Lexeme → TypeNode → Type 0) → ((v : Lexeme) (a : List Lexeme) → v.kind ≡ k.Name → AreConsts a → T (v ∷ a) (tag_type class v.at v.spelling)) → Instance T
+some_tag class T h = (lexeme_of k.Name ∷ [], tag_type class 0 [], h (lexeme_of k.Name) [] refl AreConsts.none)
+
 pub tag_says : (class : Specifier) (ts : List Lexeme) (T : List Lexeme → TypeNode → Type 0) → ((v : Lexeme) (a : List Lexeme) → v.kind ≡ k.Name → AreConsts a → T (v ∷ a) (tag_type class v.at v.spelling)) → Says (tag class ts) ts T
 unfolding tag
-tag_says class [] T h = refused_says [] T
+tag_says class [] T h = refused_says [] T (some_tag class T h)
 tag_says class (v ∷ r) T h = if_says (is_name v.kind) _ _ (v ∷ r) T
     (λ yes. token_says _ v r T (bind_says (consts (length r) r) _ r (λ a q. AreConsts a) _ (consts_says (length r) r) (λ a q z g. done_says (tag_type class v.at v.spelling) a z (λ a ty. T (v ∷ a) ty) (h v a (name_is v.kind yes) g))))
-    (λ other. refused_says (v ∷ r) T)
+    (λ other. refused_says (v ∷ r) T (some_tag class T h))
 
 is_plain : (s : TypeNames) {a : List Lexeme} {ty : TypeNode} → From (IsTail s) no_words a ty → IsPlain s a ty
 is_plain s (From.words a z q h e) = IsPlain.words a z q h e

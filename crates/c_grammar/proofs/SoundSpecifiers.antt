@@ -16,31 +16,34 @@ use Rattle.c_grammar.specs.declared.shapes.Naming.{Naming}
 use Rattle.c_grammar.specs.declared.shapes.Naming.TheVariants as nm
 use Rattle.c_grammar.specs.WordSets.{no_words}
 use Rattle.c_grammar.specs.Tokens.{TypeNames, is_type, is_mark, is_name, kind_at, behind}
-use Rattle.c_grammar.specs.Types.{declaration_of, bare}
+use Rattle.c_grammar.specs.Types.{may_be_nameless, declaration_of, bare}
 use Rattle.c_grammar.specs.Grammar.{AreConsts, IsPlain, IsExpr, IsDeclarator}
 use Rattle.c_grammar.specs.Specifiers.{IsTag, IsDeclared, AreDeclared, IsConstant, AreConstants, IsSpecifier, AreMembers, IsMember}
 use Rattle.c_grammar.specs.Parser.{Parser, consts}
-use Rattle.c_grammar.specs.ParseExpr.{tag_type, specifier_from, expr, declarator}
+use Rattle.c_grammar.specs.ParseExpr.{tag_type, plain, specifier_from, expr, declarator}
 use Rattle.c_grammar.specs.ParseSpecifiers.{named_by, declaration, braced_list_from, constant_value, constant, declarators_from, member, members_from, braces, tag_or_body, specifier}
-use Rattle.c_grammar.proofs.Outcomes.{mark_is, name_is}
-use Rattle.c_grammar.proofs.Says.{Says, ok_says, refused_says, bind_says, if_says, token_says, done_says, expect_says, consts_says, after_says, weaker}
-use Rattle.c_grammar.proofs.SoundPlain.{From, IsTail, specifier_says}
+use Rattle.c_grammar.proofs.Outcomes.{no_true, mark_is, name_is}
+use Rattle.c_grammar.proofs.Says.{Instance, Says, some_of, ok_says, refused_says, bind_says, if_says, token_says, done_says, expect_says, consts_says, after_says, weaker}
+use Rattle.c_grammar.proofs.Instances.{a_name, a_name_is, no_type_name, nameless_may}
+use Rattle.c_grammar.proofs.SoundPlain.{From, IsTail, specifier_says, plain_says}
 use Rattle.c_grammar.proofs.SoundExpr.{four_wanted, sound_expr, sound_declarator}
 
 -- ---- declarators with their type
 
-named_says : (s : TypeNames) (naming : Naming) (ty : TypeNode) (a : List Lexeme) (o : Option DeclaredName) (shapes : List Shape) (r : List Lexeme) → IsDeclarator s naming 0 a (record { name = o; shapes = shapes }) → Says (named_by ty o shapes r) r (λ b z. IsDeclared s naming ty (a ++ b) z)
-named_says s naming ty a (Some u) shapes r h = done_says (declaration_of ty u shapes) a r (λ a z. IsDeclared s naming ty a z) (IsDeclared.of a u shapes h)
-named_says s naming ty a None shapes r h = refused_says r _
+named_says : (s : TypeNames) (naming : Naming) (ty : TypeNode) (a : List Lexeme) (o : Option DeclaredName) (shapes : List Shape) (r : List Lexeme) → may_be_nameless naming ≡ false → IsDeclarator s naming 0 a (record { name = o; shapes = shapes }) → Says (named_by ty o shapes r) r (λ b z. IsDeclared s naming ty (a ++ b) z)
+named_says s naming ty a (Some u) shapes r must h = done_says (declaration_of ty u shapes) a r (λ a z. IsDeclared s naming ty a z) (IsDeclared.of a u shapes h)
+named_says s naming ty a None shapes r must h = no_true (sym must ∙ nameless_may s h refl)
 
-pub declaration_says : (s : TypeNames) (n : ℕ) (naming : Naming) (ty : TypeNode) (ts : List Lexeme) → Says (declaration s n naming ty ts) ts (λ a d. IsDeclared s naming ty a d)
+pub declaration_says : (s : TypeNames) (n : ℕ) (naming : Naming) (ty : TypeNode) (ts : List Lexeme) → may_be_nameless naming ≡ false → Says (declaration s n naming ty ts) ts (λ a d. IsDeclared s naming ty a d)
 unfolding declaration
-declaration_says s n naming ty ts = bind_says (declarator s n naming ts) _ ts (λ a d. IsDeclarator s naming 0 a d) _ (sound_declarator s n naming ts) (λ a d r h. named_says s naming ty a d.name d.shapes r h)
+declaration_says s n naming ty ts must = bind_says (declarator s n naming ts) _ ts (λ a d. IsDeclarator s naming 0 a d) _ (sound_declarator s n naming ts) (λ a d r h. named_says s naming ty a d.name d.shapes r must h)
 
 declared_says : (s : TypeNames) (n j : ℕ) (ty : TypeNode) (found : List Declaration) (ts : List Lexeme) → Says (declarators_from s n j ty found ts) ts (λ a ys. (xs : List Declaration) × (ys ≡ found ++ xs) × AreDeclared s ty a xs)
 unfolding declarators_from
-declared_says s n zero ty found ts = refused_says ts _
-declared_says s n (suc j) ty found ts = bind_says (declaration s n nm.Member ty ts) _ ts (λ a d. IsDeclared s nm.Member ty a d) _ (declaration_says s n nm.Member ty ts) (λ a d r h.
+declared_says s n zero ty found ts =
+    let q = some_of (declaration s n nm.Member ty []) [] (λ a d. IsDeclared s nm.Member ty a d) (declaration_says s n nm.Member ty [] refl) in
+    refused_says ts _ (q.0, found ++ q.1 ∷ [], (q.1 ∷ [], refl, AreDeclared.one q.0 q.1 q.2))
+declared_says s n (suc j) ty found ts = bind_says (declaration s n nm.Member ty ts) _ ts (λ a d. IsDeclared s nm.Member ty a d) _ (declaration_says s n nm.Member ty ts refl) (λ a d r h.
     after_says (λ a xs. AreDeclared s ty a xs) (declarators_from s n j (bare ty) (found ++ d ∷ [])) found d a r (AreDeclared.one a d h) (λ t u kind.
     weaker (declarators_from s n j (bare ty) (found ++ d ∷ []) u) u _ _ (λ b ys q. (q.0, q.1, AreDeclared.more a t b d q.0 h kind q.2)) (declared_says s n j (bare ty) (found ++ d ∷ []) u)))
 
@@ -64,7 +67,7 @@ pub braced_says : {A : Type 0} (item : Parser A) (R : List Lexeme → A → Type
     → ((a : List Lexeme) (t : Lexeme) (b : List Lexeme) (x : A) (xs : List A) → R a x → t.kind ≡ k.Mark p.Comma → L b xs → L (a ++ t ∷ b) (x ∷ xs))
     → (j : ℕ) (found : List A) (ts : List Lexeme) → Says (braced_list_from item j found ts) ts (λ a ys. (xs : List A) × (ys ≡ found ++ xs) × L a xs)
 unfolding braced_list_from
-braced_says item R L h one last more zero found ts = refused_says ts _
+braced_says item R L h one last more zero found ts = let q = some_of (item []) [] R (h []) in refused_says ts _ (q.0, found ++ q.1 ∷ [], (q.1 ∷ [], refl, one q.0 q.1 q.2))
 braced_says item R L h one last more (suc j) found ts = bind_says (item ts) _ ts R _ (h ts) (λ a x r g.
     braced_after L (braced_list_from item j (found ++ x ∷ [])) found x a r (one a x g) (λ t kind. last a t x g kind) (λ t u kind.
     weaker (braced_list_from item j (found ++ x ∷ []) u) u _ _ (λ b ys q. (q.0, q.1, more a t b x q.0 g kind q.2)) (braced_says item R L h one last more j (found ++ x ∷ []) u)))
@@ -78,12 +81,15 @@ valued_says s n t (u ∷ r) kind listed = if_says (is_mark p.Assign u.kind) _ _ 
     done_says (record { at = t.at; name = t.spelling; value = Some x }) a v (λ b z. IsConstant s (t ∷ u ∷ b) z) (IsConstant.with_value t u a x kind listed (mark_is p.Assign u.kind yes) h))))
     (λ other. ok_says (record { at = t.at; name = t.spelling; value = None }) (u ∷ r) _ (IsConstant.plain t kind listed))
 
+some_constant : (s : TypeNames) → Instance (λ a x. IsConstant s a x)
+some_constant s = (a_name s ∷ [], record { at = (a_name s).at; name = (a_name s).spelling; value = None }, IsConstant.plain (a_name s) (a_name_is s) (no_type_name s))
+
 constant_says : (s : TypeNames) (n : ℕ) (ts : List Lexeme) → Says (constant s n ts) ts (λ a x. IsConstant s a x)
 unfolding constant
-constant_says s n [] = refused_says [] _
+constant_says s n [] = refused_says [] _ (some_constant s)
 constant_says s n (t ∷ r) = if_says (is_name t.kind) _ _ (t ∷ r) _
-    (λ yes. if_says (is_type s t) (Err (t ∷ r)) _ (t ∷ r) _ (λ type. refused_says (t ∷ r) _) (λ listed. token_says _ t r _ (valued_says s n t r (name_is t.kind yes) listed)))
-    (λ other. refused_says (t ∷ r) _)
+    (λ yes. if_says (is_type s t) (Err (t ∷ r)) _ (t ∷ r) _ (λ type. refused_says (t ∷ r) _ (some_constant s)) (λ listed. token_says _ t r _ (valued_says s n t r (name_is t.kind yes) listed)))
+    (λ other. refused_says (t ∷ r) _ (some_constant s))
 
 -- ---- specifiers
 
@@ -112,7 +118,7 @@ module _ (s : TypeNames) (n : ℕ) (spec : Parser TypeNode) (sound : (ts : List 
 
   members_says : (j : ℕ) (found : List Declaration) (ts : List Lexeme) → Says (members_from s n spec j found ts) ts (λ a ys. (xs : List Declaration) × (ys ≡ found ++ xs) × AreMembers s a xs)
   unfolding members_from
-  members_says zero found ts = refused_says ts _
+  members_says zero found ts = let q = some_of (member s n spec []) [] (λ a ds. IsMember s a ds) (member_says []) in refused_says ts _ (q.0, found ++ q.1, (q.1, refl, AreMembers.one q.0 q.1 q.2))
   members_says (suc j) found ts = bind_says (member s n spec ts) _ ts (λ a ds. IsMember s a ds) _ (member_says ts) (λ a ds r h. if_says (is_mark p.RightBrace (kind_at r)) (Ok (found ++ ds, r)) (members_from s n spec j (found ++ ds) r) r _
       (λ brace. done_says (found ++ ds) a r (λ a ys. (xs : List Declaration) × (ys ≡ found ++ xs) × AreMembers s a xs) (ds, refl, AreMembers.one a ds h))
       (λ other. weaker (members_from s n spec j (found ++ ds) r) r _ _ (λ b ys q. (ds ++ q.0, q.1 ∙ append_assoc found ds q.0, AreMembers.more a b ds q.0 h q.2)) (members_says j (found ++ ds) r)))
@@ -146,7 +152,9 @@ module _ (s : TypeNames) (n : ℕ) (spec : Parser TypeNode) (sound : (ts : List 
 
 pub sound_specifier : (s : TypeNames) (n : ℕ) (ts : List Lexeme) → Says (specifier s n ts) ts (λ a ty. IsSpecifier s a ty)
 unfolding specifier
-sound_specifier s zero ts = refused_says ts _
+sound_specifier s zero ts =
+    let q = some_of (plain s []) [] (λ a ty. IsPlain s a ty) (plain_says s []) in
+    refused_says ts _ (q.0, q.1, IsSpecifier.plain q.0 q.1 q.2)
 sound_specifier s (suc n) ts = weaker (specifier_from s (tag_or_body s n (specifier s n)) (length ts) no_words ts) ts _ _ (λ a ty h. is_specifier s h)
     (specifier_says s (tag_or_body s n (specifier s n)) (IsBraced s)
     (λ u r e. on_says s n (specifier s n) (sound_specifier s n) c.Struct u r (λ b at name ts g. struct_says s n (specifier s n) (sound_specifier s n) u b at name ts e g) (λ v a vk h. IsTail.struct v a e vk h))

@@ -26,7 +26,7 @@ use Rattle.c_grammar.specs.ParseExpr.{plain, list_from, expr, declarator}
 use Rattle.c_grammar.specs.ParseSpecifiers.{declaration}
 use Rattle.c_grammar.specs.ParseStatements.{expression, local_by, local, line, optional, condition, first_value, first, case_label, label, items_from, ends_section, stmts_from, section, sections_from, alternative, if_else, while, do_while, for, switch, return, value, stmt_by, stmt}
 use Rattle.c_grammar.proofs.Outcomes.{mark_is, word_is}
-use Rattle.c_grammar.proofs.Says.{Says, ok_says, refused_says, bind_says, if_says, token_says, done_says, expect_says, expect_word_first, listed_says, weaker}
+use Rattle.c_grammar.proofs.Says.{Instance, Says, lexeme_of, ok_says, refused_says, bind_says, if_says, token_says, done_says, expect_says, expect_word_first, listed_says, weaker}
 use Rattle.c_grammar.proofs.SaysRest.{SaysR, ok_r, refused_r, bind_r, then_r, drop, weaker_r, if_r, token_r, done_r, expect_r, expect_word_r}
 use Rattle.c_grammar.proofs.SoundPlain.{plain_says}
 use Rattle.c_grammar.proofs.SoundExpr.{four_wanted, two_wanted, sound_expr, sound_declarator, whole_says}
@@ -47,7 +47,7 @@ module _ (s : TypeNames) (n : ℕ) where
 
   local_says : (ty : TypeNode) (ts : List Lexeme) → Says (local s n ty ts) ts (λ a v. IsLocal s ty a v)
   unfolding local
-  local_says ty ts = bind_says (declaration s n nm.Required ty ts) _ ts (λ a d. IsDeclared s nm.Required ty a d) _ (declaration_says s n nm.Required ty ts) (λ a d r h. local_by_says ty a d r h)
+  local_says ty ts = bind_says (declaration s n nm.Required ty ts) _ ts (λ a d. IsDeclared s nm.Required ty a d) _ (declaration_says s n nm.Required ty ts refl) (λ a d r h. local_by_says ty a d r h)
 
   pub line_says : (ts : List Lexeme) → Says (line s n ts) ts (λ a vs. IsLine s a vs)
   unfolding line
@@ -85,10 +85,16 @@ module _ (s : TypeNames) (n : ℕ) where
       (λ yes. bind_says (line s n (t ∷ ts)) _ (t ∷ ts) (λ a vs. IsLine s a vs) _ (line_says (t ∷ ts)) (λ a vs r h. done_says (f.Locals vs) a r (λ a v. IsFirst s a v) (IsFirst.locals a vs h)))
       (λ other. bind_says (expression s n (t ∷ ts)) _ (t ∷ ts) (λ a v. IsWhole s a v) _ (expression_says (t ∷ ts)) (λ a v r h. expect_says p.Semicolon _ r _ (λ o z kind. ok_says (f.Value v) z _ (IsFirst.value a o v h kind)))))
 
+  some_label : Instance (λ a v. IsLabel s a v)
+  some_label =
+      let word = lexeme_of (k.Word w.Default) in
+      let colon = lexeme_of (k.Mark p.Colon) in
+      (word ∷ colon ∷ [], l.Default 0, IsLabel.«default» word colon refl refl)
+
   default_says : (ts : List Lexeme) → Says (and_then (expect_word w.Default ts) (λ _. expect p.Colon >>= λ _. pure (l.Default (place ts)))) ts (λ a v. IsLabel s a v)
   unfolding expect_word
-  default_says [] = refused_says [] _
-  default_says (t ∷ ts) = expect_word_first w.Default _ t ts _ (λ kind. expect_says p.Colon _ ts _ (λ c z ck. ok_says (l.Default t.at) z _ (IsLabel.«default» t c kind ck)))
+  default_says [] = refused_says [] _ some_label
+  default_says (t ∷ ts) = expect_word_first w.Default _ t ts _ (λ kind. expect_says p.Colon _ ts _ (λ c z ck. ok_says (l.Default t.at) z _ (IsLabel.«default» t c kind ck))) some_label
 
   label_says : (ts : List Lexeme) → Says (label s n ts) ts (λ a v. IsLabel s a v)
   unfolding label case_label
@@ -160,7 +166,7 @@ module _ (s : TypeNames) (n : ℕ) (rec : Parser Stmt) (sound : SoundS s rec) wh
 
   pub items_says : (j : ℕ) (found : List Stmt) (ts : List Lexeme) → Says (items_from s n rec j found ts) ts (λ a zs. (ys : List Stmt) × (zs ≡ found ++ ys) × IsClosed s a ys)
   unfolding items_from
-  items_says zero found ts = refused_says ts _
+  items_says zero found ts = let close = lexeme_of (k.Mark p.RightBrace) in refused_says ts _ (close ∷ [], found, ([], sym (append-nil found), record { inner = []; close = close; all_is = refl; are = AreItems.nothing; close_is = refl }))
   items_says (suc j) found [] = item_says (items_from s n rec j) found [] (items_says j)
   items_says (suc j) found (t ∷ ts) = if_says (is_mark p.RightBrace t.kind) (Ok (found, ts)) _ (t ∷ ts) _
       (λ yes. token_says (Ok (found, ts)) t ts _ (ok_says found ts _ ([], sym (append-nil found), record { inner = []; close = t; all_is = refl; are = AreItems.nothing; close_is = mark_is p.RightBrace t.kind yes })))
@@ -168,7 +174,7 @@ module _ (s : TypeNames) (n : ℕ) (rec : Parser Stmt) (sound : SoundS s rec) wh
 
   stmts_says : (j : ℕ) (found : List Stmt) (ts : List Lexeme) → Says (stmts_from s n rec j found ts) ts (λ a zs. (ys : List Stmt) × (zs ≡ found ++ ys) × AreStmts s a ys)
   unfolding stmts_from
-  stmts_says zero found ts = refused_says ts _
+  stmts_says zero found ts = refused_says ts _ ([], found, ([], sym (append-nil found), AreStmts.no_statement))
   stmts_says (suc j) found ts = if_says (ends_section ts) (Ok (found, ts)) _ ts _ (λ yes. ok_says found ts _ ([], sym (append-nil found), AreStmts.no_statement))
       (λ other. bind_says (rec ts) _ ts (λ a v. IsStmt s 0 a v) _ (any_says ts) (λ a v r g. weaker (stmts_from s n rec j (found ++ v ∷ []) r) r _ _ (λ b zs q. (v ∷ q.0, q.1 ∙ append_assoc found (v ∷ []) q.0, AreStmts.statements a b v q.0 g q.2)) (stmts_says j (found ++ v ∷ []) r)))
 
@@ -193,7 +199,7 @@ module _ (s : TypeNames) (n : ℕ) (rec : Parser Stmt) (sound : SoundS s rec) wh
 
   sections_says : (j : ℕ) (found : List Section) (ts : List Lexeme) → Says (sections_from s n rec j found ts) ts (λ a zs. (ys : List Section) × (zs ≡ found ++ ys) × AreClosed s a ys)
   unfolding sections_from
-  sections_says zero found ts = refused_says ts _
+  sections_says zero found ts = let close = lexeme_of (k.Mark p.RightBrace) in refused_says ts _ (close ∷ [], found, ([], sym (append-nil found), record { inner = []; close = close; all_is = refl; are = AreSections.no_section; close_is = refl }))
   sections_says (suc j) found [] = bind_says (section s n rec []) _ [] IsSection _ (section_says []) (λ a v r h. weaker _ r _ _ (λ b zs q. more_section found a v b zs h q) (sections_says j (found ++ v ∷ []) r))
   sections_says (suc j) found (t ∷ ts) = if_says (is_mark p.RightBrace t.kind) (Ok (found, ts)) _ (t ∷ ts) _
       (λ yes. token_says (Ok (found, ts)) t ts _ (ok_says found ts _ ([], sym (append-nil found), record { inner = []; close = t; all_is = refl; are = AreSections.no_section; close_is = mark_is p.RightBrace t.kind yes })))
@@ -284,6 +290,6 @@ module _ (s : TypeNames) (n : ℕ) (rec : Parser Stmt) (sound : SoundS s rec) wh
 
 pub sound_stmt : (s : TypeNames) (n : ℕ) → SoundS s (stmt s n)
 unfolding stmt
-sound_stmt s zero ts = refused_r ts _
+sound_stmt s zero ts = let end = lexeme_of (k.Mark p.Semicolon) in refused_r ts _ (end ∷ [], u.Empty, IsStmt.empty end refl)
 sound_stmt s (suc n) [] = value_says s (suc n) (stmt s n) (sound_stmt s n) []
 sound_stmt s (suc n) (t ∷ ts) = stmt_says s (suc n) (stmt s n) (sound_stmt s n) t.kind t ts refl

@@ -1,10 +1,11 @@
 -- Units that are read are in the grammar, and so a token list has at most one reading.
-use Rattle.std.proofs.Common.{◌≡◌, ℕ, zero, suc, ◌≤◌, cond, List, [], ◌∷◌, ◌++◌, length, Option, Some, None, Result, Ok, Err, refl, sym, ap, ◌∙◌, subst, append_assoc, append-nil, length-append, arith}
+use Rattle.std.proofs.Common.{◌≡◌, ℕ, zero, suc, ◌≤◌, false, not, cond, List, [], ◌∷◌, ◌++◌, length, Option, Some, None, Result, Ok, Err, refl, sym, ap, ◌∙◌, subst, append_assoc, append-nil, length-append, arith}
 use Rattle.c_lexer.specs.declared.token.TokenKind.{TokenKind}
 use Rattle.c_lexer.specs.declared.token.TokenKind.TheVariants as k
 use Rattle.c_lexer.specs.declared.token.Keyword.TheVariants as w
 use Rattle.c_lexer.specs.declared.token.Punct.TheVariants as p
 use Rattle.c_lexer.specs.Pieces.{Lexeme, Toks}
+use Rattle.c_tree.specs.declared.expressions.Expr as e
 use Rattle.c_tree.specs.declared.types.TypeNode.{TypeNode}
 use Rattle.c_tree.specs.declared.types.Declaration.{Declaration}
 use Rattle.c_tree.specs.declared.statements.Stmt.{Stmt}
@@ -33,8 +34,9 @@ use Rattle.c_grammar.specs.ParseSpecifiers.{declaration, braced_list_from, speci
 use Rattle.c_grammar.specs.ParseStatements.{items_from, stmt}
 use Rattle.c_grammar.specs.ParseUnits.{init_list, init_value, init, typedefs_from, typedefs, object_by, object_named, objects_from, objects_behind, body_behind, objects_named, objects_by, behind_type, behind_storage, external_at, external, externals_behind, externals_from, unit_of, unit}
 use Rattle.c_grammar.specs.Units as units
-use Rattle.c_grammar.proofs.Outcomes.{mark_is}
-use Rattle.c_grammar.proofs.Says.{Says, ok_says, refused_says, bind_says, if_says, token_says, done_says, expect_says, after_says, weaker}
+use Rattle.c_grammar.proofs.Outcomes.{no_true, mark_is}
+use Rattle.c_grammar.proofs.Says.{Viable, Says, some_of, ok_says, refused_says, bind_says, if_says, token_says, done_says, expect_says, after_says, weaker}
+use Rattle.c_grammar.proofs.Instances.{number, some_number, a_name, a_name_is, no_type_name, nameless_may}
 use Rattle.c_grammar.proofs.SoundExpr.{two_wanted, sound_expr, sound_declarator}
 use Rattle.c_grammar.proofs.SoundSpecifiers.{declaration_says, braced_says, sound_specifier}
 use Rattle.c_grammar.proofs.SoundStmt.{items_says, sound_stmt}
@@ -53,7 +55,7 @@ init_list_says s n rec l ts h lk = bind_says (braced_list_from rec (length ts) [
 
 sound_init : (s : TypeNames) (n : ℕ) (ts : List Lexeme) → Says (init s n ts) ts (λ a v. IsInit s a v)
 unfolding init
-sound_init s zero ts = refused_says ts _
+sound_init s zero ts = refused_says ts _ (number ∷ [], i.Value (e.Number 0 []), IsInit.value (number ∷ []) (e.Number 0 []) (some_number s 2 (omega arith)))
 sound_init s (suc n) [] = init_value_says s (suc n) (init s n) []
 sound_init s (suc n) (l ∷ ts) = if_says (is_mark p.LeftBrace l.kind) _ _ (l ∷ ts) _ (λ yes. token_says _ l ts _ (init_list_says s (suc n) (init s n) l ts (sound_init s n) (mark_is p.LeftBrace l.kind yes))) (λ other. init_value_says s (suc n) (init s n) (l ∷ ts))
 
@@ -72,8 +74,10 @@ typedef_after s ty found a (t ∷ r) d go h g = if_says (is_mark p.Comma t.kind)
 
 typedefs_says : (n j : ℕ) (s : TypeNames) (ty : TypeNode) (found : List External) (ts : List Lexeme) → Says (typedefs_from s n j ty found ts) ts (Typedefs s ty found)
 unfolding typedefs_from
-typedefs_says n zero s ty found ts = refused_says ts _
-typedefs_says n (suc j) s ty found ts = bind_says (declaration s n nm.Required ty ts) _ ts (λ a d. IsDeclared s nm.Required ty a d) _ (declaration_says s n nm.Required ty ts) (λ a d r h.
+typedefs_says n zero s ty found ts =
+    let q = some_of (declaration s n nm.Required ty []) [] (λ a d. IsDeclared s nm.Required ty a d) (declaration_says s n nm.Required ty [] refl) in
+    refused_says ts _ (q.0, (found ++ x.Typedef q.1 ∷ [], with_type s q.1.name), (x.Typedef q.1 ∷ [], refl, AreTypedefs.one q.0 q.1 q.2))
+typedefs_says n (suc j) s ty found ts = bind_says (declaration s n nm.Required ty ts) _ ts (λ a d. IsDeclared s nm.Required ty a d) _ (declaration_says s n nm.Required ty ts refl) (λ a d r h.
     typedef_after s ty found a r d (typedefs_from (with_type s d.name) n j (bare ty) (found ++ x.Typedef d ∷ [])) h (λ ts. typedefs_says n j (with_type s d.name) (bare ty) (found ++ x.Typedef d ∷ []) ts))
 
 -- ---- objects
@@ -96,11 +100,14 @@ module _ (s : TypeNames) (n : ℕ) (storage : Option Storage) where
 
   named_says : (ty : TypeNode) (o' : Option DeclaredName) (shapes : List Shape) (a r : List Lexeme) → IsDeclarator s nm.Required 0 a (record { name = o'; shapes = shapes }) → Says (object_named s n storage ty o' shapes r) r (λ b v. IsObject s storage ty (a ++ b) v)
   named_says ty (Some u) shapes a r h = object_says ty u shapes a r h
-  named_says ty None shapes a r h = refused_says r _
+  named_says ty None shapes a r h = no_true (nameless_may s h refl)
 
   objects_says : (j : ℕ) (ty : TypeNode) (found : List External) (ts : List Lexeme) → Says (objects_from s n storage j ty found ts) ts (λ a zs. (vs : List External) × (zs ≡ found ++ vs) × AreObjects s storage ty a vs)
   unfolding objects_from
-  objects_says zero ty found ts = refused_says ts _
+  objects_says zero ty found ts =
+      let u : DeclaredName = record { at = (a_name s).at; name = (a_name s).spelling } in
+      let v : External = external_of false (declaration_of ty u []) storage None in
+      refused_says ts _ (a_name s ∷ [], found ++ v ∷ [], (v ∷ [], refl, AreObjects.one (a_name s ∷ []) v (IsObject.plain (a_name s ∷ []) u [] (IsDeclarator.own_name (a_name s) (a_name_is s) (ap not (no_type_name s))))))
   objects_says (suc j) ty found ts = bind_says (declarator s n nm.Required ts) _ ts (λ a d. IsDeclarator s nm.Required 0 a d) _ (sound_declarator s n nm.Required ts) (λ a d r h.
       bind_says (object_named s n storage ty d.name d.shapes r) _ r (λ b v. IsObject s storage ty (a ++ b) v) _ (named_says ty d.name d.shapes a r h) (λ b v z g.
       weaker _ z _ _ (λ c zs q. subst (λ y. (vs : List External) × (zs ≡ found ++ vs) × AreObjects s storage ty y vs) (append_assoc a b c) q)
@@ -131,7 +138,7 @@ module _ (s : TypeNames) (n : ℕ) (storage : Option Storage) where
   first_says ty d (Some u) a (l ∷ r) h = if_says (is_mark p.LeftBrace l.kind) _ _ (l ∷ r) _
       (λ yes. token_says _ l r _ (body_says ty (declaration_of ty u d.shapes) a l r (IsDeclared.of a u d.shapes h) (mark_is p.LeftBrace l.kind yes)))
       (λ other. rest_says ty u d.shapes a (l ∷ r) h)
-  first_says ty d None a r h = refused_says r _
+  first_says ty d None a r h = no_true (nameless_may s h refl)
 
   declared_says : (ty : TypeNode) (ts : List Lexeme) → Says (and_then (declarator s n nm.Required ts) (λ d. objects_by s n storage ty d d.name)) ts (λ a vs. IsBehind s storage ty a vs)
   declared_says ty ts = bind_says (declarator s n nm.Required ts) _ ts (λ a d. IsDeclarator s nm.Required 0 a d) _ (sound_declarator s n nm.Required ts) (λ a d r h. first_says ty d d.name a r h)
@@ -189,36 +196,47 @@ externals_sound (suc j) s found ys (t ∷ ts) le e =
     let o' = externals_sound j q.0.0.1 (found ++ q.0.0.0) ys q.0.1 (omega arith) q.2 in
     (q.0.0.0 ++ o'.0, o'.1 ∙ append_assoc found q.0.0.0 o'.0, subst (λ z. AreExternals s z (q.0.0.0 ++ o'.0)) (sym h.1) (AreExternals.more h.0 q.0.1 q.0.0.0 o'.0 q.0.0.1 h.2 o'.2))
 
--- the same of a refusal
-stops_split : (o' : ParseOutcome (List External × TypeNames)) (go : List External × TypeNames → List Lexeme → Result (List External) (List Lexeme)) (ts r : List Lexeme) → ((q : List Lexeme) → o' ≡ Err q → IsEnd q ts)
-    → ((q : (List External × TypeNames) × List Lexeme) → o' ≡ Ok q → go q.0 q.1 ≡ Err r → IsEnd r ts) → externals_behind o' go ≡ Err r → IsEnd r ts
-stops_split (Ok q) go ts r f g e = g q refl e
-stops_split (Err z) go ts r f g e = subst (λ w. IsEnd w ts) (same_end e) (f z refl)
-  where
-    same_end : {z r : List Lexeme} → ◌≡◌ {A = Result (List External) (List Lexeme)} (Err z) (Err r) → z ≡ r
-    same_end e = cc
+same_rest : {A : Type 0} {z r : List Lexeme} → ◌≡◌ {A = Result A (List Lexeme)} (Err z) (Err r) → z ≡ r
+same_rest e = cc
 
-externals_end : (j : ℕ) (s : TypeNames) (found : List External) (ts r : List Lexeme) → externals_from j s found ts ≡ Err r → IsEnd r ts
+-- the same of a refusal: what goes before can be completed
+abbrev Begins : TypeNames → List Lexeme → List Lexeme → Type 0
+Begins s r ts = Viable r ts (λ a vs. AreExternals s a vs)
+
+stops_split : (o' : ParseOutcome (List External × TypeNames)) (go : List External × TypeNames → List Lexeme → Result (List External) (List Lexeme)) (r : List Lexeme) (Z : Type 0) → (o' ≡ Err r → Z)
+    → ((q : (List External × TypeNames) × List Lexeme) → o' ≡ Ok q → go q.0 q.1 ≡ Err r → Z) → externals_behind o' go ≡ Err r → Z
+stops_split (Ok q) go r Z f g e = g q refl e
+stops_split (Err z) go r Z f g e = f (ap (λ z. Err z) (same_rest e))
+
+externals_begin : (j : ℕ) (s : TypeNames) (found : List External) (ts r : List Lexeme) → externals_from j s found ts ≡ Err r → Begins s r ts
 unfolding externals_from
-externals_end zero s found ts r e = cc
-externals_end (suc j) s found [] r e = cc
-externals_end (suc j) s found (t ∷ ts) r e =
+externals_begin zero s found ts r e = cc
+externals_begin (suc j) s found [] r e = cc
+externals_begin (suc j) s found (t ∷ ts) r e =
     let says = external_says s (length (t ∷ ts)) t ts in
-    stops_split (external s (length (t ∷ ts)) (t ∷ ts)) (λ q r. externals_from j q.1 (found ++ q.0) r) (t ∷ ts) r says.stops (λ q is more.
+    stops_split (external s (length (t ∷ ts)) (t ∷ ts)) (λ q r. externals_from j q.1 (found ++ q.0) r) r (Begins s r (t ∷ ts))
+    (λ is.
+    let u = says.stops r is in
+    (u.0, u.1, u.2, u.3.0 ++ [], subst (λ a. AreExternals s a (u.3.0 ++ [])) (append-nil (u.0 ++ u.2)) (AreExternals.more (u.0 ++ u.2) [] u.3.0 [] u.3.1 u.4 AreExternals.none)))
+    (λ q is more.
     let u = says.by q is in
-    let v = externals_end j q.0.1 (found ++ q.0.0) q.1 r more in
-    (u.0 ++ v.0, u.1 ∙ ap (λ z. u.0 ++ z) v.1 ∙ sym (append_assoc u.0 v.0 r))) e
+    let v = externals_begin j q.0.1 (found ++ q.0.0) q.1 r more in
+    (u.0 ++ v.0, u.1 ∙ ap (λ z. u.0 ++ z) v.1 ∙ sym (append_assoc u.0 v.0 r), v.2, q.0.0 ++ v.3,
+     subst (λ a. AreExternals s a (q.0.0 ++ v.3)) (sym (append_assoc u.0 v.0 v.2)) (AreExternals.more u.0 (v.0 ++ v.2) q.0.0 v.3 q.0.1 u.2 v.4))) e
 
-unit_end : (size : ℕ) (o' : Result (List External) (List Lexeme)) (tokens r : List Lexeme) → ((q : List Lexeme) → o' ≡ Err q → IsEnd q tokens) → unit_of size o' ≡ Err r → IsEnd r tokens
-unit_end size (Ok vs) tokens r f e = cc
-unit_end size (Err z) tokens r f e = subst (λ w. IsEnd w tokens) (same_end e) (f z refl)
-  where
-    same_end : {z r : List Lexeme} → ◌≡◌ {A = Result TranslationUnit (List Lexeme)} (Err z) (Err r) → z ≡ r
-    same_end e = cc
+unit_stops : (size : ℕ) (o' : Result (List External) (List Lexeme)) (r : List Lexeme) → unit_of size o' ≡ Err r → o' ≡ Err r
+unit_stops size (Ok vs) r e = cc
+unit_stops size (Err z) r e = ap (λ z. Err z) (same_rest e)
+
+-- What stands before the refused token begins a list with a reading, of a text of any length.
+pub refused_begins : (toks : Toks) (r : List Lexeme) (size : ℕ) → unit toks ≡ Err r → Viable r toks.items (λ a tree. units.Reads (record { items = a; size = size }) tree)
+refused_begins toks r size e =
+    let v = externals_begin (length toks.items) [] [] toks.items r (unit_stops toks.size (externals_from (length toks.items) [] [] toks.items) r e) in
+    (v.0, v.1, v.2, record { externals = v.3; length = size }, record { externals = v.4; length = refl })
 
 -- The tokens from the refused one on are the last of them.
 pub refused_end : (toks : Toks) (r : List Lexeme) → unit toks ≡ Err r → IsEnd r toks.items
-refused_end toks r e = unit_end toks.size (externals_from (length toks.items) [] [] toks.items) toks.items r (λ q. externals_end (length toks.items) [] [] toks.items q) e
+refused_end toks r e = let v = refused_begins toks r 0 e in (v.0, v.1)
 
 same_tree : {t u : TranslationUnit} → ◌≡◌ {A = Result TranslationUnit (List Lexeme)} (Ok t) (Ok u) → t ≡ u
 same_tree e = cc

@@ -12,3 +12,4 @@ pub mod Units
 pub mod ParseSpecifiers
 pub mod ParseStatements
 pub mod ParseUnits
+pub mod Refused

@@ -1,6 +1,6 @@
 //! The laws of the grammar, on functions that do nothing.
 
-ghost use Rattle.std.specs.Prelude.{◌≡◌, ◌≤◌, ◌*◌, List, ℕ, length};
+ghost use Rattle.std.specs.Prelude.{◌≡◌, ◌≤◌, ◌*◌, ◌++◌, List, ℕ, length};
 ghost use Rattle.c_lexer.specs.Pieces.{Lexeme, Toks};
 ghost use Rattle.c_tree.specs.declared.declarations.TranslationUnit.{TranslationUnit};
 ghost use Rattle.c_tree.specs.Nodes.{unit_nodes};
@@ -8,6 +8,7 @@ ghost use Rattle.c_grammar.specs.Levels as grammar;
 ghost use Rattle.c_grammar.specs.declared.levels.TheConstants as code;
 ghost use Rattle.c_grammar.specs.Units.{Reads};
 ghost use Rattle.c_grammar.specs.Parser.{IsEnd};
+ghost use Rattle.c_grammar.specs.Refused.{CanGoOn};
 ghost use Rattle.c_grammar.specs.ParseUnits.{unit};
 
 /// A list of tokens has at most one reading.
@@ -29,6 +30,12 @@ pub fn nodes_are_few()
 /// What the function `unit` refuses are the last of the tokens, from the refused one on.
 pub fn refused_tokens_are_the_last()
     ensures { (toks : Toks) (rest : List Lexeme) → unit toks ≡ Err rest → IsEnd rest toks.items }
+{}
+
+/// What stands before the token that `unit` refuses begins a list with a reading.
+#[tactic(auto, using(crate::proofs::Exact::fronts_go_on))]
+pub fn fronts_go_on()
+    ensures { (toks : Toks) (front rest : List Lexeme) → unit toks ≡ Err rest → toks.items ≡ front ++ rest → CanGoOn front }
 {}
 
 /// The levels that parsers name are those of the grammar.
