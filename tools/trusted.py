@@ -553,9 +553,9 @@ def page(repository, roots, title):
     out = [f"# {title}", ""]
     names = ", ".join(f"`{item.crate}::{item.name}`" for item in roots)
     out += [
-        f"`tools/trusted.py` writes this page. It follows the names in the contract of {names}: these definitions say what",
-        "the contract claims, so a reader has to believe that they say what they are meant to. All else in the",
-        "repository is checked by the toolchain, or claims nothing.",
+        f"Made by `tools/trusted.py`, which follows the names in the contract of {names}. These definitions say",
+        "what the contract claims, so a reader has to believe that they say what they are meant to. All else in the",
+        "repository is checked by the toolchain, or is nothing that this contract rests on.",
         "",
     ]
     table, total, files = [], 0, 0
@@ -590,7 +590,7 @@ def page(repository, roots, title):
     out += [f"## The contract and the code's own types: {lines} and {total} lines", "",
             f"The contract itself is {lines} lines of "
             + ", ".join(sorted({f"`{repository.code[i.crate, i.module].path.relative_to(TOP)}`" for i in roots}))
-            + ". It and the definitions speak of these types and traits: of their", "fields, their invariants, and what contracts see of them.", "",
+            + ". It and the definitions speak of these types,", "traits and constants: of their fields, their invariants, and what contracts see of them.", "",
             row(["File", "Lines", "Items"]), "|---|---|---|", *table, ""]
     out += ["## Words of the libraries", "",
             "The definitions are written in these words of the toolchain's libraries, which are believed with it.", ""]
