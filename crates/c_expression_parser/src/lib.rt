@@ -14,8 +14,6 @@ mod parts;
 mod scope;
 mod shapes;
 mod specifiers;
-#[cfg(test)]
-mod tests;
 
 pub use base::SpecifierType;
 pub use braces::{append, declaration, specifier};

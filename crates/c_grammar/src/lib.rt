@@ -14,6 +14,3 @@ pub use classes::{
 };
 pub use shapes::{Declarator, DeclaredName, Naming, Shape, SpecifierStart};
 pub use word_set::{BaseWord, Sign, WordSet};
-
-#[cfg(test)]
-mod tests;

@@ -10,8 +10,6 @@ pub mod laws;
 mod nesting;
 mod parsing;
 mod statements;
-#[cfg(test)]
-mod tests;
 mod tokens;
 mod units;
 

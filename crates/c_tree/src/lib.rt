@@ -25,6 +25,3 @@ pub use print_units::tree_text;
 pub use seq::Seq;
 pub use statements::{ForFirst, Label, Local, Section, Stmt};
 pub use types::{BasicType, Constant, Declaration, Parameter, TypeName, TypeNode};
-
-#[cfg(test)]
-mod tests;

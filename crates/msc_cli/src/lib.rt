@@ -14,6 +14,4 @@ pub mod read_small;
 pub mod request;
 pub mod run;
 pub mod small_image;
-#[cfg(test)]
-mod tests;
 pub mod top;

@@ -97,6 +97,3 @@ fn expect(text: &mut Cursor<'_>, word: &[u8]) -> Result<(), ReadFault>
         Err(ReadFault::Form)
     }
 }
-
-#[cfg(test)]
-mod tests;

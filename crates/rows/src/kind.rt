@@ -1,6 +1,6 @@
 //! The kinds of rows, each with its file.
 
-use crate::{encodings, memory, runs, steps, tokens};
+use crate::{calls, encodings, memory, outcomes, places, runs, steps, tokens, trees};
 use anyhow::Result;
 use mem_model::memory::Mem;
 use std::alloc::Global;
@@ -15,10 +15,17 @@ pub enum Kind {
     Steps,
     Runs,
     Memory,
+    Trees,
+    Places,
+    Nesting,
+    Depth,
+    Outcomes,
+    Programs,
+    Calls,
 }
 
 /// The kinds in the order in which they are checked.
-pub static KINDS: [Kind; 7] = [
+pub static KINDS: [Kind; 14] = [
     Kind::Tokens,
     Kind::TokenKinds,
     Kind::MarkPairs,
@@ -26,6 +33,13 @@ pub static KINDS: [Kind; 7] = [
     Kind::Steps,
     Kind::Runs,
     Kind::Memory,
+    Kind::Trees,
+    Kind::Places,
+    Kind::Nesting,
+    Kind::Depth,
+    Kind::Outcomes,
+    Kind::Programs,
+    Kind::Calls,
 ];
 
 impl Kind {
@@ -39,6 +53,13 @@ impl Kind {
             Kind::Steps => "steps.rows",
             Kind::Runs => "runs.rows",
             Kind::Memory => "memory.rows",
+            Kind::Trees => "trees.rows",
+            Kind::Places => "places.rows",
+            Kind::Nesting => "nesting.rows",
+            Kind::Depth => "depth.rows",
+            Kind::Outcomes => "outcomes.rows",
+            Kind::Programs => "programs.rows",
+            Kind::Calls => "calls.rows",
         }
     }
 
@@ -51,6 +72,13 @@ impl Kind {
             Kind::Steps => steps::answer(alloc, given),
             Kind::Runs => runs::answer(alloc, given),
             Kind::Memory => memory::answer(alloc, mem, given),
+            Kind::Trees => trees::tree(alloc, given),
+            Kind::Places => places::answer(alloc, given),
+            Kind::Nesting => trees::nesting(alloc, given),
+            Kind::Depth => trees::is_read(alloc, given),
+            Kind::Outcomes => outcomes::answer(alloc, given),
+            Kind::Programs => calls::run(alloc, given),
+            Kind::Calls => calls::answer(alloc, given),
         }
     }
 }

@@ -3,15 +3,19 @@
 //! The form of the files is described in `docs/rows.md`, and that of each kind of row at the head of its file.
 #![tactic(auto)]
 
+mod calls;
 mod encodings;
 mod escape;
 mod kind;
 mod memory;
 mod number;
+mod outcomes;
+mod places;
 mod runs;
 mod sheet;
 mod steps;
 mod tokens;
+mod trees;
 
 use crate::escape::{escape, unescape};
 use crate::kind::{KINDS, Kind};

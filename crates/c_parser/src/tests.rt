@@ -1,4 +1,0 @@
-//! Texts with what they are answered, by hand.
-
-mod nesting;
-mod parsing;

@@ -1,0 +1,83 @@
+//! The lines and the statuses of outcomes.
+
+use crate::calls::push_part;
+use crate::number::number;
+use anyhow::{Result, bail};
+use bk_io::memory::MemSink;
+use msc_cli::outcome::{Outcome, SourceFault, Which, exit_code, put_line};
+use std::alloc::Global;
+
+/// The refusal with this name, at an offset where it has one.
+fn refusal(name: &str, at: &str) -> Result<SourceFault> {
+    let at = u32::try_from(number(at)?)?;
+    Ok(match name {
+        "Form" => SourceFault::Form,
+        "Lex" => SourceFault::Lex { at },
+        "Syntax" => SourceFault::Syntax { at },
+        _ => bail!("no refusal: {name:?}"),
+    })
+}
+
+/// The limit with this name.
+fn limit(name: &str) -> Result<Which> {
+    Ok(match name {
+        "Text" => Which::Text,
+        "Nesting" => Which::Nesting,
+        _ => bail!("no limit: {name:?}"),
+    })
+}
+
+/// The outcome with this name and no more.
+fn plain_outcome(name: &str) -> Result<Outcome> {
+    Ok(match name {
+        "Built" => Outcome::Built,
+        "Printed" => Outcome::Printed,
+        "Usage" => Outcome::Usage,
+        "FileFault" => Outcome::FileFault,
+        "InputFault" => Outcome::InputFault,
+        "WriteFault" => Outcome::WriteFault,
+        "NoMemory" => Outcome::NoMemory,
+        _ => bail!("no outcome: {name:?}"),
+    })
+}
+
+/// The outcome with this name and number.
+fn numbered_outcome(name: &str, n: u64) -> Result<Outcome> {
+    Ok(match name {
+        "Ran" => Outcome::Ran {
+            status: u8::try_from(n)?,
+        },
+        "Trapped" => Outcome::Trapped { code: n },
+        "Stuck" => Outcome::Stuck { pc: n },
+        "Budget" => Outcome::Budget { steps: n },
+        "BadImage" => Outcome::BadImage { at: n },
+        _ => bail!("no outcome: {name:?}"),
+    })
+}
+
+fn outcome(words: &[&str]) -> Result<Outcome> {
+    match words {
+        [name] => plain_outcome(name),
+        ["Refused", name] => Ok(Outcome::Refused(refusal(name, "0")?)),
+        ["Refused", name, at] => Ok(Outcome::Refused(refusal(name, at)?)),
+        ["Limit", name, n] => Ok(Outcome::Limit {
+            which: limit(name)?,
+            counted: number(n)?,
+        }),
+        [name, n] => numbered_outcome(name, number(n)?),
+        _ => bail!("no outcome"),
+    }
+}
+
+/// The status and the line of an outcome.
+pub fn answer(alloc: Global, given: &str) -> Result<Vec<u8>> {
+    let words: Vec<&str> = given.split(' ').collect(alloc)?;
+    let outcome = outcome(words.as_slice())?;
+    let status = exit_code(&outcome);
+    let mut line = MemSink::new(alloc, 256, Vec::new(alloc))?;
+    put_line(&mut line, &outcome);
+    let mut shown = format!(in alloc; "status {status}")?.into_bytes();
+    push_part(&mut shown, "err", line.taken())?;
+    shown.push(b'\n')?;
+    Ok(shown)
+}

@@ -1,0 +1,51 @@
+//! Texts with their trees, and with how deep they nest.
+
+use crate::escape::unescape;
+use anyhow::{Result, ensure};
+use c_parser::{ParseFault, nest, parse};
+use c_tree::tree_text;
+use std::alloc::{AllocError, Global};
+
+/// The most bytes of a text.
+pub const MOST_TEXT: usize = 4_194_304;
+
+/// A line for what refused a text.
+pub fn refused(alloc: Global, fault: ParseFault) -> Result<Vec<u8>, AllocError> {
+    let shown = match fault {
+        ParseFault::Lex { at } => format!(in alloc; "Lex {at}\n")?,
+        ParseFault::Nesting { counted } => format!(in alloc; "Nesting {counted}\n")?,
+        ParseFault::Syntax { at } => format!(in alloc; "Syntax {at}\n")?,
+        ParseFault::NoMemory => "NoMemory\n".to_string(alloc)?,
+    };
+    Ok(shown.into_bytes())
+}
+
+/// The lines of a text's tree, or why it has none.
+pub fn tree(alloc: Global, given: &str) -> Result<Vec<u8>> {
+    let text = unescape(alloc, given)?;
+    ensure!(text.len() <= MOST_TEXT, "a text that is too long");
+    Ok(match parse(alloc, text.as_slice()) {
+        Ok(unit) => tree_text(alloc, &unit)?,
+        Err(fault) => refused(alloc, fault)?,
+    })
+}
+
+/// Whether a text has a tree, or why it has none.
+pub fn is_read(alloc: Global, given: &str) -> Result<Vec<u8>> {
+    let text = unescape(alloc, given)?;
+    ensure!(text.len() <= MOST_TEXT, "a text that is too long");
+    Ok(match parse(alloc, text.as_slice()) {
+        Ok(_unit) => "read\n".to_string(alloc)?.into_bytes(),
+        Err(fault) => refused(alloc, fault)?,
+    })
+}
+
+/// How deep a text nests.
+pub fn nesting(alloc: Global, given: &str) -> Result<Vec<u8>> {
+    let text = unescape(alloc, given)?;
+    ensure!(text.len() <= MOST_TEXT, "a text that is too long");
+    Ok(match nest(alloc, text.as_slice()) {
+        Ok(counted) => format!(in alloc; "{counted}\n")?.into_bytes(),
+        Err(fault) => refused(alloc, fault)?,
+    })
+}
