@@ -22,3 +22,4 @@ pub mod SoundUnits
 pub mod Few
 pub mod FewUnits
 pub mod Exact
+pub mod Local

@@ -250,7 +250,7 @@ module _ (s : TypeNames) where
   spec_begins (IsSpecifier.struct a t b l e r d at name ds h kind g lk o rk v) = consts_begin s h t (b ++ (l ∷ e ++ r ∷ d)) (omega arith, λ u. ap (λ kd. begins_type_by (specifier_of kd) (is_type s t)) kind)
   spec_begins (IsSpecifier.enum a t b l e r d at name xs h kind g lk o rk v) = consts_begin s h t (b ++ (l ∷ e ++ r ∷ d)) (omega arith, λ u. ap (λ kd. begins_type_by (specifier_of kd) (is_type s t)) kind)
 
-  member_begins : {a : List Lexeme} {ds : List Declaration} → IsMember s a ds → BeginsType s a
+  pub member_begins : {a : List Lexeme} {ds : List Declaration} → IsMember s a ds → BeginsType s a
   member_begins (IsMember.member a b t ty ds h g kind) = let o = spec_begins h in (omega (arith, length-append a (b ++ t ∷ []), o.0), λ r. ap (begins_type s) (append_assoc a (b ++ t ∷ []) r) ∙ o.1 ((b ++ t ∷ []) ++ r))
 
   members_begin : {a : List Lexeme} {ds : List Declaration} → AreMembers s a ds → BeginsType s a

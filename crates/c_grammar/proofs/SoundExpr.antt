@@ -265,8 +265,14 @@ module _ (s : TypeNames) where
         ok_says (x, 19) v _ (record { wanted = omega arith; is = IsExpr.brackets {m = 19} l a r x (omega arith) lk h rk })))
 
     some_brackets : (least : ℕ) (l : Lexeme) → least ≤ 17 → l.kind ≡ k.Mark p.LeftParen → Instance (λ b q. IsOperand s least (l ∷ b) q)
-    some_brackets least l cap lk = (number ∷ lexeme_of (k.Mark p.RightParen) ∷ [], (e.Number 0 [], 19), record { wanted = omega arith;
-      is = IsExpr.brackets {m = 19} l (number ∷ []) (lexeme_of (k.Mark p.RightParen)) (e.Number 0 []) (omega arith) lk (whole_number s) refl })
+    some_brackets least l cap lk = (
+      number ∷ lexeme_of (k.Mark p.RightParen) ∷ [],
+      (e.Number 0 [], 19),
+      record {
+        wanted = omega arith;
+        is = IsExpr.brackets {m = 19} l (number ∷ []) (lexeme_of (k.Mark p.RightParen)) (e.Number 0 []) (omega arith) lk (whole_number s) refl;
+      },
+    )
 
     bracketed_says : (least : ℕ) (l : Lexeme) (ts : List Lexeme) → least ≤ 17 → l.kind ≡ k.Mark p.LeftParen → Says (bracket_operand s rec dec least l.at ts) ts (λ b q. IsOperand s least (l ∷ b) q)
     bracketed_says least l ts cap lk = if_says (begins_type s ts) _ _ ts _

@@ -110,7 +110,7 @@ is_specifier s (From.tail a u r' ty n c (IsBraced.struct b l e r d at name ds ki
 is_specifier s (From.tail a u r' ty n c (IsBraced.enum b l e r d at name xs kind g lk h rk o)) = IsSpecifier.enum a u b l e r d at name xs c kind g lk h rk o
 
 module _ (s : TypeNames) (n : ℕ) (spec : Parser TypeNode) (sound : (ts : List Lexeme) → Says (spec ts) ts (λ a ty. IsSpecifier s a ty)) where
-  member_says : (ts : List Lexeme) → Says (member s n spec ts) ts (λ a ds. IsMember s a ds)
+  pub member_says : (ts : List Lexeme) → Says (member s n spec ts) ts (λ a ds. IsMember s a ds)
   unfolding member
   member_says ts = bind_says (spec ts) _ ts (λ a ty. IsSpecifier s a ty) _ (sound ts) (λ a ty r h.
       bind_says (declarators_from s n (length r) ty [] r) _ r _ _ (declared_says s n (length r) ty [] r) (λ b ds u q. expect_says p.Semicolon _ u _ (λ t v kind.

@@ -220,9 +220,13 @@ externals_begin (suc j) s found (t ∷ ts) r e =
     (u.0, u.1, u.2, u.3.0 ++ [], subst (λ a. AreExternals s a (u.3.0 ++ [])) (append-nil (u.0 ++ u.2)) (AreExternals.more (u.0 ++ u.2) [] u.3.0 [] u.3.1 u.4 AreExternals.none)))
     (λ q is more.
     let u = says.by q is in
-    let v = externals_begin j q.0.1 (found ++ q.0.0) q.1 r more in
-    (u.0 ++ v.0, u.1 ∙ ap (λ z. u.0 ++ z) v.1 ∙ sym (append_assoc u.0 v.0 r), v.2, q.0.0 ++ v.3,
-     subst (λ a. AreExternals s a (q.0.0 ++ v.3)) (sym (append_assoc u.0 v.0 v.2)) (AreExternals.more u.0 (v.0 ++ v.2) q.0.0 v.3 q.0.1 u.2 v.4))) e
+    let v = externals_begin j q.0.1 (found ++ q.0.0) q.1 r more in (
+      u.0 ++ v.0,
+      u.1 ∙ ap (λ z. u.0 ++ z) v.1 ∙ sym (append_assoc u.0 v.0 r),
+      v.2,
+      q.0.0 ++ v.3,
+      subst (λ a. AreExternals s a (q.0.0 ++ v.3)) (sym (append_assoc u.0 v.0 v.2)) (AreExternals.more u.0 (v.0 ++ v.2) q.0.0 v.3 q.0.1 u.2 v.4),
+    )) e
 
 unit_stops : (size : ℕ) (o' : Result (List External) (List Lexeme)) (r : List Lexeme) → unit_of size o' ≡ Err r → o' ≡ Err r
 unit_stops size (Ok vs) r e = cc
