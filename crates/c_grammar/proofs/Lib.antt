@@ -21,5 +21,6 @@ pub mod ReadUnits
 pub mod SoundUnits
 pub mod Few
 pub mod FewUnits
-pub mod Exact
 pub mod Local
+pub mod LocalUnits
+pub mod Exact

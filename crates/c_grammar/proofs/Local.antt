@@ -71,8 +71,8 @@ module _ (t : Lexeme) (left right : List Lexeme) where
     pub stops : (u : List Lexeme) → o ≡ Err u → Goes k b c u (λ v. o' ≡ Err v)
 
   -- of lists within these bounds the two functions read the same
-  abbrev pub Local : {A : Type 0} → ℕ → ℕ → Parser A → Parser A → Type 0
-  Local n m p q = (k : Mode) (b c : ℕ) (u v : List Lexeme) → State k b c u v → b ≤ n → c ≤ m → Agrees k b c (p u) (q v)
+  abbrev pub Alike : {A : Type 0} → ℕ → ℕ → Parser A → Parser A → Type 0
+  Alike n m p q = (k : Mode) (b c : ℕ) (u v : List Lexeme) → State k b c u v → b ≤ n → c ≤ m → Agrees k b c (p u) (q v)
 
   -- ---- states
 
@@ -97,11 +97,11 @@ module _ (t : Lexeme) (left right : List Lexeme) where
   pub same_spelling : {k : Mode} {b c : ℕ} {u v : List Lexeme} → State k b c u v → spelling_at u ≡ spelling_at v
   same_spelling h = same_head spelling_at (λ x u v. refl) h
 
-  some_left : {u v : List Lexeme} → Same u v → 0 < length u
+  pub some_left : {u v : List Lexeme} → Same u v → 0 < length u
   some_left Same.here = omega arith
   some_left (Same.there x g) = omega arith
 
-  some_right : {u v : List Lexeme} → Same u v → 0 < length v
+  pub some_right : {u v : List Lexeme} → Same u v → 0 < length v
   some_right Same.here = omega arith
   some_right (Same.there x g) = omega arith
 
@@ -197,16 +197,16 @@ module _ (t : Lexeme) (left right : List Lexeme) where
     loop_local stop turn (suc j) (suc i) x k b c u v h bn cm bj ci = turn j i (loop_local stop turn j i) x k b c u v h bn cm bj ci
 
     -- the loop of as many turns as there are tokens
-    pub sized_local : ((j i : ℕ) (x : S) → Loop j i x) → (x : S) → Local n m (λ ts. f (length ts) x ts) (λ ts. g (length ts) x ts)
+    pub sized_local : ((j i : ℕ) (x : S) → Loop j i x) → (x : S) → Alike n m (λ ts. f (length ts) x ts) (λ ts. g (length ts) x ts)
     sized_local h x k b c u v st bn cm = let z = sized st in more z.less z.less' (h (length u) (length v) x k z.low z.high u v z.is (omega (arith, z.less)) (omega (arith, z.less')) z.few z.few')
 
   -- ---- the smallest parsers
 
-  pub expect_local : (n m : ℕ) (mark : Punct) → Local n m (expect mark) (expect mark)
+  pub expect_local : (n m : ℕ) (mark : Punct) → Alike n m (expect mark) (expect mark)
   unfolding expect
   expect_local n m mark k b c u v h bn cm = test_local (ap (is_mark mark) (same_kind h)) (taken_local tt tt h refl) (err_local h)
 
-  pub expect_word_local : (n m : ℕ) (word : Keyword) → Local n m (expect_word word) (expect_word word)
+  pub expect_word_local : (n m : ℕ) (word : Keyword) → Alike n m (expect_word word) (expect_word word)
   unfolding expect_word
   expect_word_local n m word k b c u v h bn cm = test_local (ap (is_word word) (same_kind h)) (taken_local tt tt h refl) (err_local h)
 
@@ -216,13 +216,13 @@ module _ (t : Lexeme) (left right : List Lexeme) where
       (λ j i more x k b c u v h bn cm bj ci. test_local (ap (is_word w.Const) (same_kind h))
       (take_local (consts j) (consts i) h (λ k u v g. more x k (b - 1) (c - 1) u v g (omega arith) (omega arith) (omega arith) (omega arith))) (ok_local tt tt h refl))
 
-  pub consts_local : (n m : ℕ) → Local n m (λ ts. consts (length ts) ts) (λ ts. consts (length ts) ts)
+  pub consts_local : (n m : ℕ) → Alike n m (λ ts. consts (length ts) ts) (λ ts. consts (length ts) ts)
   consts_local n m = sized_local n m (λ j x. consts j) (λ j x. consts j) (consts_loop n m) tt
 
-  pub behind_local : {A : Type 0} {n m : ℕ} {k : Mode} {b c : ℕ} {u v : List Lexeme} (p q : Parser A) → Local n m p q → State k b c u v → b ≤ suc n → c ≤ suc m → Agrees k b c (p (behind u)) (q (behind v))
+  pub behind_local : {A : Type 0} {n m : ℕ} {k : Mode} {b c : ℕ} {u v : List Lexeme} (p q : Parser A) → Alike n m p q → State k b c u v → b ≤ suc n → c ≤ suc m → Agrees k b c (p (behind u)) (q (behind v))
   behind_local {b = b} {c} p q h st bn cm = take_local p q st (λ k u v g. h k (b - 1) (c - 1) u v g (omega arith) (omega arith))
 
-  pub less_local : {A : Type 0} {n m n' m' : ℕ} (p q : Parser A) → n' ≤ n → m' ≤ m → Local n m p q → Local n' m' p q
+  pub less_local : {A : Type 0} {n m n' m' : ℕ} (p q : Parser A) → n' ≤ n → m' ≤ m → Alike n m p q → Alike n' m' p q
   less_local p q le le' h k b c u v st bn cm = h k b c u v st (omega arith) (omega arith)
 
   consts_behind : {k : Mode} {b c : ℕ} {u v : List Lexeme} → State k b c u v → Agrees k b c (consts (length (behind u)) (behind u)) (consts (length (behind v)) (behind v))
@@ -238,19 +238,19 @@ module _ (t : Lexeme) (left right : List Lexeme) where
 
   -- ---- specifiers without braces
 
-  tag_local : (class : Specifier) (n m : ℕ) → Local n m (tag class) (tag class)
+  tag_local : (class : Specifier) (n m : ℕ) → Alike n m (tag class) (tag class)
   unfolding tag
   tag_local class n m k b c u v h bn cm = test_local (ap is_name (same_kind h))
       (bind_local _ _ _ _ (consts_behind h) (λ x k u' v' g. ok_local _ _ g (ap (λ at. tag_type class at (spelling_at u)) (same_place h) ∙ ap (tag_type class (place v)) (same_spelling h)))) (err_local h)
 
   module _ (s : TypeNames) where
-    named_type_local : (n m : ℕ) → Local n m (named_type s) (named_type s)
+    named_type_local : (n m : ℕ) → Alike n m (named_type s) (named_type s)
     unfolding named_type
     named_type_local n m k b c u v h bn cm = test_local (ap (is_type_name s) (same_spelling h))
         (bind_local _ _ _ _ (consts_behind h) (λ x k u' v' g. ok_local _ _ g (ap y.Named (same_spelling h)))) (err_local h)
 
-    module _ (n m : ℕ) (on on' : Specifier → ℕ → Parser TypeNode) (on_local : (class : Specifier) (at : ℕ) → Local n m (on class at) (on' class at)) where
-      start_local : (start : SpecifierStart) → Local (suc n) (suc m) (specifier_behind s on start) (specifier_behind s on' start)
+    module _ (n m : ℕ) (on on' : Specifier → ℕ → Parser TypeNode) (on_local : (class : Specifier) (at : ℕ) → Alike n m (on class at) (on' class at)) where
+      start_local : (start : SpecifierStart) → Alike (suc n) (suc m) (specifier_behind s on start) (specifier_behind s on' start)
       start_local (ss.Basic q) k b c u v h bn cm = ok_local (y.Basic q) (y.Basic q) h refl
       start_local (ss.Other cs.Struct) k b c u v h bn cm = rw (same_place h) (behind_local (on cs.Struct (place v)) (on' cs.Struct (place v)) (on_local cs.Struct (place v)) h bn cm)
       start_local (ss.Other cs.Enum) k b c u v h bn cm = rw (same_place h) (behind_local (on cs.Enum (place v)) (on' cs.Enum (place v)) (on_local cs.Enum (place v)) h bn cm)
@@ -277,10 +277,10 @@ module _ (t : Lexeme) (left right : List Lexeme) where
       specifier_loop = loop_local (suc n) (suc m) (specifier_from s on) (specifier_from s on') (λ x k b c u v h. stop_local (basic_of x) h)
           (λ j i next x k b c u v h bn cm bj ci. rw (same_kind h) (set_local j i next x (specifier_of (kind_at v)) (extend x (specifier_of (kind_at v))) h bn cm bj ci))
 
-      pub specifier_local : Local (suc n) (suc m) (λ ts. specifier_from s on (length ts) no_words ts) (λ ts. specifier_from s on' (length ts) no_words ts)
+      pub specifier_local : Alike (suc n) (suc m) (λ ts. specifier_from s on (length ts) no_words ts) (λ ts. specifier_from s on' (length ts) no_words ts)
       specifier_local = sized_local (suc n) (suc m) (specifier_from s on) (specifier_from s on') specifier_loop no_words
 
-    pub plain_local : (n m : ℕ) → Local n m (plain s) (plain s)
+    pub plain_local : (n m : ℕ) → Alike n m (plain s) (plain s)
     unfolding plain
     plain_local n m = less_local (plain s) (plain s) (omega arith) (omega arith) (specifier_local n m (λ word at. tag word) (λ word at. tag word) (λ class at. tag_local class n m))
 
@@ -293,10 +293,10 @@ module _ (t : Lexeme) (left right : List Lexeme) where
       (rw (same_spelling h) (take_local (texts_from j (found ++ spelling_at v ∷ [])) (texts_from i (found ++ spelling_at v ∷ [])) h
       (λ k u' v' g. next (found ++ spelling_at v ∷ []) k (b - 1) (c - 1) u' v' g (omega arith) (omega arith) (omega arith) (omega arith)))) (ok_local found found h refl))
 
-  texts_local : (n m : ℕ) → Local n m (λ ts. texts_from (length ts) [] ts) (λ ts. texts_from (length ts) [] ts)
+  texts_local : (n m : ℕ) → Alike n m (λ ts. texts_from (length ts) [] ts) (λ ts. texts_from (length ts) [] ts)
   texts_local n m = sized_local n m texts_from texts_from (texts_loop n m) []
 
-  module _ {A : Type 0} (n m : ℕ) (item item' : Parser A) (item_local : Local n m item item') where
+  module _ {A : Type 0} (n m : ℕ) (item item' : Parser A) (item_local : Alike n m item item') where
     list_loop : (j i : ℕ) (found : List A) → Loop n m (list_from item) (list_from item') j i found
     unfolding list_from
     list_loop = loop_local n m (list_from item) (list_from item') (λ found k b c u v h. err_local h)
@@ -304,65 +304,65 @@ module _ (t : Lexeme) (left right : List Lexeme) where
         (take_local (list_from item j (found ++ x ∷ [])) (list_from item' i (found ++ x ∷ [])) g (λ k u v g. next (found ++ x ∷ []) k (b - 1) (c - 1) u v g (omega arith) (omega arith) (omega arith) (omega arith)))
         (ok_local (found ++ x ∷ []) (found ++ x ∷ []) g refl)))
 
-    pub list_local : Local n m (λ ts. list_from item (length ts) [] ts) (λ ts. list_from item' (length ts) [] ts)
+    pub list_local : Alike n m (λ ts. list_from item (length ts) [] ts) (λ ts. list_from item' (length ts) [] ts)
     list_local = sized_local n m (list_from item) (list_from item') list_loop []
 
   -- ---- expressions and declarators, over what is read a level below
 
-  member_local : (n m : ℕ) → Local n m member member
+  member_local : (n m : ℕ) → Alike n m member member
   unfolding member
   member_local n m k b c u v h bn cm = test_local (ap is_name (same_kind h)) (taken_local (spelling_at u) (spelling_at v) h (same_spelling h)) (err_local h)
 
-  module _ (s : TypeNames) (n m : ℕ) (rec rec' : ℕ → Parser Expr) (dec dec' : Naming → Parser Declarator) (rec_local : (least : ℕ) → Local n m (rec least) (rec' least)) (dec_local : (naming : Naming) → Local n m (dec naming) (dec' naming))
+  module _ (s : TypeNames) (n m : ℕ) (rec rec' : ℕ → Parser Expr) (dec dec' : Naming → Parser Declarator) (rec_local : (least : ℕ) → Alike n m (rec least) (rec' least)) (dec_local : (naming : Naming) → Alike n m (dec naming) (dec' naming))
       (takes : (l : Lexeme) (u : List Lexeme) → l.kind ≡ kd.Mark p.LeftParen → length (l ∷ u) ≤ n → length u ≤ length left → Agrees Mode.past (length u) 0 (rec 17 (l ∷ u)) (rec 17 (l ∷ u))) where
-    pub whole_local : Local n m (whole s rec dec) (whole s rec' dec')
+    pub whole_local : Alike n m (whole s rec dec) (whole s rec' dec')
     unfolding whole
     whole_local k b c u v h bn cm = bind_local _ _ _ _ (list_local n m (rec 2) (rec' 2) (rec_local 2) k b c u v h bn cm) (λ xs k u' v' g. ok_local _ _ g (ap (λ at. comma_of at xs) (same_place h)))
 
-    type_local : Local n m (type_name s rec dec) (type_name s rec' dec')
+    type_local : Alike n m (type_name s rec dec) (type_name s rec' dec')
     unfolding type_name
     type_local k b c u v h bn cm = bind_local _ _ _ _ (plain_local s n m k b c u v h bn cm) (λ ty k u' v' g. bind_local _ _ _ _ (dec_local nm.Refused k b c u' v' g bn cm) (λ d k u2 v2 g2.
         let made : ℕ → TypeName = λ at. record { at = at; ty = with_shapes d.shapes ty } in ok_local (made (place u)) (made (place v)) g2 (ap made (same_place h))))
 
-    parameter_local : Local n m (parameter s rec dec) (parameter s rec' dec')
+    parameter_local : Alike n m (parameter s rec dec) (parameter s rec' dec')
     unfolding parameter
     parameter_local k b c u v h bn cm = bind_local _ _ _ _ (plain_local s n m k b c u v h bn cm) (λ ty k u' v' g. bind_local _ _ _ _ (dec_local nm.Optional k b c u' v' g bn cm) (λ d k u2 v2 g2.
         ok_local _ _ g2 (ap (λ at. parameter_of at ty d) (same_place h))))
 
-    arguments_local : Local n m (arguments s rec dec) (arguments s rec' dec')
+    arguments_local : Alike n m (arguments s rec dec) (arguments s rec' dec')
     unfolding arguments
     arguments_local k b c u v h bn cm = test_local (ap (is_mark p.RightParen) (same_kind h)) (taken_local [] [] h refl)
         (bind_local _ _ _ _ (list_local n m (rec 2) (rec' 2) (rec_local 2) k b c u v h bn cm) (λ xs k u v g. end_local p.RightParen xs xs g refl))
 
-    parameters_local : Local n m (parameters s rec dec) (parameters s rec' dec')
+    parameters_local : Alike n m (parameters s rec dec) (parameters s rec' dec')
     unfolding parameters
     parameters_local k b c u v h bn cm = test_local (ap (is_mark p.RightParen) (same_kind h)) (taken_local [] [] h refl)
         (bind_local _ _ _ _ (list_local n m (parameter s rec dec) (parameter s rec' dec') parameter_local k b c u v h bn cm) (λ xs k u v g. end_local p.RightParen xs xs g refl))
 
-    name_local : (at : ℕ) (name : List ℕ) → Local n m (behind_name s rec dec at name) (behind_name s rec' dec' at name)
+    name_local : (at : ℕ) (name : List ℕ) → Alike n m (behind_name s rec dec at name) (behind_name s rec' dec' at name)
     unfolding behind_name
     name_local at name k b c u v h bn cm = test_local (ap (is_mark p.LeftParen) (same_kind h))
         (bind_local _ _ _ _ (behind_local (arguments s rec dec) (arguments s rec' dec') arguments_local h (omega arith) (omega arith)) (λ xs k u v g. ok_local _ _ g refl)) (ok_local _ _ h refl)
 
-    cast_local : (at : ℕ) → Local n m (cast_behind s rec dec at) (cast_behind s rec' dec' at)
+    cast_local : (at : ℕ) → Alike n m (cast_behind s rec dec at) (cast_behind s rec' dec' at)
     unfolding cast_behind
     cast_local at k b c u v h bn cm = bind_local _ _ _ _ (type_local k b c u v h bn cm) (λ ty k u v g. then_expect p.RightParen _ _ g (λ k u v g. bind_local _ _ _ _ (rec_local 16 k b c u v g bn cm) (λ x k u v g. ok_local _ _ g refl)))
 
-    brackets_local : Local n m (brackets_behind s rec dec) (brackets_behind s rec' dec')
+    brackets_local : Alike n m (brackets_behind s rec dec) (brackets_behind s rec' dec')
     unfolding brackets_behind
     brackets_local k b c u v h bn cm = bind_local _ _ _ _ (whole_local k b c u v h bn cm) (λ x k u v g. end_local p.RightParen (x, 19) (x, 19) g refl)
 
     begins_same : {k : Mode} {b c : ℕ} {u v : List Lexeme} → State k b c u v → begins_type s u ≡ begins_type s v
     begins_same h = same_head (begins_type s) (λ x u v. refl) h
 
-    bracket_local : (least at : ℕ) → Local n m (bracket_operand s rec dec least at) (bracket_operand s rec' dec' least at)
+    bracket_local : (least at : ℕ) → Alike n m (bracket_operand s rec dec least at) (bracket_operand s rec' dec' least at)
     bracket_local least at k b c u v h bn cm = test_local (begins_same h) (test_local refl (cast_local at k b c u v h bn cm) (err_local h)) (brackets_local k b c u v h bn cm)
 
-    size_type_local : (at : ℕ) → Local n m (size_of_type s rec dec at) (size_of_type s rec' dec' at)
+    size_type_local : (at : ℕ) → Alike n m (size_of_type s rec dec at) (size_of_type s rec' dec' at)
     unfolding size_of_type
     size_type_local at k b c u v h bn cm = bind_local _ _ _ _ (type_local k b c u v h bn cm) (λ ty k u v g. end_local p.RightParen _ _ g refl)
 
-    size_value_local : (at : ℕ) → Local n m (size_of_value s rec dec at) (size_of_value s rec' dec' at)
+    size_value_local : (at : ℕ) → Alike n m (size_of_value s rec dec at) (size_of_value s rec' dec' at)
     unfolding size_of_value
     size_value_local at k b c u v h bn cm = bind_local _ _ _ _ (rec_local 17 k b c u v h bn cm) (λ x k u v g. ok_local _ _ g refl)
 
@@ -382,7 +382,7 @@ module _ (t : Lexeme) (left right : List Lexeme) where
     size_here at b c true e (State.near h lb lc) bn cm = size_lost at b (begins_type s left) (mark_is p.LeftParen t.kind e) (omega arith) (omega arith)
     size_here at b c false e h bn cm = size_value_local at Mode.near b c (t ∷ left) (t ∷ right) h bn cm
 
-    size_local : (at : ℕ) → Local n m (size_of s rec dec at) (size_of s rec' dec' at)
+    size_local : (at : ℕ) → Alike n m (size_of s rec dec at) (size_of s rec' dec' at)
     size_local at k b c u v (State.near Same.here lb lc) bn cm = size_here at b c (is_mark p.LeftParen t.kind) refl (State.near Same.here lb lc) bn cm
     size_local at k b c u v (State.near (Same.there x {u = u2} {v = v2} h) lb lc) bn cm =
         let st : State Mode.near b c (x ∷ u2) (x ∷ v2) = State.near (Same.there x h) lb lc in
@@ -392,7 +392,7 @@ module _ (t : Lexeme) (left right : List Lexeme) where
         let st : State Mode.past b c u u = State.past l lb in
         test_local refl (test_local refl (behind_local (size_of_type s rec dec at) (size_of_type s rec' dec' at) (size_type_local at) st (omega arith) (omega arith)) (size_value_local at Mode.past b c u u st bn cm)) (size_value_local at Mode.past b c u u st bn cm)
 
-    operand_by_local : (least : ℕ) (class : Prefix) → Local (suc n) (suc m) (operand_by s rec dec least class) (operand_by s rec' dec' least class)
+    operand_by_local : (least : ℕ) (class : Prefix) → Alike (suc n) (suc m) (operand_by s rec dec least class) (operand_by s rec' dec' least class)
     operand_by_local least px.Name k b c u v h bn cm = test_local (ap (is_type_name s) (same_spelling h)) (err_local h)
         (rw (same_place h, same_spelling h) (behind_local (behind_name s rec dec (place v) (spelling_at v)) (behind_name s rec' dec' (place v) (spelling_at v)) (name_local (place v) (spelling_at v)) h bn cm))
     operand_by_local least px.Number k b c u v h bn cm = rw (same_place h, same_spelling h) (taken_local _ _ h refl)
@@ -404,11 +404,11 @@ module _ (t : Lexeme) (left right : List Lexeme) where
     operand_by_local least px.SizeOf k b c u v h bn cm = rw (same_place h) (behind_local (size_of s rec dec (place v)) (size_of s rec' dec' (place v)) (size_local (place v)) h bn cm)
     operand_by_local least px.Nothing k b c u v h bn cm = err_local h
 
-    operand_local : (least : ℕ) → Local (suc n) (suc m) (operand s rec dec least) (operand s rec' dec' least)
+    operand_local : (least : ℕ) → Alike (suc n) (suc m) (operand s rec dec least) (operand s rec' dec' least)
     unfolding operand
     operand_local least k b c u v h bn cm = rw (same_kind h) (operand_by_local least (prefix_of (kind_at v)) k b c u v h bn cm)
 
-    step_local : (class : Infix) (at : ℕ) (x : Expr) → Local n m (step_by s rec dec class at x) (step_by s rec' dec' class at x)
+    step_local : (class : Infix) (at : ℕ) (x : Expr) → Alike n m (step_by s rec dec class at x) (step_by s rec' dec' class at x)
     step_local ix.Index at x k b c u v h bn cm = bind_local _ _ _ _ (whole_local k b c u v h bn cm) (λ z k u v g. end_local p.RightBracket _ _ g refl)
     step_local ix.Field at x k b c u v h bn cm = bind_local _ _ _ _ (member_local n m k b c u v h bn cm) (λ z k u v g. ok_local _ _ g refl)
     step_local ix.Arrow at x k b c u v h bn cm = bind_local _ _ _ _ (member_local n m k b c u v h bn cm) (λ z k u v g. ok_local _ _ g refl)
@@ -432,10 +432,10 @@ module _ (t : Lexeme) (left right : List Lexeme) where
         (take_local (λ ts. and_then (step_by s rec dec class at q.1 ts) (climb s rec dec at least j (result_level class))) (λ ts. and_then (step_by s rec' dec' class at q.1 ts) (climb s rec' dec' at least i (result_level class))) h
         (λ k u v g. bind_local _ _ _ _ (step_local class at q.1 k (b - 1) (c - 1) u v g (omega arith) (omega arith)) (λ z k u v g. next (result_level class, z) k (b - 1) (c - 1) u v g (omega arith) (omega arith) (omega arith) (omega arith)))))))
 
-    climb_local : (at least : ℕ) (q : ℕ × Expr) → Local (suc n) (suc m) (λ ts. climbing rec dec at least (length ts) q ts) (λ ts. climbing rec' dec' at least (length ts) q ts)
+    climb_local : (at least : ℕ) (q : ℕ × Expr) → Alike (suc n) (suc m) (λ ts. climbing rec dec at least (length ts) q ts) (λ ts. climbing rec' dec' at least (length ts) q ts)
     climb_local at least q = sized_local (suc n) (suc m) (climbing rec dec at least) (climbing rec' dec' at least) (climb_loop at least) q
 
-    pub tight_local : (least : ℕ) → Local (suc n) (suc m) (tight s rec dec least) (tight s rec' dec' least)
+    pub tight_local : (least : ℕ) → Alike (suc n) (suc m) (tight s rec dec least) (tight s rec' dec' least)
     tight_local least k b c u v h bn cm = rw (same_place h) (bind_local _ _ _ _ (operand_local least k b c u v h bn cm) (λ q k u' v' g. climb_local (place v) least (q.1, q.0) k b c u' v' g bn cm))
 
     -- a bracket is taken
@@ -448,7 +448,7 @@ module _ (t : Lexeme) (left right : List Lexeme) where
 
     -- ---- declarators
 
-    length_local : (d : Declarator) → Local n m (length_of s rec dec d) (length_of s rec' dec' d)
+    length_local : (d : Declarator) → Alike n m (length_of s rec dec d) (length_of s rec' dec' d)
     unfolding length_of
     length_local d k b c u v h bn cm = test_local (ap (is_mark p.RightBracket) (same_kind h)) (taken_local _ _ h refl)
         (bind_local _ _ _ _ (rec_local 4 k b c u v h bn cm) (λ x k u v g. end_local p.RightBracket _ _ g refl))
@@ -465,21 +465,21 @@ module _ (t : Lexeme) (left right : List Lexeme) where
         (λ k u v g. bind_local _ _ _ _ (parameters_local k (b - 1) (c - 1) u v g (omega arith) (omega arith)) (λ xs k u v g. next (with_shape d (sh.Takes (without_void xs))) k (b - 1) (c - 1) u v g (omega arith) (omega arith) (omega arith) (omega arith))))
         (ok_local d d h refl)))
 
-    suffixes_local : (d : Declarator) → Local (suc n) (suc m) (λ ts. suffixes s rec dec (length ts) d ts) (λ ts. suffixes s rec' dec' (length ts) d ts)
+    suffixes_local : (d : Declarator) → Alike (suc n) (suc m) (λ ts. suffixes s rec dec (length ts) d ts) (λ ts. suffixes s rec' dec' (length ts) d ts)
     suffixes_local d = sized_local (suc n) (suc m) (suffixes s rec dec) (suffixes s rec' dec') suffixes_loop d
 
-    pointer_local : (naming : Naming) → Local n m (pointer_declarator s rec dec naming) (pointer_declarator s rec' dec' naming)
+    pointer_local : (naming : Naming) → Alike n m (pointer_declarator s rec dec naming) (pointer_declarator s rec' dec' naming)
     unfolding pointer_declarator
     pointer_local naming k b c u v h bn cm = bind_local _ _ _ _ (consts_local n m k b c u v h bn cm) (λ x k u v g. bind_local _ _ _ _ (dec_local naming k b c u v g bn cm) (λ d k u v g. ok_local _ _ g refl))
 
-    group_local : (naming : Naming) → Local n m (group_behind s rec dec naming) (group_behind s rec' dec' naming)
+    group_local : (naming : Naming) → Alike n m (group_behind s rec dec naming) (group_behind s rec' dec' naming)
     unfolding group_behind
     group_local naming k b c u v h bn cm = bind_local _ _ _ _ (pointer_local naming k b c u v h bn cm) (λ d k u v g. end_local p.RightParen d d g refl)
 
-    no_name_local : (naming : Naming) (n m : ℕ) → Local n m (no_name naming) (no_name naming)
+    no_name_local : (naming : Naming) (n m : ℕ) → Alike n m (no_name naming) (no_name naming)
     no_name_local naming n m k b c u v h bn cm = test_local refl (ok_local nameless nameless h refl) (err_local h)
 
-    core_name_local : (naming : Naming) (n m : ℕ) → Local n m (core_name s naming) (core_name s naming)
+    core_name_local : (naming : Naming) (n m : ℕ) → Alike n m (core_name s naming) (core_name s naming)
     core_name_local naming n m k b c u v h bn cm =
         let made : ℕ → List ℕ → Declarator = λ at name. record { name = Some (record { at = at; name = name }); shapes = [] } in
         test_local (ap (λ name. takes_name naming (is_type_name s name)) (same_spelling h)) (taken_local (made (place u) (spelling_at u)) (made (place v) (spelling_at v)) h (ap (λ at. made at (spelling_at u)) (same_place h) ∙ ap (made (place v)) (same_spelling h))) (no_name_local naming n m k b c u v h bn cm)
@@ -524,7 +524,7 @@ module _ (t : Lexeme) (left right : List Lexeme) where
     shape_here naming b c false true e (State.near h lb lc) bn cm = forget (omega arith) (bracket_lost naming (is_mark p.Star (kind_at left)) (may_be_nameless naming) (mark_is p.LeftParen t.kind e) (omega arith))
     shape_here naming b c false false e h bn cm = bind_local _ _ _ _ (no_name_local naming (suc n) (suc m) Mode.near b c (t ∷ left) (t ∷ right) h bn cm) (λ d k u v g. suffixes_local d k b c u v g bn cm)
 
-    shape_local : (naming : Naming) → Local (suc n) (suc m) (λ ts. and_then (core s rec dec naming ts) (with_suffixes rec dec)) (λ ts. and_then (core s rec' dec' naming ts) (with_suffixes rec' dec'))
+    shape_local : (naming : Naming) → Alike (suc n) (suc m) (λ ts. and_then (core s rec dec naming ts) (with_suffixes rec dec)) (λ ts. and_then (core s rec' dec' naming ts) (with_suffixes rec' dec'))
     unfolding core
     shape_local naming k b c u v (State.near Same.here lb lc) bn cm = shape_here naming b c (is_name t.kind) (is_mark p.LeftParen t.kind) refl (State.near Same.here lb lc) bn cm
     shape_local naming k b c u v (State.near (Same.there x {u = u2} {v = v2} h) lb lc) bn cm =
@@ -533,14 +533,14 @@ module _ (t : Lexeme) (left right : List Lexeme) where
         let less = behind_past u in
         bind_local _ _ _ _ (core_local naming {u = u} {v = u} (State.past l lb) (State.past (omega arith) (omega arith)) bn cm) (λ d k u v g. suffixes_local d k b c u v g bn cm)
 
-    pub shaping_local : (naming : Naming) → Local (suc n) (suc m) (shaping s rec dec naming) (shaping s rec' dec' naming)
+    pub shaping_local : (naming : Naming) → Alike (suc n) (suc m) (shaping s rec dec naming) (shaping s rec' dec' naming)
     shaping_local naming k b c u v h bn cm = test_local (ap (is_mark p.Star) (same_kind h)) (behind_local (pointer_declarator s rec dec naming) (pointer_declarator s rec' dec' naming) (pointer_local naming) h bn cm)
         (shape_local naming k b c u v h bn cm)
 
   mutual
     unfolding expr
 
-    pub expr_local : (s : TypeNames) (n m least : ℕ) → Local n m (expr s n least) (expr s m least)
+    pub expr_local : (s : TypeNames) (n m least : ℕ) → Alike n m (expr s n least) (expr s m least)
     expr_local s zero m least k b c u v (State.near h lb lc) bn cm = let o = some_left h in absurd (omega arith)
     expr_local s zero m least k b c u v (State.past l lb) bn cm = forget {b = b} {c = c} {o' = Err u} (omega arith) (err_local (State.past l lb))
     expr_local s (suc n) zero least k b c u v (State.near h lb lc) bn cm = let o = some_right h in absurd (omega arith)
@@ -548,7 +548,7 @@ module _ (t : Lexeme) (left right : List Lexeme) where
         (tight_local s n zero (expr s n) (expr s zero) (declarator s n) (declarator s zero) (expr_local s n zero) (declarator_local s n zero) (expr_takes s n) least Mode.past b 0 u u (State.past l lb) bn (omega arith))
     expr_local s (suc n) (suc m) least k b c u v h bn cm = tight_local s n m (expr s n) (expr s m) (declarator s n) (declarator s m) (expr_local s n m) (declarator_local s n m) (expr_takes s n) least k b c u v h bn cm
 
-    pub declarator_local : (s : TypeNames) (n m : ℕ) (naming : Naming) → Local n m (declarator s n naming) (declarator s m naming)
+    pub declarator_local : (s : TypeNames) (n m : ℕ) (naming : Naming) → Alike n m (declarator s n naming) (declarator s m naming)
     declarator_local s zero m naming k b c u v (State.near h lb lc) bn cm = let o = some_left h in absurd (omega arith)
     declarator_local s zero m naming k b c u v (State.past l lb) bn cm = forget {b = b} {c = c} {o' = Err u} (omega arith) (err_local (State.past l lb))
     declarator_local s (suc n) zero naming k b c u v (State.near h lb lc) bn cm = let o = some_right h in absurd (omega arith)
@@ -562,7 +562,7 @@ module _ (t : Lexeme) (left right : List Lexeme) where
 
   -- ---- loops whose turns take a token of their own
 
-  same_lengths : {u v : List Lexeme} → Same u v → length u + length right ≡ length v + length left
+  pub same_lengths : {u v : List Lexeme} → Same u v → length u + length right ≡ length v + length left
   same_lengths Same.here = omega arith
   same_lengths (Same.there x h) = let e = same_lengths h in omega arith
 
@@ -570,7 +570,7 @@ module _ (t : Lexeme) (left right : List Lexeme) where
   shrink (State.near h lb lc) (State.near g mb mc) lt = let e = same_lengths h in let o = same_lengths g in State.near g (omega arith) (omega arith)
   shrink (State.past l lb) (State.past l' mb) lt = State.past l' (omega arith)
 
-  low_bound : {k : Mode} {b c : ℕ} {u v : List Lexeme} → State k b c u v → length u ≤ b
+  pub low_bound : {k : Mode} {b c : ℕ} {u v : List Lexeme} → State k b c u v → length u ≤ b
   low_bound (State.near h lb lc) = lb
   low_bound (State.past l lb) = lb
 
@@ -579,7 +579,7 @@ module _ (t : Lexeme) (left right : List Lexeme) where
   some_ok x u' o' f f' st lt (Goes.lost l lb) g = let le = low_bound st in forget (omega arith) (g Mode.past u' u' (State.past l (omega arith)))
   some_ok {k = k} {b} {c} x u' o' f f' st lt (Goes.kept v h e) g = subst (λ z. Agrees k b c (f x u') (and_then z f')) (sym e) (more (omega arith) (omega arith) (g k u' v (shrink st h lt)))
 
-  bind_some : {A B : Type 0} {k : Mode} {b c : ℕ} {u v : List Lexeme} (o o' : ParseOutcome A) (f f' : A → Parser B) → State k b c u v → Agrees k b c o o' → ((x : A) (u' : List Lexeme) → o ≡ Ok (x, u') → length u' < length u)
+  pub bind_some : {A B : Type 0} {k : Mode} {b c : ℕ} {u v : List Lexeme} (o o' : ParseOutcome A) (f f' : A → Parser B) → State k b c u v → Agrees k b c o o' → ((x : A) (u' : List Lexeme) → o ≡ Ok (x, u') → length u' < length u)
       → ((x : A) (k : Mode) (u v : List Lexeme) → State k (b - 1) (c - 1) u v → Agrees k (b - 1) (c - 1) (f x u) (f' x v)) → Agrees k b c (and_then o f) (and_then o' f')
   bind_some (Ok (x, u')) o' f f' st h lt g = some_ok x u' o' f f' st (lt x u' refl) (h.by (x, u') refl) (g x)
   bind_some {A} {B} {k} {b} {c} (Err u') o' f f' st h lt g = record {
@@ -587,12 +587,12 @@ module _ (t : Lexeme) (left right : List Lexeme) where
     stops = λ z e. subst (λ z. Goes k b c z (λ v. and_then o' f' ≡ Err v)) (same_err e) (bind_err u' o' f' (h.stops u' refl));
   }
 
-  begins_at : (s : TypeNames) {k : Mode} {b c : ℕ} {u v : List Lexeme} → State k b c u v → begins_type s u ≡ begins_type s v
+  pub begins_at : (s : TypeNames) {k : Mode} {b c : ℕ} {u v : List Lexeme} → State k b c u v → begins_type s u ≡ begins_type s v
   begins_at s h = same_head (begins_type s) (λ x u v. refl) h
 
   -- ---- specifiers with braces
 
-  module _ {A : Type 0} (n m : ℕ) (item item' : Parser A) (item_local : Local n m item item') where
+  module _ {A : Type 0} (n m : ℕ) (item item' : Parser A) (item_local : Alike n m item item') where
     braced_loop : (j i : ℕ) (found : List A) → Loop n m (braced_list_from item) (braced_list_from item') j i found
     unfolding braced_list_from
     braced_loop = loop_local n m (braced_list_from item) (braced_list_from item') (λ found k b c u v h. err_local h)
@@ -601,7 +601,7 @@ module _ (t : Lexeme) (left right : List Lexeme) where
         (λ k u v g. test_local (ap (is_mark p.RightBrace) (same_kind g)) (ok_local _ _ g refl) (next (found ++ x ∷ []) k (b - 1) (c - 1) u v g (omega arith) (omega arith) (omega arith) (omega arith))))
         (ok_local (found ++ x ∷ []) (found ++ x ∷ []) g refl)))
 
-    pub braced_local : Local n m (λ ts. braced_list_from item (length ts) [] ts) (λ ts. braced_list_from item' (length ts) [] ts)
+    pub braced_local : Alike n m (λ ts. braced_list_from item (length ts) [] ts) (λ ts. braced_list_from item' (length ts) [] ts)
     braced_local = sized_local n m (braced_list_from item) (braced_list_from item') braced_loop []
 
   named_local : (ty : TypeNode) (name : Option DeclaredName) (shapes : List Shape) {k : Mode} {b c : ℕ} {u v : List Lexeme} → State k b c u v → Agrees k b c (named_by ty name shapes u) (named_by ty name shapes v)
@@ -609,15 +609,15 @@ module _ (t : Lexeme) (left right : List Lexeme) where
   named_local ty None shapes h = err_local h
 
   module _ (s : TypeNames) (n m : ℕ) where
-    pub declaration_local : (naming : Naming) (ty : TypeNode) → Local n m (declaration s n naming ty) (declaration s m naming ty)
+    pub declaration_local : (naming : Naming) (ty : TypeNode) → Alike n m (declaration s n naming ty) (declaration s m naming ty)
     unfolding declaration
     declaration_local naming ty k b c u v h bn cm = bind_local _ _ _ _ (declarator_local s n m naming k b c u v h bn cm) (λ d k u v g. named_local ty d.name d.shapes g)
 
-    value_local : (at : ℕ) (name : List ℕ) → Local n m (constant_value s n at name) (constant_value s m at name)
+    value_local : (at : ℕ) (name : List ℕ) → Alike n m (constant_value s n at name) (constant_value s m at name)
     value_local at name k b c u v h bn cm = test_local (ap (is_mark p.Assign) (same_kind h))
         (bind_local _ _ _ _ (behind_local (expr s n 4) (expr s m 4) (expr_local s n m 4) h (omega arith) (omega arith)) (λ x k u v g. ok_local _ _ g refl)) (ok_local _ _ h refl)
 
-    constant_local : Local n m (constant s n) (constant s m)
+    constant_local : Alike n m (constant s n) (constant s m)
     unfolding constant
     constant_local k b c u v h bn cm = test_local (ap is_name (same_kind h)) (test_local (ap (is_type_name s) (same_spelling h)) (err_local h)
         (rw (same_place h, same_spelling h) (behind_local (constant_value s n (place v) (spelling_at v)) (constant_value s m (place v) (spelling_at v)) (value_local (place v) (spelling_at v)) h (omega arith) (omega arith)))) (err_local h)
@@ -632,11 +632,11 @@ module _ (t : Lexeme) (left right : List Lexeme) where
         (take_local (declarators_from s n j (bare q.0) (q.1 ++ d ∷ [])) (declarators_from s m i (bare q.0) (q.1 ++ d ∷ [])) g (λ k u v g. next (bare q.0, q.1 ++ d ∷ []) k (b - 1) (c - 1) u v g (omega arith) (omega arith) (omega arith) (omega arith)))
         (ok_local _ _ g refl)))
 
-    declarators_local : (ty : TypeNode) → Local n m (λ ts. declarators_from s n (length ts) ty [] ts) (λ ts. declarators_from s m (length ts) ty [] ts)
+    declarators_local : (ty : TypeNode) → Alike n m (λ ts. declarators_from s n (length ts) ty [] ts) (λ ts. declarators_from s m (length ts) ty [] ts)
     declarators_local ty = sized_local n m (declarators n) (declarators m) declarators_loop (ty, [])
 
-    module _ (spec spec' : Parser TypeNode) (spec_local : Local n m spec spec') (spec_says : (ts : List Lexeme) → Says (spec ts) ts (λ a ty. IsSpecifier s a ty)) where
-      member_of_local : Local n m (specifiers.member s n spec) (specifiers.member s m spec')
+    module _ (spec spec' : Parser TypeNode) (spec_local : Alike n m spec spec') (spec_says : (ts : List Lexeme) → Says (spec ts) ts (λ a ty. IsSpecifier s a ty)) where
+      member_of_local : Alike n m (specifiers.member s n spec) (specifiers.member s m spec')
       unfolding specifiers.member
       member_of_local k b c u v h bn cm = bind_local _ _ _ _ (spec_local k b c u v h bn cm) (λ ty k u v g. bind_local _ _ _ _ (declarators_local ty k b c u v g bn cm) (λ ds k u v g. end_local p.Semicolon _ _ g refl))
 
@@ -653,25 +653,25 @@ module _ (t : Lexeme) (left right : List Lexeme) where
           → Agrees k b c (and_then (expect p.RightBrace u) (λ _ r. and_then (consts (length r) r) (λ _. pure x))) (and_then (expect p.RightBrace v) (λ _ r. and_then (consts (length r) r) (λ _. pure x)))
       closed_local x {b = b} {c} h = then_expect p.RightBrace _ _ h (λ k u v g. bind_local _ _ _ _ (consts_local b c k b c u v g (omega arith) (omega arith)) (λ _ k u v g. ok_local x x g refl))
 
-      body_local : (class : Specifier) (at : ℕ) (name : Option (List ℕ)) → Local n m (specifiers.body s n spec class at name) (specifiers.body s m spec' class at name)
+      body_local : (class : Specifier) (at : ℕ) (name : Option (List ℕ)) → Alike n m (specifiers.body s n spec class at name) (specifiers.body s m spec' class at name)
       body_local cs.Struct at name k b c u v h bn cm = bind_local _ _ _ _ (sized_local n m (members_from s n spec) (members_from s m spec') members_loop [] k b c u v h bn cm) (λ ds k u v g. closed_local (y.Struct at name (Some ds)) g)
       body_local _ at name k b c u v h bn cm = bind_local _ _ _ _ (braced_local n m (constant s n) (constant s m) constant_local k b c u v h bn cm) (λ xs k u v g. closed_local (y.Enum at name (Some xs)) g)
 
-      braces_local : (class : Specifier) (at : ℕ) (name : Option (List ℕ)) → Local n m (braces s n spec class at name) (braces s m spec' class at name)
+      braces_local : (class : Specifier) (at : ℕ) (name : Option (List ℕ)) → Alike n m (braces s n spec class at name) (braces s m spec' class at name)
       unfolding braces
       braces_local class at name k b c u v h bn cm = then_expect p.LeftBrace _ _ h (λ k u v g. body_local class at name k b c u v g bn cm)
 
-      behind_tag_local : (class : Specifier) (at : ℕ) (name : List ℕ) → Local n m (behind_tag s n spec class at name) (behind_tag s m spec' class at name)
+      behind_tag_local : (class : Specifier) (at : ℕ) (name : List ℕ) → Alike n m (behind_tag s n spec class at name) (behind_tag s m spec' class at name)
       behind_tag_local class at name k b c u v h bn cm = test_local (ap (is_mark p.LeftBrace) (same_kind h)) (braces_local class at (Some name) k b c u v h bn cm)
           (bind_local _ _ _ _ (consts_local n m k b c u v h bn cm) (λ _ k u v g. ok_local _ _ g refl))
 
-      pub tag_or_body_local : (class : Specifier) (at : ℕ) → Local n m (tag_or_body s n spec class at) (tag_or_body s m spec' class at)
+      pub tag_or_body_local : (class : Specifier) (at : ℕ) → Alike n m (tag_or_body s n spec class at) (tag_or_body s m spec' class at)
       unfolding tag_or_body
       tag_or_body_local class at k b c u v h bn cm = test_local (ap is_name (same_kind h))
           (rw (same_place h, same_spelling h) (behind_local (behind_tag s n spec class (place v) (spelling_at v)) (behind_tag s m spec' class (place v) (spelling_at v)) (behind_tag_local class (place v) (spelling_at v)) h (omega arith) (omega arith)))
           (braces_local class at None k b c u v h bn cm)
 
-  pub specifier_of_local : (s : TypeNames) (n m : ℕ) → Local n m (specifier s n) (specifier s m)
+  pub specifier_of_local : (s : TypeNames) (n m : ℕ) → Alike n m (specifier s n) (specifier s m)
   unfolding specifier
   specifier_of_local s zero m k b c u v (State.near h lb lc) bn cm = let o = some_left h in absurd (omega arith)
   specifier_of_local s zero m k b c u v (State.past l lb) bn cm = forget {b = b} {c = c} {o' = Err u} (omega arith) (err_local (State.past l lb))

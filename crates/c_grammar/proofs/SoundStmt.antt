@@ -179,14 +179,14 @@ module _ (s : TypeNames) (n : ℕ) (rec : Parser Stmt) (sound : SoundS s rec) wh
       (λ other. bind_says (rec ts) _ ts (λ a v. IsStmt s 0 a v) _ (any_says ts) (λ a v r g. weaker (stmts_from s n rec j (found ++ v ∷ []) r) r _ _ (λ b zs q. (v ∷ q.0, q.1 ∙ append_assoc found (v ∷ []) q.0, AreStmts.statements a b v q.0 g q.2)) (stmts_says j (found ++ v ∷ []) r)))
 
   -- a section, before others
-  record IsSection (a : List Lexeme) (v : Section) : Type 0 where
-    front : List Lexeme
-    back : List Lexeme
-    all_is : a ≡ front ++ back
-    label_is : IsLabel s front v.label
-    are : AreStmts s back v.statements
+  pub record IsSection (a : List Lexeme) (v : Section) : Type 0 where
+    pub front : List Lexeme
+    pub back : List Lexeme
+    pub all_is : a ≡ front ++ back
+    pub label_is : IsLabel s front v.label
+    pub are : AreStmts s back v.statements
 
-  section_says : (ts : List Lexeme) → Says (section s n rec ts) ts IsSection
+  pub section_says : (ts : List Lexeme) → Says (section s n rec ts) ts IsSection
   unfolding section
   section_says ts = bind_says (label s n ts) _ ts (λ a v. IsLabel s a v) _ (label_says s n ts) (λ a v r h. bind_says (stmts_from s n rec (length r) [] r) _ r _ _ (stmts_says (length r) [] r) (λ b ys z q.
       done_says (record { label = v; statements = ys }) b z (λ b v. IsSection (a ++ b) v) (record { front = a; back = b; all_is = refl; label_is = h; are = subst (λ w'. AreStmts s b w') (sym q.1) q.2 })))

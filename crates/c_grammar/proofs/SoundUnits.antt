@@ -172,7 +172,7 @@ by_says s n (k.Word w.Extern) t ts kind = token_says _ t ts _ (behind_storage_sa
 by_says s n (k.Word _) t ts kind = behind_storage_says s n None [] (t ∷ ts) IsStorage.none
 by_says s n _ t ts kind = behind_storage_says s n None [] (t ∷ ts) IsStorage.none
 
-external_says : (s : TypeNames) (n : ℕ) (t : Lexeme) (ts : List Lexeme) → Says (external s n (t ∷ ts)) (t ∷ ts) (λ a q. IsExternal s a q.0 q.1)
+pub external_says : (s : TypeNames) (n : ℕ) (t : Lexeme) (ts : List Lexeme) → Says (external s n (t ∷ ts)) (t ∷ ts) (λ a q. IsExternal s a q.0 q.1)
 unfolding external
 external_says s n t ts = by_says s n t.kind t ts refl
 
@@ -203,12 +203,12 @@ same_rest e = cc
 abbrev Begins : TypeNames → List Lexeme → List Lexeme → Type 0
 Begins s r ts = Viable r ts (λ a vs. AreExternals s a vs)
 
-stops_split : (o' : ParseOutcome (List External × TypeNames)) (go : List External × TypeNames → List Lexeme → Result (List External) (List Lexeme)) (r : List Lexeme) (Z : Type 0) → (o' ≡ Err r → Z)
+pub stops_split : (o' : ParseOutcome (List External × TypeNames)) (go : List External × TypeNames → List Lexeme → Result (List External) (List Lexeme)) (r : List Lexeme) (Z : Type 0) → (o' ≡ Err r → Z)
     → ((q : (List External × TypeNames) × List Lexeme) → o' ≡ Ok q → go q.0 q.1 ≡ Err r → Z) → externals_behind o' go ≡ Err r → Z
 stops_split (Ok q) go r Z f g e = g q refl e
 stops_split (Err z) go r Z f g e = f (ap (λ z. Err z) (same_rest e))
 
-externals_begin : (j : ℕ) (s : TypeNames) (found : List External) (ts r : List Lexeme) → externals_from j s found ts ≡ Err r → Begins s r ts
+pub externals_begin : (j : ℕ) (s : TypeNames) (found : List External) (ts r : List Lexeme) → externals_from j s found ts ≡ Err r → Begins s r ts
 unfolding externals_from
 externals_begin zero s found ts r e = cc
 externals_begin (suc j) s found [] r e = cc
@@ -228,7 +228,7 @@ externals_begin (suc j) s found (t ∷ ts) r e =
       subst (λ a. AreExternals s a (q.0.0 ++ v.3)) (sym (append_assoc u.0 v.0 v.2)) (AreExternals.more u.0 (v.0 ++ v.2) q.0.0 v.3 q.0.1 u.2 v.4),
     )) e
 
-unit_stops : (size : ℕ) (o' : Result (List External) (List Lexeme)) (r : List Lexeme) → unit_of size o' ≡ Err r → o' ≡ Err r
+pub unit_stops : (size : ℕ) (o' : Result (List External) (List Lexeme)) (r : List Lexeme) → unit_of size o' ≡ Err r → o' ≡ Err r
 unit_stops size (Ok vs) r e = cc
 unit_stops size (Err z) r e = ap (λ z. Err z) (same_rest e)
 

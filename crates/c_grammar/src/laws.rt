@@ -1,6 +1,6 @@
 //! The laws of the grammar, on functions that do nothing.
 
-ghost use Rattle.std.specs.Prelude.{◌≡◌, ◌≤◌, ◌*◌, ◌++◌, List, ℕ, length};
+ghost use Rattle.std.specs.Prelude.{◌≡◌, ◌≤◌, ◌*◌, List, ℕ, length};
 ghost use Rattle.c_lexer.specs.Pieces.{Lexeme, Toks};
 ghost use Rattle.c_tree.specs.declared.declarations.TranslationUnit.{TranslationUnit};
 ghost use Rattle.c_tree.specs.Nodes.{unit_nodes};
@@ -8,7 +8,7 @@ ghost use Rattle.c_grammar.specs.Levels as grammar;
 ghost use Rattle.c_grammar.specs.declared.levels.TheConstants as code;
 ghost use Rattle.c_grammar.specs.Units.{Reads};
 ghost use Rattle.c_grammar.specs.Parser.{IsEnd};
-ghost use Rattle.c_grammar.specs.Refused.{CanGoOn};
+ghost use Rattle.c_grammar.specs.Refused.{RefusedFrom};
 ghost use Rattle.c_grammar.specs.ParseUnits.{unit};
 
 /// A list of tokens has at most one reading.
@@ -32,10 +32,10 @@ pub fn refused_tokens_are_the_last()
     ensures { (toks : Toks) (rest : List Lexeme) → unit toks ≡ Err rest → IsEnd rest toks.items }
 {}
 
-/// What stands before the token that `unit` refuses begins a list with a reading.
-#[tactic(auto, using(crate::proofs::Exact::fronts_go_on))]
-pub fn fronts_go_on()
-    ensures { (toks : Toks) (front rest : List Lexeme) → unit toks ≡ Err rest → toks.items ≡ front ++ rest → CanGoOn front }
+/// `unit` refuses from the first token on that ends no front of a list with a reading: some list with a
+/// reading begins with the tokens before it, and none with these and the token itself.
+pub fn refusals_are_exact()
+    ensures { (toks : Toks) (rest : List Lexeme) → unit toks ≡ Err rest → RefusedFrom toks.items rest }
 {}
 
 /// The levels that parsers name are those of the grammar.
