@@ -1,0 +1,4 @@
+pub mod Segments
+pub mod Totals
+pub mod Resume
+pub mod Reading

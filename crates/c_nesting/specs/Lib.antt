@@ -1,0 +1,3 @@
+pub mod Nesting
+pub mod HasNesting
+pub mod model

@@ -1,0 +1,153 @@
+-- How deeply the constructs of a list of tokens stand in one another. No standard defines this number: C99 5.2.4.1 only names
+-- depths that a compiler has to take.
+use Rattle.std.specs.Prelude.{ℕ, max, ◌+◌, Bool, true, false, not, ◌&&◌, if◌then◌else◌, List, [], ◌∷◌, ◌++◌, map}
+use Rattle.c_lexer.specs.declared.token.TokenKind.{TokenKind}
+use Rattle.c_lexer.specs.declared.token.TokenKind.TheVariants as k
+use Rattle.c_lexer.specs.declared.token.Keyword.{Keyword}
+use Rattle.c_lexer.specs.declared.token.Keyword.TheVariants as w
+use Rattle.c_lexer.specs.declared.token.Punct.{Punct}
+use Rattle.c_lexer.specs.declared.token.Punct.TheVariants as p
+use Rattle.c_lexer.specs.Pieces.{Lexeme}
+use Rattle.c_nesting.specs.declared.nesting.Role.{Role}
+use Rattle.c_nesting.specs.declared.nesting.Role.TheVariants.{Opens, Closes, ClosesBrace, Separates, Counts, Else, Plain}
+
+-- ---- what a token is to the nesting
+
+abbrev pub role_of_mark : Punct → Role
+role_of_mark p.LeftParen = Opens
+role_of_mark p.LeftBracket = Opens
+role_of_mark p.LeftBrace = Opens
+role_of_mark p.RightParen = Closes
+role_of_mark p.RightBracket = Closes
+role_of_mark p.RightBrace = ClosesBrace
+role_of_mark p.Semicolon = Separates
+role_of_mark p.Comma = Separates
+role_of_mark p.Colon = Plain
+role_of_mark _ = Counts
+
+abbrev pub role_of_word : Keyword → Role
+role_of_word w.If = Counts
+role_of_word w.While = Counts
+role_of_word w.For = Counts
+role_of_word w.Do = Counts
+role_of_word w.Switch = Counts
+role_of_word w.Sizeof = Counts
+role_of_word w.Else = Else
+role_of_word _ = Plain
+
+abbrev pub role_of : TokenKind → Role
+role_of (k.Mark mark) = role_of_mark mark
+role_of (k.Word word) = role_of_word word
+role_of _ = Plain
+
+-- ---- segments
+
+-- What stands directly in a group, or outside all of them: a token, or a whole group, by its value and by whether a `}` closes it.
+pub data Item : Type 0 where
+  token : Role → Item
+  group : ℕ → Bool → Item
+
+-- Behind a `;`, a `,` and a group that a `}` closes a segment ends ..
+abbrev pub ends : Item → Bool
+ends (token Separates) = true
+ends (token _) = false
+ends (group value brace) = brace
+
+-- .. except before `else`. (Behind an item stands the next item, or a bracket that closes the group, or nothing.)
+abbrev pub begins_else : List Item → Bool
+begins_else (token Else ∷ items) = true
+begins_else _ = false
+
+abbrev pub add_to_first : Item → List (List Item) → List (List Item)
+add_to_first item [] = (item ∷ []) ∷ []
+add_to_first item (segment ∷ segments) = (item ∷ segment) ∷ segments
+
+abbrev pub segments : List Item → List (List Item)
+segments [] = []
+segments (item ∷ items) = if ends item && not (begins_else items) then (item ∷ []) ∷ segments items else add_to_first item (segments items)
+
+-- ---- costs
+
+-- An opening bracket counts, and stands for its group here.
+abbrev pub count_of_item : Item → ℕ
+count_of_item (token Counts) = 1
+count_of_item (token _) = 0
+count_of_item (group value brace) = 1
+
+abbrev pub value_of : Item → ℕ
+value_of (token role) = 0
+value_of (group value brace) = value
+
+abbrev pub count : List Item → ℕ
+count [] = 0
+count (item ∷ items) = count_of_item item + count items
+
+-- 0 where there is none
+abbrev pub greatest : List ℕ → ℕ
+greatest [] = 0
+greatest (n ∷ ns) = max n (greatest ns)
+
+abbrev pub cost : List Item → ℕ
+cost segment = count segment + greatest (map value_of segment)
+
+-- the greatest cost of the segments: the value of the group that these items stand in
+abbrev pub value : List Item → ℕ
+value items = greatest (map cost (segments items))
+
+-- ---- groups
+
+-- The tokens from a place on, as they stand to it: the items of the group that is open there, and, where a bracket closes that
+-- group, the bracket, and what follows it as it stands to the group around. Where no bracket does, the group ends with the tokens.
+pub data Levels : Type 0 where
+  open_to_end : List Item → Levels
+  closed : List Item → Role → Levels → Levels
+
+-- the items of the group that is open
+abbrev pub inner : Levels → List Item
+inner (open_to_end items) = items
+inner (closed items bracket outer) = items
+
+abbrev pub is_brace : Role → Bool
+is_brace ClosesBrace = true
+is_brace _ = false
+
+-- whether a `}` closes it
+abbrev pub brace : Levels → Bool
+brace (open_to_end items) = false
+brace (closed items bracket outer) = is_brace bracket
+
+-- what follows behind the bracket that closes it
+abbrev pub around : Levels → Levels
+around (open_to_end items) = open_to_end []
+around (closed items bracket outer) = outer
+
+abbrev pub prepend : Item → Levels → Levels
+prepend item (open_to_end items) = open_to_end (item ∷ items)
+prepend item (closed items bracket outer) = closed (item ∷ items) bracket outer
+
+-- one token more, in front
+abbrev pub place : Role → Levels → Levels
+place Opens rest = prepend (group (value (inner rest)) (brace rest)) (around rest)
+place Closes rest = closed [] Closes rest
+place ClosesBrace rest = closed [] ClosesBrace rest
+place role rest = prepend (token role) rest
+
+abbrev pub levels : List Role → Levels
+levels [] = open_to_end []
+levels (role ∷ roles) = place role (levels roles)
+
+-- What stands outside all groups. A bracket that closes no group is a token there.
+abbrev pub outside : Levels → List Item
+outside (open_to_end items) = items
+outside (closed items bracket rest) = items ++ token bracket ∷ outside rest
+
+-- the greatest cost of the segments outside all groups
+abbrev pub nesting : List Role → ℕ
+nesting roles = value (outside (levels roles))
+
+abbrev pub role_of_lexeme : Lexeme → Role
+role_of_lexeme t = role_of t.kind
+
+-- the nesting of the tokens of a text
+abbrev pub nesting_of : List Lexeme → ℕ
+nesting_of tokens = nesting (map role_of_lexeme tokens)
