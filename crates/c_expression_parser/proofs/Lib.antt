@@ -2,5 +2,6 @@ pub mod Turns
 pub mod SplitWords
 pub mod Layers
 pub mod Operands
-pub mod PlainBare
 pub mod Indexes
+pub mod Loops
+pub mod Deeper

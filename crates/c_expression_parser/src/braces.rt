@@ -4,7 +4,7 @@ ghost use Rattle.std.specs.Prelude.{◌≡◌, ◌++◌, [], length, IfOk};
 ghost use Rattle.c_grammar.specs.ParseSpecifiers as model;
 ghost use Rattle.c_expression_parser.specs.Answers.{Answers};
 
-use crate::base::SpecifierType;
+use crate::specifier_type::SpecifierType;
 use crate::cursor::{Fault, Tokens};
 use crate::expressions::{declarator, expr};
 use crate::scope::Scope;
@@ -26,6 +26,7 @@ pub fn append<T: Drop>(found: Seq<T>, more: Seq<T>) -> Result<Seq<T>, AllocError
 }
 
 /// Reads a declarator that has a name, behind its type.
+#[tactic(auto, unfolding(c_grammar::specs::ParseSpecifiers::declaration))]
 pub fn declaration(
     alloc: Global,
     scope: &Scope<'_>,
@@ -49,6 +50,7 @@ pub fn declaration(
 }
 
 /// Reads an enumeration constant.
+#[tactic(auto, unfolding(c_grammar::specs::ParseSpecifiers::constant))]
 fn constant(
     alloc: Global,
     scope: &Scope<'_>,
@@ -83,6 +85,7 @@ fn constant(
 }
 
 /// Reads enumeration constants with commas between them, one or more, and perhaps a comma behind.
+#[tactic(auto, using(crate::proofs::Loops::braced_turn, crate::proofs::Loops::braced_end))]
 fn constants(
     alloc: Global,
     scope: &Scope<'_>,
@@ -106,7 +109,8 @@ fn constants(
 }
 
 /// Reads the declarators of members behind their type.
-fn declaration_of(
+#[tactic(auto, using(crate::proofs::Loops::declarators_turn, crate::proofs::Loops::declarators_end))]
+fn member_declarators(
     alloc: Global,
     scope: &Scope<'_>,
     tokens: &mut Tokens<'_>,
@@ -132,6 +136,7 @@ fn declaration_of(
 
 /// Reads one declaration of members.
 #[cycle(specifier)]
+#[tactic(auto, unfolding(c_grammar::specs::ParseSpecifiers::member))]
 fn member(
     alloc: Global,
     scope: &Scope<'_>,
@@ -141,13 +146,14 @@ fn member(
     ensures { Answers (model.member scope.now depth (model.specifier scope.now depth) tokens.old) result tokens.new }
 {
     let base = specifier(alloc, scope, tokens, depth)?;
-    let found = declaration_of(alloc, scope, tokens, depth, base)?;
+    let found = member_declarators(alloc, scope, tokens, depth, base)?;
     tokens.expect(Punct::Semicolon)?;
     Ok(found)
 }
 
 /// Reads the declarations of members, one or more, up to the brace that closes them.
 #[cycle(specifier)]
+#[tactic(auto, using(crate::proofs::Loops::members_turn, crate::proofs::Loops::members_end))]
 fn members(
     alloc: Global,
     scope: &Scope<'_>,
@@ -168,6 +174,7 @@ fn members(
 
 /// Reads the braces of a `struct` or an `enum`.
 #[cycle(specifier)]
+#[tactic(auto, unfolding(c_grammar::specs::ParseSpecifiers::braces))]
 fn braces(
     alloc: Global,
     scope: &Scope<'_>,
@@ -198,6 +205,7 @@ fn braces(
 
 /// Reads what stands behind `struct` or `enum`, whose place is given.
 #[cycle(specifier)]
+#[tactic(auto, unfolding(c_grammar::specs::ParseSpecifiers::tag_or_body))]
 fn tag_or_body(
     alloc: Global,
     scope: &Scope<'_>,
@@ -223,6 +231,7 @@ fn tag_or_body(
 
 /// Reads a specifier. The depth bounds how deep it goes: as much as there are tokens is enough.
 #[cycle(specifier)]
+#[tactic(auto, using(crate::proofs::Deeper::specifier_deeper), unfolding(c_grammar::specs::ParseSpecifiers::specifier))]
 pub fn specifier(
     alloc: Global,
     scope: &Scope<'_>,

@@ -147,6 +147,7 @@ impl<'a> Tokens<'a> {
     }
 
     /// Reads this punctuator.
+    #[tactic(auto, unfolding(c_grammar::specs::Parser::expect))]
     pub fn expect(&mut self, mark: Punct) -> Result<(), Fault>
         ensures { Answers (model.expect mark self.old) result self.new }
     {
@@ -159,6 +160,7 @@ impl<'a> Tokens<'a> {
     }
 
     /// Reads this keyword.
+    #[tactic(auto, unfolding(c_grammar::specs::Parser::expect_word))]
     pub fn expect_word(&mut self, word: Keyword) -> Result<(), Fault>
         ensures { Answers (model.expect_word word self.old) result self.new }
     {
@@ -171,6 +173,7 @@ impl<'a> Tokens<'a> {
     }
 
     /// Reads the words `const` that stand here.
+    #[tactic(auto, using(crate::proofs::Loops::consts_turn, crate::proofs::Loops::consts_end))]
     pub fn consts(&mut self)
         ensures { model.consts (length self.old) self.old ≡ Ok (tt, self.new) }
     {

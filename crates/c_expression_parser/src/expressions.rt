@@ -21,7 +21,8 @@ use std::alloc::Global;
 
 /// Reads assignments with commas between them, one or more.
 #[cycle(expr)]
-fn listed(
+#[tactic(auto, using(crate::proofs::Loops::list_turn, crate::proofs::Loops::list_end))]
+fn assignments(
     alloc: Global,
     scope: &Scope<'_>,
     tokens: &mut Tokens<'_>,
@@ -42,6 +43,7 @@ fn listed(
 
 /// Reads an expression with its commas.
 #[cycle(expr)]
+#[tactic(auto, unfolding(c_grammar::specs::ParseExpr::whole))]
 pub fn whole(
     alloc: Global,
     scope: &Scope<'_>,
@@ -51,12 +53,13 @@ pub fn whole(
     ensures { Answers (model.whole scope.now (model.expr scope.now depth) (model.declarator scope.now depth) tokens.old) result tokens.new }
 {
     let at = tokens.place();
-    let operands = listed(alloc, scope, tokens, depth)?;
+    let operands = assignments(alloc, scope, tokens, depth)?;
     Ok(comma_of(at, operands))
 }
 
 /// Reads a type name.
 #[cycle(expr)]
+#[tactic(auto, unfolding(c_grammar::specs::ParseExpr::type_name))]
 fn type_name(
     alloc: Global,
     scope: &Scope<'_>,
@@ -74,6 +77,7 @@ fn type_name(
 
 /// Reads a parameter.
 #[cycle(expr)]
+#[tactic(auto, unfolding(c_grammar::specs::ParseExpr::parameter))]
 fn parameter(
     alloc: Global,
     scope: &Scope<'_>,
@@ -90,7 +94,8 @@ fn parameter(
 
 /// Reads parameters with commas between them, one or more.
 #[cycle(expr)]
-fn parameters_listed(
+#[tactic(auto, using(crate::proofs::Loops::list_turn, crate::proofs::Loops::list_end))]
+fn parameter_list(
     alloc: Global,
     scope: &Scope<'_>,
     tokens: &mut Tokens<'_>,
@@ -111,6 +116,7 @@ fn parameters_listed(
 
 /// Reads parameters behind their bracket, up to the one that closes it.
 #[cycle(expr)]
+#[tactic(auto, unfolding(c_grammar::specs::ParseExpr::parameters))]
 fn parameters(
     alloc: Global,
     scope: &Scope<'_>,
@@ -123,13 +129,14 @@ fn parameters(
         tokens.take();
         return Ok(Seq::new(alloc));
     }
-    let found = parameters_listed(alloc, scope, tokens, depth)?;
+    let found = parameter_list(alloc, scope, tokens, depth)?;
     tokens.expect(Punct::RightParen)?;
     Ok(found)
 }
 
 /// Reads the arguments of a call behind the bracket, up to the one that closes it.
 #[cycle(expr)]
+#[tactic(auto, unfolding(c_grammar::specs::ParseExpr::arguments))]
 fn arguments(
     alloc: Global,
     scope: &Scope<'_>,
@@ -142,14 +149,15 @@ fn arguments(
         tokens.take();
         return Ok(Seq::new(alloc));
     }
-    let found = listed(alloc, scope, tokens, depth)?;
+    let found = assignments(alloc, scope, tokens, depth)?;
     tokens.expect(Punct::RightParen)?;
     Ok(found)
 }
 
 /// Reads what stands behind a name that is no type.
 #[cycle(expr)]
-fn named(
+#[tactic(auto, unfolding(c_grammar::specs::ParseExpr::named))]
+fn behind_name(
     alloc: Global,
     scope: &Scope<'_>,
     tokens: &mut Tokens<'_>,
@@ -176,6 +184,7 @@ fn named(
 
 /// Reads a cast behind its first bracket.
 #[cycle(expr)]
+#[tactic(auto, unfolding(c_grammar::specs::ParseExpr::cast_behind))]
 fn cast_behind(
     alloc: Global,
     scope: &Scope<'_>,
@@ -193,6 +202,7 @@ fn cast_behind(
 
 /// Reads an expression in brackets, behind the first.
 #[cycle(expr)]
+#[tactic(auto, unfolding(c_grammar::specs::ParseExpr::brackets_behind))]
 fn brackets_behind(
     alloc: Global,
     scope: &Scope<'_>,
@@ -208,6 +218,7 @@ fn brackets_behind(
 
 /// Reads the type of a `sizeof`, behind the bracket.
 #[cycle(expr)]
+#[tactic(auto, unfolding(c_grammar::specs::ParseExpr::size_of_type))]
 fn size_of_type(
     alloc: Global,
     scope: &Scope<'_>,
@@ -224,6 +235,7 @@ fn size_of_type(
 
 /// Reads the operand of a `sizeof`, which is no type in brackets.
 #[cycle(expr)]
+#[tactic(auto, unfolding(c_grammar::specs::ParseExpr::size_of_value))]
 fn size_of_value(
     alloc: Global,
     scope: &Scope<'_>,
@@ -272,7 +284,7 @@ fn name_or_call(
     }
     let name = scope.name_at(alloc, tokens)?;
     tokens.take();
-    named(alloc, scope, tokens, depth, at, name)
+    behind_name(alloc, scope, tokens, depth, at, name)
 }
 
 /// Reads what stands behind a bracket: a cast, or an expression and the bracket that closes it. A cast
@@ -317,6 +329,7 @@ fn unary(
 /// Reads the front of an expression, up to the operators behind it, and says its level. A cast stands
 /// only where an expression of the level `least` may be one.
 #[cycle(expr)]
+#[tactic(auto, unfolding(c_grammar::specs::ParseExpr::operand))]
 fn operand(
     alloc: Global,
     scope: &Scope<'_>,
@@ -365,6 +378,7 @@ fn operand(
 
 /// Reads what stands behind an operator, whose left operand is given with its place.
 #[cycle(expr)]
+#[tactic(auto, unfolding(c_grammar::specs::ParseExpr::member))]
 fn step(
     alloc: Global,
     scope: &Scope<'_>,
@@ -494,6 +508,7 @@ fn choice(
 
 /// Reads the operators behind an expression of this level, down to the least that is wanted.
 #[cycle(expr)]
+#[tactic(auto, using(std::proofs::lemmas::Grind::common_steps, crate::proofs::Loops::climb_turn, crate::proofs::Loops::climb_end))]
 fn climb(
     alloc: Global,
     scope: &Scope<'_>,
@@ -524,6 +539,7 @@ fn climb(
 /// Reads an expression of the level `least` or above. The depth bounds how deep it goes: as much as
 /// there are tokens is enough.
 #[cycle(expr)]
+#[tactic(auto, using(crate::proofs::Deeper::expr_deeper), unfolding(c_grammar::specs::ParseExpr::expr))]
 pub fn expr(
     alloc: Global,
     scope: &Scope<'_>,
@@ -543,6 +559,7 @@ pub fn expr(
 
 /// Reads the length of an array behind its bracket, up to the one that closes it.
 #[cycle(expr)]
+#[tactic(auto, unfolding(c_grammar::specs::ParseExpr::length_of))]
 fn length_of(
     alloc: Global,
     scope: &Scope<'_>,
@@ -563,6 +580,7 @@ fn length_of(
 
 /// Reads the brackets behind a declarator.
 #[cycle(expr)]
+#[tactic(auto, using(crate::proofs::Loops::suffixes_turn, crate::proofs::Loops::suffixes_end))]
 fn suffixes(
     alloc: Global,
     scope: &Scope<'_>,
@@ -589,6 +607,7 @@ fn suffixes(
 
 /// Reads a declarator in brackets, behind the first one and its star.
 #[cycle(expr)]
+#[tactic(auto, unfolding(c_grammar::specs::ParseExpr::group_behind))]
 fn group_behind(
     alloc: Global,
     scope: &Scope<'_>,
@@ -605,6 +624,7 @@ fn group_behind(
 
 /// Reads a declarator without its stars and the brackets behind it.
 #[cycle(expr)]
+#[tactic(auto, unfolding(c_grammar::specs::ParseExpr::core))]
 fn core(
     alloc: Global,
     scope: &Scope<'_>,
@@ -633,6 +653,7 @@ fn core(
 
 /// Reads a pointer's declarator behind the star.
 #[cycle(expr)]
+#[tactic(auto, unfolding(c_grammar::specs::ParseExpr::pointer_declarator))]
 fn pointer_declarator(
     alloc: Global,
     scope: &Scope<'_>,
@@ -649,6 +670,7 @@ fn pointer_declarator(
 
 /// Reads a declarator.
 #[cycle(expr)]
+#[tactic(auto, using(crate::proofs::Deeper::declarator_deeper), unfolding(c_grammar::specs::ParseExpr::declarator))]
 pub fn declarator(
     alloc: Global,
     scope: &Scope<'_>,

@@ -5,7 +5,7 @@
 //! from the tokens at a cursor. After a refusal the cursor stands at the token that goes on with no reading.
 #![tactic(auto)]
 
-mod base;
+mod specifier_type;
 mod braces;
 mod cursor;
 mod expressions;
@@ -15,7 +15,7 @@ mod scope;
 mod shapes;
 mod specifiers;
 
-pub use base::SpecifierType;
+pub use specifier_type::SpecifierType;
 pub use braces::{append, declaration, specifier};
 pub use cursor::{Fault, Tokens};
 pub use expressions::{declarator, expr, whole};

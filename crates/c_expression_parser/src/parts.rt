@@ -12,6 +12,7 @@ use c_tree::{Name, Seq};
 use std::alloc::Global;
 
 /// Reads the text literals that stand here side by side.
+#[tactic(auto, using(crate::proofs::Loops::texts_turn, crate::proofs::Loops::texts_end))]
 pub fn texts(alloc: Global, scope: &Scope<'_>, tokens: &mut Tokens<'_>) -> Result<Seq<Name>, Fault>
     ensures { Answers (model.texts_from (length tokens.old) [] tokens.old) result tokens.new }
 {

@@ -39,8 +39,8 @@ impl<'a> Scope<'a> {
     }
 
     /// Whether the name is that of a type.
-    fn is_type_name(&self, name: &[u8]) -> bool
-        ensures { result ≡ words.is_type_name self.now name.now }
+    fn is_type(&self, name: &[u8]) -> bool
+        ensures { result ≡ words.is_listed self.now name.now }
     {
         self.types.contains(name)
     }
@@ -53,6 +53,7 @@ impl<'a> Scope<'a> {
     }
 
     /// The bytes of a token.
+    #[tactic(auto, unfolding(c_grammar::specs::Tokens::spelling))]
     fn spelling(&self, token: Token) -> &'a [u8]
         ensures { result.now ≡ words.spelling self.now token }
     {
@@ -80,7 +81,7 @@ impl<'a> Scope<'a> {
     pub fn is_type_at(&self, tokens: &Tokens<'_>) -> bool
         ensures { result ≡ words.is_type_at self.now tokens.now }
     {
-        self.is_type_name(self.spelling_at(tokens))
+        self.is_type(self.spelling_at(tokens))
     }
 
     /// Whether a type begins at the next token.

@@ -61,6 +61,7 @@ fn with_one_shape(alloc: Global, shape: Shape, ty: TypeNode) -> Result<TypeNode,
 }
 
 /// All shapes of a declarator round a type: the first is the nearest to the name.
+#[tactic(auto, using(crate::proofs::Layers::with_shapes_last))]
 pub fn with_shapes(alloc: Global, shapes: Seq<Shape>, ty: TypeNode) -> Result<TypeNode, AllocError>
     ensures { IfOk result (λ t. t ≡ types.with_shapes shapes ty) }
 {

@@ -6,7 +6,7 @@ ghost use Rattle.c_grammar.specs.ParseExpr as model;
 ghost use Rattle.c_grammar.specs.Types as types;
 ghost use Rattle.c_expression_parser.specs.Answers.{Answers};
 
-use crate::base::SpecifierType;
+use crate::specifier_type::SpecifierType;
 use crate::cursor::{Fault, Tokens};
 use crate::scope::Scope;
 use c_grammar::{Specifier, SpecifierStart, WordSet, specifier_of};
@@ -14,8 +14,8 @@ use c_tree::BasicType;
 use std::alloc::Global;
 
 /// What the words so far spell, or else what stands behind them.
-fn start_of(set: WordSet, kind: Specifier) -> SpecifierStart
-    ensures { result ≡ model.start_of (basic_of set) kind }
+fn words_of(set: WordSet, kind: Specifier) -> Words
+    ensures { result ≡ words.settled (basic_of set) kind }
 {
     match set.basic() {
         Some(basic) => SpecifierStart::Basic(basic),
@@ -24,8 +24,8 @@ fn start_of(set: WordSet, kind: Specifier) -> SpecifierStart
 }
 
 /// The set with the word more that stands here, if one does.
-fn extend(set: WordSet, kind: Specifier) -> Option<WordSet>
-    ensures { result ≡ model.extend set kind }
+fn with_specifier(set: WordSet, kind: Specifier) -> Option<WordSet>
+    ensures { result ≡ words.grown set kind }
 {
     match kind {
         Specifier::Const => Some(set),
@@ -35,24 +35,27 @@ fn extend(set: WordSet, kind: Specifier) -> Option<WordSet>
 }
 
 /// Reads the words of a specifier.
-pub fn read_words(tokens: &mut Tokens<'_>) -> SpecifierStart
-    ensures { model.words_from (length tokens.old) no_words tokens.old ≡ (result, tokens.new) }
+#[tactic(auto, using(crate::proofs::Loops::words_turn, crate::proofs::Loops::words_end))]
+pub fn read_words(tokens: &mut Tokens<'_>) -> Words
+    ensures { words.words_from (length tokens.old) no_words tokens.old ≡ (result, tokens.new) }
 {
     let mut set = WordSet::new();
     for _turn in 0..tokens.left() {
         let kind = specifier_of(tokens.peek());
-        let Some(more) = extend(set, kind) else {
-            return start_of(set, kind);
+        let Some(more) = with_specifier(set, kind) else {
+            return words_of(set, kind);
         };
         tokens.take();
         set = more;
     }
-    start_of(set, Specifier::Nothing)
+    words_of(set, Specifier::Nothing)
 }
 
 /// Reads the name of a type.
+#[tactic(auto, unfolding(c_grammar::specs::ParseExpr::named_type))]
 pub fn named_type(alloc: Global, scope: &Scope<'_>, tokens: &mut Tokens<'_>) -> Result<SpecifierType, Fault>
-    ensures { Answers (model.named_type scope.now tokens.old) result tokens.new }
+    ensures answers { Answers (model.named_type scope.now tokens.old) result tokens.new }
+    ensures bare { IfOk result (λ base. types.bare base ≡ base) }
 {
     if !scope.is_type_at(tokens) {
         return Err(Fault::Refused);
@@ -60,17 +63,19 @@ pub fn named_type(alloc: Global, scope: &Scope<'_>, tokens: &mut Tokens<'_>) -> 
     let name = scope.name_at(alloc, tokens)?;
     tokens.take();
     tokens.consts();
-    Ok(SpecifierType::named(name))
+    Ok(SpecifierType::of_name(name))
 }
 
 /// Reads the tag behind its word.
+#[tactic(auto, unfolding(c_grammar::specs::ParseExpr::tag))]
 fn tag(
     alloc: Global,
     scope: &Scope<'_>,
     tokens: &mut Tokens<'_>,
     word: Specifier,
 ) -> Result<SpecifierType, Fault>
-    ensures { Answers (model.tag word tokens.old) result tokens.new }
+    ensures answers { Answers (model.tag scope.now word tokens.old) result tokens.new }
+    ensures bare { IfOk result (λ base. types.bare base ≡ base) }
 {
     if !tokens.sees_name() {
         return Err(Fault::Refused);
@@ -83,6 +88,7 @@ fn tag(
 }
 
 /// Reads a specifier without braces.
+#[tactic(auto, using(crate::proofs::Deeper::plain_words))]
 pub fn plain(alloc: Global, scope: &Scope<'_>, tokens: &mut Tokens<'_>) -> Result<SpecifierType, Fault>
     ensures answers { Answers (model.plain scope.now tokens.old) result tokens.new }
     ensures bare { IfOk result (λ base. types.bare base ≡ base) }

@@ -175,7 +175,7 @@ fn label(
 }
 
 /// Reads the value of a `return` behind its word, up to the semicolon behind it.
-fn returned(
+fn return_behind(
     alloc: Global,
     scope: &Scope<'_>,
     tokens: &mut Tokens<'_>,
@@ -190,7 +190,7 @@ fn returned(
 }
 
 /// Reads an expression as a statement.
-fn value(
+fn expression_statement(
     alloc: Global,
     scope: &Scope<'_>,
     tokens: &mut Tokens<'_>,
@@ -464,7 +464,7 @@ pub fn stmt(
             tokens.expect(Punct::Semicolon)?;
             Ok(Stmt::Continue { at })
         }
-        Head::Return => returned(alloc, scope, tokens, depth, at),
-        Head::Other => value(alloc, scope, tokens, depth),
+        Head::Return => return_behind(alloc, scope, tokens, depth, at),
+        Head::Other => expression_statement(alloc, scope, tokens, depth),
     }
 }

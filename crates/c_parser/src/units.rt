@@ -64,7 +64,7 @@ fn init(
 }
 
 /// Reads the declarators of a `typedef` behind their type. The names of types grow from one to the next.
-fn typedefs_listed(
+fn typedef_declarators(
     alloc: Global,
     scope: &mut Scope<'_>,
     tokens: &mut Tokens<'_>,
@@ -100,20 +100,20 @@ fn typedefs(
     ensures { AnswersIn (model.typedefs scope.old depth tokens.old) result scope.new tokens.new }
 {
     let base = specifier(alloc, scope, tokens, depth)?;
-    let found = typedefs_listed(alloc, scope, tokens, depth, base)?;
+    let found = typedef_declarators(alloc, scope, tokens, depth, base)?;
     tokens.expect(Punct::Semicolon)?;
     Ok(found)
 }
 
 /// A declarator with a name, behind its type.
 #[derive(Drop)]
-struct DeclaratorParts {
+struct TypedDeclarator {
     ty: TypeNode,
     named: DeclaredName,
     shapes: Seq<Shape>,
 }
 
-impl DeclaratorParts {
+impl TypedDeclarator {
     /// Whether the declarator itself is one of a function.
     fn is_function(&self) -> bool
         ensures { result ≡ is_function self.now.shapes }
@@ -128,7 +128,7 @@ impl DeclaratorParts {
     fn into_declaration(self, alloc: Global) -> Result<Declaration, AllocError>
         ensures { IfOk result (λ d. d ≡ types.declaration_of self.ty self.named self.shapes) }
     {
-        let DeclaratorParts { ty, named, shapes } = self;
+        let TypedDeclarator { ty, named, shapes } = self;
         let ty = with_shapes(alloc, shapes, ty)?;
         Ok(Declaration {
             at: named.at,
@@ -174,16 +174,16 @@ fn object(
     tokens: &mut Tokens<'_>,
     depth: usize,
     storage: Option<Storage>,
-    declarator: DeclaratorParts,
+    typed: TypedDeclarator,
 ) -> Result<External, Fault>
-    ensures { Answers (model.object_by scope.now depth storage declarator.ty declarator.named declarator.shapes tokens.old) result tokens.new }
+    ensures { Answers (model.object_by scope.now depth storage typed.ty typed.named typed.shapes tokens.old) result tokens.new }
 {
     if !tokens.sees(Punct::Assign) {
-        return Ok(declarator.into_external(alloc, storage, None)?);
+        return Ok(typed.into_external(alloc, storage, None)?);
     }
     tokens.take();
     let value = init(alloc, scope, tokens, depth)?;
-    Ok(declarator.into_external(alloc, storage, Some(value))?)
+    Ok(typed.into_external(alloc, storage, Some(value))?)
 }
 
 /// Reads declarators with commas between them, each with its initialiser, behind those that were found.
@@ -213,12 +213,12 @@ fn objects(
         };
         let bare = ty.bare()?;
         let ty_here = ty.into_type();
-        let declarator = DeclaratorParts {
+        let typed = TypedDeclarator {
             ty: ty_here,
             named,
             shapes,
         };
-        found.push(object(alloc, scope, tokens, depth, storage, declarator)?)?;
+        found.push(object(alloc, scope, tokens, depth, storage, typed)?)?;
         ty = bare;
         if !tokens.sees(Punct::Comma) {
             return Ok(found);
@@ -235,14 +235,14 @@ fn objects_behind(
     tokens: &mut Tokens<'_>,
     depth: usize,
     storage: Option<Storage>,
-    declarator: DeclaratorParts,
+    typed: TypedDeclarator,
     bare: SpecifierType,
 ) -> Result<Seq<External>, Fault>
-    requires { types.bare declarator.ty ≡ bare }
-    ensures { Answers (model.objects_behind scope.now depth storage declarator.ty declarator.named declarator.shapes tokens.old) result tokens.new }
+    requires { types.bare typed.ty ≡ bare }
+    ensures { Answers (model.objects_behind scope.now depth storage typed.ty typed.named typed.shapes tokens.old) result tokens.new }
 {
     let mut found = Seq::new(alloc);
-    found.push(object(alloc, scope, tokens, depth, storage, declarator)?)?;
+    found.push(object(alloc, scope, tokens, depth, storage, typed)?)?;
     if !tokens.sees(Punct::Comma) {
         return Ok(found);
     }
@@ -272,24 +272,24 @@ fn body_behind(
 }
 
 /// Reads what stands behind the first declarator: the body of a function, or the rest of a declaration.
-fn objects_named(
+fn objects_or_body(
     alloc: Global,
     scope: &Scope<'_>,
     tokens: &mut Tokens<'_>,
     depth: usize,
     storage: Option<Storage>,
-    declarator: DeclaratorParts,
+    typed: TypedDeclarator,
     bare: SpecifierType,
 ) -> Result<Seq<External>, Fault>
-    requires { types.bare declarator.ty ≡ bare }
-    ensures { Answers (model.objects_named scope.now depth storage declarator.ty declarator.named declarator.shapes tokens.old) result tokens.new }
+    requires { types.bare typed.ty ≡ bare }
+    ensures { Answers (model.objects_named scope.now depth storage typed.ty typed.named typed.shapes tokens.old) result tokens.new }
 {
     if tokens.sees(Punct::LeftBrace) {
         tokens.take();
-        let declaration = declarator.into_declaration(alloc)?;
+        let declaration = typed.into_declaration(alloc)?;
         return body_behind(alloc, scope, tokens, depth, storage, declaration);
     }
-    let found = objects_behind(alloc, scope, tokens, depth, storage, declarator, bare)?;
+    let found = objects_behind(alloc, scope, tokens, depth, storage, typed, bare)?;
     tokens.expect(Punct::Semicolon)?;
     Ok(found)
 }
@@ -318,12 +318,12 @@ fn behind_type(
     };
     let bare = base.bare()?;
     let ty = base.into_type();
-    let declarator = DeclaratorParts { ty, named, shapes };
-    objects_named(alloc, scope, tokens, depth, storage, declarator, bare)
+    let typed = TypedDeclarator { ty, named, shapes };
+    objects_or_body(alloc, scope, tokens, depth, storage, typed, bare)
 }
 
 /// Reads a declaration at file scope behind its storage word.
-fn stored(
+fn behind_storage(
     alloc: Global,
     scope: &Scope<'_>,
     tokens: &mut Tokens<'_>,
@@ -352,13 +352,13 @@ fn external(
         }
         Opening::Static => {
             tokens.take();
-            stored(alloc, scope, tokens, depth, Some(Storage::Static))
+            behind_storage(alloc, scope, tokens, depth, Some(Storage::Static))
         }
         Opening::Extern => {
             tokens.take();
-            stored(alloc, scope, tokens, depth, Some(Storage::Extern))
+            behind_storage(alloc, scope, tokens, depth, Some(Storage::Extern))
         }
-        Opening::Other => stored(alloc, scope, tokens, depth, None),
+        Opening::Other => behind_storage(alloc, scope, tokens, depth, None),
     }
 }
 

@@ -2,8 +2,8 @@ use Rattle.std.proofs.Common.{◌≡◌, [], ◌+◌, ◌-◌, ◌*◌, length}
 use Rattle.c_grammar.specs.ParseExpr as model
 use Rattle.c_expression_parser.proofs.expressions.+expr.Given as goal
 
-abbrev pub decreases-listed : goal.decreases-listed
-decreases-listed l = 10 * l.depth + 1
+abbrev pub decreases-assignments : goal.decreases-assignments
+decreases-assignments l = 10 * l.depth + 1
 
 abbrev pub decreases-whole : goal.decreases-whole
 decreases-whole l = 10 * l.depth + 2
@@ -14,8 +14,8 @@ decreases-type_name l = 10 * l.depth + 1
 abbrev pub decreases-parameter : goal.decreases-parameter
 decreases-parameter l = 10 * l.depth + 1
 
-abbrev pub decreases-parameters_listed : goal.decreases-parameters_listed
-decreases-parameters_listed l = 10 * l.depth + 2
+abbrev pub decreases-parameter_list : goal.decreases-parameter_list
+decreases-parameter_list l = 10 * l.depth + 2
 
 abbrev pub decreases-parameters : goal.decreases-parameters
 decreases-parameters l = 10 * l.depth + 3
@@ -23,8 +23,8 @@ decreases-parameters l = 10 * l.depth + 3
 abbrev pub decreases-arguments : goal.decreases-arguments
 decreases-arguments l = 10 * l.depth + 2
 
-abbrev pub decreases-named : goal.decreases-named
-decreases-named l = 10 * l.depth + 3
+abbrev pub decreases-behind_name : goal.decreases-behind_name
+decreases-behind_name l = 10 * l.depth + 3
 
 abbrev pub decreases-cast_behind : goal.decreases-cast_behind
 decreases-cast_behind l = 10 * l.depth + 2
@@ -92,11 +92,11 @@ decreases-pointer_declarator l = 10 * l.depth + 1
 abbrev pub decreases-declarator : goal.decreases-declarator
 decreases-declarator l = 10 * l.depth
 
-abbrev pub invariant-listed-loop-turn : goal.invariant-listed-loop-turn
-invariant-listed-loop-turn l = model.list_from (model.expr l.scope l.depth 2) (length l.fn.tokens) [] l.fn.tokens ≡ model.list_from (model.expr l.scope l.depth 2) (l._turn-end - l._turn) l.found l.tokens
+abbrev pub invariant-assignments-loop-turn : goal.invariant-assignments-loop-turn
+invariant-assignments-loop-turn l = model.listed_from (model.expr l.scope l.depth 2) (length l.fn.tokens) [] l.fn.tokens ≡ model.listed_from (model.expr l.scope l.depth 2) (l._turn-end - l._turn) l.found l.tokens
 
-abbrev pub invariant-parameters_listed-loop-turn : goal.invariant-parameters_listed-loop-turn
-invariant-parameters_listed-loop-turn l = model.list_from (model.parameter l.scope (model.expr l.scope l.depth) (model.declarator l.scope l.depth)) (length l.fn.tokens) [] l.fn.tokens ≡ model.list_from (model.parameter l.scope (model.expr l.scope l.depth) (model.declarator l.scope l.depth)) (l._turn-end - l._turn) l.found l.tokens
+abbrev pub invariant-parameter_list-loop-turn : goal.invariant-parameter_list-loop-turn
+invariant-parameter_list-loop-turn l = model.listed_from (model.parameter l.scope (model.expr l.scope l.depth) (model.declarator l.scope l.depth)) (length l.fn.tokens) [] l.fn.tokens ≡ model.listed_from (model.parameter l.scope (model.expr l.scope l.depth) (model.declarator l.scope l.depth)) (l._turn-end - l._turn) l.found l.tokens
 
 abbrev pub invariant-climb-loop-turn : goal.invariant-climb-loop-turn
 invariant-climb-loop-turn l = model.climb l.scope (model.expr l.scope l.depth) (model.declarator l.scope l.depth) l.at l.least (length l.fn.tokens) l.fn.first.1 l.fn.first.0 l.fn.tokens ≡ model.climb l.scope (model.expr l.scope l.depth) (model.declarator l.scope l.depth) l.at l.least (l._turn-end - l._turn) l.level l.left l.tokens

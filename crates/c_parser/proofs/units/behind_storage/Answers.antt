@@ -1,7 +1,7 @@
 use Rattle.std.proofs.Common.{rules, arith}
 use Rattle.std.proofs.lemmas.Grind.{common_steps}
 use Rattle.c_grammar.specs.ParseUnits.{stored}
-use Rattle.c_parser.proofs.units.stored.Goals as goal
+use Rattle.c_parser.proofs.units.behind_storage.Goals as goal
 
 pub returns-in_err-base : goal.returns-in_err-base
 unfolding stored

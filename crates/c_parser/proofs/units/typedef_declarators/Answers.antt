@@ -2,7 +2,7 @@ use Rattle.std.proofs.Common.{rules, arith}
 use Rattle.std.proofs.lemmas.Grind.{common_steps}
 use Rattle.c_grammar.specs.ParseUnits.{typedefs_from}
 use Rattle.c_expression_parser.proofs.Turns.{one_more, no_more}
-use Rattle.c_parser.proofs.units.typedefs_listed.Goals as goal
+use Rattle.c_parser.proofs.units.typedef_declarators.Goals as goal
 
 pub returns-in_err-bare : goal.returns-in_err-bare
 unfolding typedefs_from

@@ -41,7 +41,7 @@ impl SpecifierType {
         }
     }
 
-    pub fn named(name: Name) -> SpecifierType
+    pub fn of_name(name: Name) -> SpecifierType
         ensures { result ≡ nodes.Named name }
     {
         SpecifierType {
@@ -69,7 +69,8 @@ impl SpecifierType {
 
     /// The type of a tag that has no braces.
     pub fn tag_type(word: Specifier, at: u32, name: Name) -> SpecifierType
-        ensures { result ≡ model.tag_type word at name }
+        ensures answers { result ≡ model.tag_type word at name }
+        ensures bare { types.bare result ≡ result }
     {
         match word {
             Specifier::Struct => SpecifierType::structure(at, Some(name), None),
@@ -83,9 +84,9 @@ impl SpecifierType {
     {
         match &self.ty {
             TypeNode::Basic(basic) => Ok(SpecifierType::basic(*basic)),
-            TypeNode::Named(name) => Ok(SpecifierType::named(name.copy()?)),
-            TypeNode::Enum { at, tag, .. } => Ok(SpecifierType::enumeration(*at, copied(tag)?, None)),
-            TypeNode::Struct { at, tag, .. } => Ok(SpecifierType::structure(*at, copied(tag)?, None)),
+            TypeNode::Named(name) => Ok(SpecifierType::of_name(name.copy()?)),
+            TypeNode::Enum { at, tag, .. } => Ok(SpecifierType::enumeration(*at, copy_of(tag)?, None)),
+            TypeNode::Struct { at, tag, .. } => Ok(SpecifierType::structure(*at, copy_of(tag)?, None)),
             TypeNode::Pointer(_) | TypeNode::Array { .. } | TypeNode::Takes { .. } => {
                 unreachable!()
             }
@@ -102,7 +103,7 @@ impl SpecifierType {
 }
 
 /// The same name, or none.
-fn copied(name: &Option<Name>) -> Result<Option<Name>, AllocError>
+fn copy_of(name: &Option<Name>) -> Result<Option<Name>, AllocError>
     ensures { IfOk result (λ n. n ≡ name.now) }
 {
     match name {

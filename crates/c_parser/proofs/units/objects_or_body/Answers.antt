@@ -1,7 +1,7 @@
 use Rattle.std.proofs.Common.{rules, arith}
 use Rattle.std.proofs.lemmas.Grind.{common_steps}
 use Rattle.c_grammar.specs.ParseUnits.{objects_named}
-use Rattle.c_parser.proofs.units.objects_named.Goals as goal
+use Rattle.c_parser.proofs.units.objects_or_body.Goals as goal
 
 pub returns-in_err-declaration : goal.returns-in_err-declaration
 unfolding objects_named
