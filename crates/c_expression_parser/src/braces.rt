@@ -243,6 +243,7 @@ pub fn specifier(
     if depth == 0 {
         return Err(Fault::Refused);
     }
+    tokens.open(depth)?;
     match read_words(tokens) {
         SpecifierStart::Basic(basic) => Ok(SpecifierType::basic(basic)),
         SpecifierStart::Other(Specifier::Struct) => {

@@ -12,8 +12,9 @@ use std::marker::Model;
 /// Why a function that reads has stopped.
 #[derive(Clone, Copy, Debug, PartialEq, Eq)]
 pub enum Fault {
-    /// The token at the cursor goes on with no reading.
+    /// The grammar's function refuses the token at the cursor.
     Refused,
+    /// Memory is short, or too many constructs are open.
     NoMemory,
 }
 
@@ -28,10 +29,16 @@ impl From<AllocError> for Fault {
     }
 }
 
+/// The most constructs that are open in one another. What reads each of them stands on the machine's
+/// stack, so one more is want of memory.
+const MOST_OPEN: usize = 1024;
+
 /// The tokens that are still to be read.
 #[derive(Drop)]
 pub struct Tokens<'a> {
     rest: &'a [Token],
+    /// The least depth at which a construct may be opened.
+    least_depth: usize,
 }
 
 impl<'a> Model for Tokens<'a> {
@@ -47,7 +54,27 @@ impl<'a> Tokens<'a> {
     pub fn new(rest: &'a [Token]) -> Tokens<'a>
         ensures { result ≡ rest.now }
     {
-        Tokens { rest }
+        Tokens {
+            rest,
+            least_depth: rest.len().saturating_sub(MOST_OPEN),
+        }
+    }
+
+    /// Begins to count the open constructs at this depth, which falls by one with each construct inside
+    /// another.
+    pub fn count_from(&mut self, depth: usize)
+        ensures { self.new ≡ self.old }
+    {
+        self.least_depth = depth.saturating_sub(MOST_OPEN);
+    }
+
+    /// Opens a construct at this depth.
+    ///
+    /// # Errors
+    ///
+    /// [`AllocError`] where [`MOST_OPEN`] are open.
+    pub fn open(&self, depth: usize) -> Result<(), AllocError> {
+        if depth < self.least_depth { Err(AllocError) } else { Ok(()) }
     }
 
     /// How many are left.
@@ -92,8 +119,14 @@ impl<'a> Tokens<'a> {
         ensures { result ≡ tokens.behind self.now }
     {
         match self.rest {
-            [] => Tokens { rest: &[] },
-            [_, rest @ ..] => Tokens { rest },
+            [] => Tokens {
+                rest: &[],
+                least_depth: self.least_depth,
+            },
+            [_, rest @ ..] => Tokens {
+                rest,
+                least_depth: self.least_depth,
+            },
         }
     }
 

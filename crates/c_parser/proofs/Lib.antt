@@ -1,9 +1,5 @@
-pub mod Totals
-pub mod Segments
-pub mod Resume
-pub mod Reading
+pub mod Loops
+pub mod Deeper
 pub mod ObjectFacts
-pub mod Open
-pub mod Externals
 pub mod Whole
 pub mod OneAnswer

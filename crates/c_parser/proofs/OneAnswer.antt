@@ -9,8 +9,9 @@ use Rattle.c_grammar.specs.ParseUnits.{unit}
 use Rattle.c_grammar.proofs.SoundUnits.{one_reading}
 use Rattle.c_parser.specs.declared.fault.ParseFault.{ParseFault}
 use Rattle.c_parser.specs.declared.fault.ParseFault.TheVariants.{Lex, Nesting, Syntax, NoMemory}
-use Rattle.c_parser.specs.Nesting.{nesting_of}
-use Rattle.c_parser.specs.Tokens.{IsTokens, HasNesting}
+use Rattle.c_nesting.specs.Nesting.{nesting_of}
+use Rattle.c_nesting.specs.HasNesting.{IsTokens, HasNesting}
+use Rattle.c_parser.specs.Limits.{most_nesting}
 use Rattle.c_parser.specs.Reading.{place_of, IsRead, HasNoReading, IsNotRead}
 
 token_of : Lexeme → Token
@@ -31,7 +32,7 @@ pub one_tree : (text : List ℕ) (x y : TranslationUnit) → IsRead text x → I
 one_tree text x y a b = one_reading text b.tokens x y (subst (λ ts. Reads text ts x) (same_tokens text a.tokens b.tokens a.are_tokens b.are_tokens) a.reads) b.reads
 
 -- a nesting within the limit is none beyond it
-not_both : (text : List ℕ) (n m : ℕ) → HasNesting text n → n ≤ 256 → HasNesting text m → 256 < m → ⊥
+not_both : (text : List ℕ) (n m : ℕ) → HasNesting text n → n ≤ most_nesting → HasNesting text m → most_nesting < m → ⊥
 not_both text n m a within b beyond = let e : n ≡ m = same_nesting text n m a b in omega arith
 
 pub read_or_refused : (text : List ℕ) (x : TranslationUnit) (fault : ParseFault) → IsRead text x → IsNotRead text fault → fault ≡ NoMemory

@@ -1,4 +1,5 @@
-pub mod Nesting
-pub mod Walking
-pub mod Tokens
+pub mod Limits
+pub mod Faults
+pub mod Blocks
+pub mod Objects
 pub mod Reading

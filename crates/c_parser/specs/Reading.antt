@@ -8,7 +8,8 @@ use Rattle.c_grammar.specs.Parser.{IsEnd}
 use Rattle.c_grammar.specs.ParseUnits.{unit}
 use Rattle.c_parser.specs.declared.fault.ParseFault.{ParseFault}
 use Rattle.c_parser.specs.declared.fault.ParseFault.TheVariants.{Lex, Nesting, Syntax, NoMemory}
-use Rattle.c_parser.specs.Tokens.{IsTokens, HasNesting}
+use Rattle.c_nesting.specs.HasNesting.{IsTokens, HasNesting}
+use Rattle.c_parser.specs.Limits.{most_nesting}
 
 -- the offset of the first of these tokens, or the length of the text
 abbrev pub place_of : ℕ → List Token → ℕ
@@ -35,7 +36,7 @@ pub record IsRead (text : List ℕ) (tree : TranslationUnit) : Type 0 where
   pub are_tokens : IsTokens text tokens
   pub nesting : ℕ
   pub has_nesting : HasNesting text nesting
-  pub within : nesting ≤ 256
+  pub within : nesting ≤ most_nesting
   pub reads : Reads text tokens tree
 
 -- The text is all tokens, of a nesting within the limit, but they have no reading: they are refused from one on, which
@@ -45,13 +46,13 @@ pub record HasNoReading (text : List ℕ) (at : ℕ) : Type 0 where
   pub are_tokens : IsTokens text tokens
   pub nesting : ℕ
   pub has_nesting : HasNesting text nesting
-  pub within : nesting ≤ 256
+  pub within : nesting ≤ most_nesting
   pub none : (tree : TranslationUnit) → Reads text tokens tree → ⊥
   pub refuses : IsRefused text tokens at
   pub ends : IsEnd refuses.rest tokens
 
 abbrev pub IsNotRead : List ℕ → ParseFault → Type 0
 IsNotRead text (Lex at) = FaultAt text at
-IsNotRead text (Nesting counted) = HasNesting text counted × (256 < counted)
+IsNotRead text (Nesting counted) = HasNesting text counted × (most_nesting < counted)
 IsNotRead text (Syntax at) = HasNoReading text at
 IsNotRead text NoMemory = Unit {0}

@@ -1,10 +1,10 @@
 //! Why a text is not read.
 
 ghost use Rattle.std.specs.Prelude.{◌≡◌};
-ghost use Rattle.c_parser.specs.declared.fault.ParseFault.TheVariants.{Lex, NoMemory};
+ghost use Rattle.c_parser.specs.Faults as faults;
 
-use c_lexer::LexFault;
-use std::alloc::{AllocError, AllocFailed};
+use c_expression_parser::Fault;
+use c_nesting::ScanFault;
 use thiserror::Error;
 
 /// Why a text is not read.
@@ -16,33 +16,33 @@ pub enum ParseFault {
     /// The constructs nest deeper than is taken: `counted` is the nesting of the text.
     #[error("the constructs nest {counted} deep")]
     Nesting { counted: u32 },
-    /// The token at the offset `at` stands where the grammar has none such.
-    #[error("no construct goes on at offset {at}")]
+    /// The grammar refuses the token at the offset `at`, or the end of the text there.
+    #[error("the token at offset {at} is refused")]
     Syntax { at: u32 },
+    /// Memory is short, or more constructs are open, or more nodes stand one under the other, than are
+    /// taken.
     #[error("out of memory")]
     NoMemory,
 }
 
-impl From<LexFault> for ParseFault {
-    ghost from_gives = { λ f e. e ≡ Lex f.at };
-
-    fn from(fault: LexFault) -> ParseFault {
-        ParseFault::Lex { at: fault.at }
+impl ParseFault {
+    /// Why a text that gives no tokens is not read.
+    pub(crate) fn of_scan(fault: ScanFault) -> ParseFault
+        ensures { result ≡ faults.of_scan fault }
+    {
+        match fault {
+            ScanFault::Lex { at } => ParseFault::Lex { at },
+            ScanFault::NoMemory => ParseFault::NoMemory,
+        }
     }
-}
 
-impl From<AllocError> for ParseFault {
-    ghost from_gives = { λ _ e. e ≡ NoMemory };
-
-    fn from(_fault: AllocError) -> ParseFault {
-        ParseFault::NoMemory
-    }
-}
-
-impl<T: Drop> From<AllocFailed<T>> for ParseFault {
-    ghost from_gives = { λ _ e. e ≡ NoMemory };
-
-    fn from(_fault: AllocFailed<T>) -> ParseFault {
-        ParseFault::NoMemory
+    /// Why tokens are not read, where a reading has stopped at this offset.
+    pub(crate) fn of_stop(fault: Fault, at: u32) -> ParseFault
+        ensures { result ≡ faults.of_stop fault at }
+    {
+        match fault {
+            Fault::Refused => ParseFault::Syntax { at },
+            Fault::NoMemory => ParseFault::NoMemory,
+        }
     }
 }

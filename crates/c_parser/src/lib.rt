@@ -2,7 +2,7 @@
 //!
 //! What a text's tree is, the grammar says (the crate `c_grammar`). Each function here reads what the
 //! function of that name in the grammar's model reads, from the tokens at a cursor. [`parse`] reads a
-//! whole text, and [`nest`] gives the nesting of its tokens, which is defined in `specs/Nesting.antt`.
+//! whole text, and [`nest`] gives the nesting of its tokens (the crate `c_nesting`).
 #![tactic(auto)]
 
 mod fault;
@@ -10,7 +10,6 @@ pub mod laws;
 mod nesting;
 mod parsing;
 mod statements;
-mod tokens;
 mod units;
 
 pub use fault::ParseFault;

@@ -1,20 +1,25 @@
 //! Whole texts.
 
-ghost use Rattle.std.specs.Prelude.{◌≤◌, ◌≡◌, length, IfOk, IfErr};
-ghost use Rattle.c_tree.specs.Nodes.{unit_nodes};
+ghost use Rattle.std.specs.Prelude.{◌≤◌, ◌<◌, ◌≡◌, length, IfOk, IfErr};
+ghost use Rattle.c_tree.specs.Nodes.{unit_nodes, unit_height};
+ghost use Rattle.c_nesting.specs.HasNesting.{IsTokens, most_bytes};
+ghost use Rattle.c_parser.specs.declared.fault.ParseFault.TheVariants.{NoMemory};
+ghost use Rattle.c_parser.specs.Limits.{most_nodes, most_height};
 ghost use Rattle.c_parser.specs.Reading.{place_of, Gives, IsRead, IsNotRead};
 
 use crate::fault::ParseFault;
-use crate::nesting::nesting_of;
-use crate::tokens::tokens;
 use crate::units::externals;
-use c_expression_parser::{Fault, Scope, Tokens};
+use c_expression_parser::{Scope, Tokens};
 use c_lexer::Token;
-use c_tree::TranslationUnit;
+use c_nesting::{nesting_of, tokens};
+use c_tree::{TranslationUnit, is_within_height};
 use std::alloc::Global;
 
 /// The greatest nesting that is taken.
 const MOST_NESTING: u32 = 256;
+
+/// The most nodes that stand one under the other.
+const MOST_HEIGHT: u32 = 2048;
 
 /// The offset of the next token, or else the length of the text.
 fn place_of(tokens: &Tokens<'_>, length: u32) -> u32
@@ -26,42 +31,66 @@ fn place_of(tokens: &Tokens<'_>, length: u32) -> u32
     }
 }
 
+/// The unit, where its tree is no higher than is taken.
+fn low_enough(unit: TranslationUnit) -> Result<TranslationUnit, ParseFault>
+    ensures same { IfOk result (λ u. u ≡ unit) }
+    ensures height { IfOk result (λ u. unit_height u ≤ most_height) }
+    ensures fault { IfErr result (λ e. (e ≡ NoMemory) × (most_height < unit_height unit)) }
+{
+    if is_within_height(&unit, MOST_HEIGHT) { Ok(unit) } else { Err(ParseFault::NoMemory) }
+}
+
 /// The unit that the tokens of the text spell.
 fn unit_of(alloc: Global, text: &[u8], tokens: &[Token]) -> Result<TranslationUnit, ParseFault>
-    requires { length text.now ≤ 4194304 }
-    ensures { Gives text.now tokens.now result }
+    requires { length text.now ≤ most_bytes }
+    ensures gives { Gives text.now tokens.now result }
+    ensures height { IfOk result (λ unit. unit_height unit ≤ most_height) }
 {
     let length = text.len() as u32;
     let mut scope = Scope::new(alloc, text);
     let mut cursor = Tokens::new(tokens);
     match externals(alloc, &mut scope, &mut cursor) {
-        Ok(externals) => Ok(TranslationUnit { externals, length }),
-        Err(Fault::NoMemory) => Err(ParseFault::NoMemory),
-        Err(Fault::Refused) => {
-            let at = place_of(&cursor, length);
-            Err(ParseFault::Syntax { at })
-        }
+        Ok(externals) => low_enough(TranslationUnit { externals, length }),
+        Err(fault) => Err(ParseFault::of_stop(fault, place_of(&cursor, length))),
     }
 }
 
-/// The unit that a text of at most 4,194,304 bytes spells (C99 6.9).
+/// The unit that tokens spell, which are those of a text of at most 4,194,304 bytes.
+fn unit_within(alloc: Global, text: &[u8], tokens: &[Token]) -> Result<TranslationUnit, ParseFault>
+    requires { length text.now ≤ most_bytes }
+    requires { IsTokens text.now tokens.now }
+    requires { length tokens.now ≤ length text.now }
+    ensures read { IfOk result (IsRead text.now) }
+    ensures fault { IfErr result (IsNotRead text.now) }
+    ensures nodes { IfOk result (λ unit. unit_nodes unit ≤ most_nodes) }
+    ensures height { IfOk result (λ unit. unit_height unit ≤ most_height) }
+{
+    match nesting_of(alloc, tokens) {
+        Err(_) => Err(ParseFault::NoMemory),
+        Ok(counted) if counted > MOST_NESTING => Err(ParseFault::Nesting { counted }),
+        Ok(_) => unit_of(alloc, text, tokens),
+    }
+}
+
+/// The unit that a text of at most 4,194,304 bytes spells (C99 6.9). Its tree has at most 33,554,432
+/// nodes, and at most 2,048 of them stand one under the other.
 ///
 /// # Errors
 ///
 /// [`ParseFault::Lex`] where the text has an offset at which no token begins, with the first;
 /// [`ParseFault::Nesting`] where it has none and its nesting exceeds 256, with the nesting;
 /// [`ParseFault::Syntax`] where neither holds and its tokens have no reading, with the offset of the
-/// token at which the reading stops, or the text's length; and [`ParseFault::NoMemory`].
+/// refused token, or the text's length; and [`ParseFault::NoMemory`], also where more than 1,024
+/// constructs are open in one another, or the tree would be higher.
 pub fn parse(alloc: Global, text: &[u8]) -> Result<TranslationUnit, ParseFault>
-    requires { length text.now ≤ 4194304 }
+    requires { length text.now ≤ most_bytes }
     ensures read { IfOk result (IsRead text.now) }
     ensures fault { IfErr result (IsNotRead text.now) }
-    ensures nodes { IfOk result (λ unit. unit_nodes unit ≤ 33554432) }
+    ensures nodes { IfOk result (λ unit. unit_nodes unit ≤ most_nodes) }
+    ensures height { IfOk result (λ unit. unit_height unit ≤ most_height) }
 {
-    let tokens = tokens(alloc, text)?;
-    let counted = nesting_of(alloc, &tokens)?;
-    if counted > MOST_NESTING {
-        return Err(ParseFault::Nesting { counted });
+    match tokens(alloc, text) {
+        Err(fault) => Err(ParseFault::of_scan(fault)),
+        Ok(tokens) => unit_within(alloc, text, &tokens),
     }
-    unit_of(alloc, text, &tokens)
 }

@@ -14,6 +14,7 @@ use c_tree::{Box, Expr, ForFirst, Label, Local, Section, Seq, Stmt, TypeNode};
 use std::alloc::{AllocError, Global};
 
 /// Reads a declarator in a block, behind its type, and its initialiser.
+#[tactic(auto, unfolding(c_grammar::specs::ParseStatements::local))]
 fn local(
     alloc: Global,
     scope: &Scope<'_>,
@@ -39,6 +40,7 @@ fn local(
 }
 
 /// Reads the declarators in a block behind their type, which has no braces.
+#[tactic(auto, using(c_expression_parser::proofs::Loops::list_turn, c_expression_parser::proofs::Loops::list_end))]
 fn locals(
     alloc: Global,
     scope: &Scope<'_>,
@@ -62,6 +64,7 @@ fn locals(
 }
 
 /// Reads a declaration in a block.
+#[tactic(auto, unfolding(c_grammar::specs::ParseStatements::line))]
 fn line(
     alloc: Global,
     scope: &Scope<'_>,
@@ -77,6 +80,7 @@ fn line(
 }
 
 /// Reads an expression that is missing where this punctuator stands.
+#[tactic(auto, unfolding(c_grammar::specs::ParseStatements::optional))]
 fn optional(
     alloc: Global,
     scope: &Scope<'_>,
@@ -93,6 +97,7 @@ fn optional(
 }
 
 /// Reads an expression in brackets.
+#[tactic(auto, unfolding(c_grammar::specs::ParseStatements::condition))]
 fn condition(
     alloc: Global,
     scope: &Scope<'_>,
@@ -108,6 +113,7 @@ fn condition(
 }
 
 /// Reads the first part of a `for`, where it is an expression.
+#[tactic(auto, unfolding(c_grammar::specs::ParseStatements::first_value))]
 fn first_value(
     alloc: Global,
     scope: &Scope<'_>,
@@ -122,6 +128,7 @@ fn first_value(
 }
 
 /// Reads the first part of a `for`, up to the semicolon behind it.
+#[tactic(auto, unfolding(c_grammar::specs::ParseStatements::first))]
 fn for_first(
     alloc: Global,
     scope: &Scope<'_>,
@@ -141,6 +148,7 @@ fn for_first(
 }
 
 /// Reads a `case` behind its word.
+#[tactic(auto, unfolding(c_grammar::specs::ParseStatements::case_label))]
 fn case_label(
     alloc: Global,
     scope: &Scope<'_>,
@@ -156,6 +164,7 @@ fn case_label(
 }
 
 /// Reads a label of a `switch`.
+#[tactic(auto, unfolding(c_grammar::specs::ParseStatements::label))]
 fn label(
     alloc: Global,
     scope: &Scope<'_>,
@@ -224,6 +233,7 @@ fn push_locals(found: &mut Seq<Stmt>, locals: Seq<Local>) -> Result<(), AllocErr
 
 /// Reads what stands in a block behind its brace, and the brace that closes it.
 #[cycle(stmt)]
+#[tactic(auto, using(crate::proofs::Loops::items_turn, crate::proofs::Loops::items_end))]
 pub fn items(
     alloc: Global,
     scope: &Scope<'_>,
@@ -250,6 +260,7 @@ pub fn items(
 
 /// Reads the statements under a label.
 #[cycle(stmt)]
+#[tactic(auto, using(crate::proofs::Loops::stmts_turn, crate::proofs::Loops::stmts_end))]
 fn stmts(
     alloc: Global,
     scope: &Scope<'_>,
@@ -271,6 +282,7 @@ fn stmts(
 
 /// Reads a label and the statements under it.
 #[cycle(stmt)]
+#[tactic(auto, unfolding(c_grammar::specs::ParseStatements::section))]
 fn section(
     alloc: Global,
     scope: &Scope<'_>,
@@ -287,6 +299,7 @@ fn section(
 
 /// Reads the sections of a `switch` behind the brace, and the brace that closes them.
 #[cycle(stmt)]
+#[tactic(auto, using(crate::proofs::Loops::sections_turn, crate::proofs::Loops::sections_end))]
 fn sections(
     alloc: Global,
     scope: &Scope<'_>,
@@ -309,6 +322,7 @@ fn sections(
 
 /// Reads the second branch of an `if`, which goes to the nearest one.
 #[cycle(stmt)]
+#[tactic(auto, unfolding(c_grammar::specs::ParseStatements::alternative))]
 fn alternative(
     alloc: Global,
     scope: &Scope<'_>,
@@ -338,6 +352,7 @@ fn alternative(
 
 /// Reads an `if` behind its word.
 #[cycle(stmt)]
+#[tactic(auto, unfolding(c_grammar::specs::ParseStatements::choice))]
 fn choice(
     alloc: Global,
     scope: &Scope<'_>,
@@ -354,6 +369,7 @@ fn choice(
 
 /// Reads a `while` behind its word.
 #[cycle(stmt)]
+#[tactic(auto, unfolding(c_grammar::specs::ParseStatements::r#while))]
 fn while_loop(
     alloc: Global,
     scope: &Scope<'_>,
@@ -370,6 +386,7 @@ fn while_loop(
 
 /// Reads a `do` behind its word.
 #[cycle(stmt)]
+#[tactic(auto, unfolding(c_grammar::specs::ParseStatements::until))]
 fn do_loop(
     alloc: Global,
     scope: &Scope<'_>,
@@ -388,6 +405,7 @@ fn do_loop(
 
 /// Reads a `for` behind its word.
 #[cycle(stmt)]
+#[tactic(auto, unfolding(c_grammar::specs::ParseStatements::r#for))]
 fn for_loop(
     alloc: Global,
     scope: &Scope<'_>,
@@ -414,6 +432,7 @@ fn for_loop(
 
 /// Reads a `switch` behind its word.
 #[cycle(stmt)]
+#[tactic(auto, unfolding(c_grammar::specs::ParseStatements::switch))]
 fn switch(
     alloc: Global,
     scope: &Scope<'_>,
@@ -431,6 +450,7 @@ fn switch(
 
 /// Reads a statement. The depth bounds how deep it goes: as much as there are tokens is enough.
 #[cycle(stmt)]
+#[tactic(auto, using(crate::proofs::Deeper::stmt_deeper), unfolding(c_grammar::specs::ParseStatements::stmt, c_grammar::specs::ParseStatements::r#return, c_grammar::specs::ParseStatements::value))]
 pub fn stmt(
     alloc: Global,
     scope: &Scope<'_>,
@@ -442,6 +462,7 @@ pub fn stmt(
     if depth == 0 {
         return Err(Fault::Refused);
     }
+    tokens.open(depth)?;
     let at = tokens.place();
     let inner = depth - 1;
     let head = head_of(tokens.peek());

@@ -18,6 +18,7 @@ use std::alloc::{AllocError, Global};
 
 /// Reads initialisers with commas between them, one or more, and perhaps a comma behind.
 #[cycle(init)]
+#[tactic(auto, using(c_expression_parser::proofs::Loops::braced_turn, c_expression_parser::proofs::Loops::braced_end))]
 fn inits(
     alloc: Global,
     scope: &Scope<'_>,
@@ -42,6 +43,7 @@ fn inits(
 
 /// Reads an initialiser. The depth bounds how deep it goes: as much as there are tokens is enough.
 #[cycle(init)]
+#[tactic(auto, using(crate::proofs::Deeper::init_deeper), unfolding(c_grammar::specs::ParseUnits::init, c_grammar::specs::ParseUnits::init_list, c_grammar::specs::ParseUnits::init_value))]
 fn init(
     alloc: Global,
     scope: &Scope<'_>,
@@ -53,6 +55,7 @@ fn init(
     if depth == 0 {
         return Err(Fault::Refused);
     }
+    tokens.open(depth)?;
     if !tokens.sees(Punct::LeftBrace) {
         return Ok(Init::Value(expr(alloc, scope, tokens, depth, 2)?));
     }
@@ -64,6 +67,7 @@ fn init(
 }
 
 /// Reads the declarators of a `typedef` behind their type. The names of types grow from one to the next.
+#[tactic(auto, using(crate::proofs::Loops::typedefs_turn, crate::proofs::Loops::typedefs_end))]
 fn typedef_declarators(
     alloc: Global,
     scope: &mut Scope<'_>,
@@ -91,6 +95,7 @@ fn typedef_declarators(
 }
 
 /// Reads a `typedef` behind its word.
+#[tactic(auto, unfolding(c_grammar::specs::ParseUnits::typedefs))]
 fn typedefs(
     alloc: Global,
     scope: &mut Scope<'_>,
@@ -168,6 +173,7 @@ impl TypedDeclarator {
 }
 
 /// Reads what stands behind a declarator: its initialiser, or nothing.
+#[tactic(auto, using(crate::proofs::ObjectFacts::external_by_is), unfolding(c_grammar::specs::ParseUnits::object_by))]
 fn object(
     alloc: Global,
     scope: &Scope<'_>,
@@ -187,6 +193,7 @@ fn object(
 }
 
 /// Reads declarators with commas between them, each with its initialiser, behind those that were found.
+#[tactic(auto, using(crate::proofs::Loops::objects_turn, crate::proofs::Loops::objects_end))]
 fn objects(
     alloc: Global,
     scope: &Scope<'_>,
@@ -229,6 +236,7 @@ fn objects(
 }
 
 /// Reads what stands behind the first declarator, of which the further ones have the bare type.
+#[tactic(auto, unfolding(c_grammar::specs::ParseUnits::objects_behind))]
 fn objects_behind(
     alloc: Global,
     scope: &Scope<'_>,
@@ -251,6 +259,7 @@ fn objects_behind(
 }
 
 /// Reads the body of a function behind its brace.
+#[tactic(auto, unfolding(c_grammar::specs::ParseUnits::body_behind))]
 fn body_behind(
     alloc: Global,
     scope: &Scope<'_>,
@@ -272,6 +281,7 @@ fn body_behind(
 }
 
 /// Reads what stands behind the first declarator: the body of a function, or the rest of a declaration.
+#[tactic(auto, unfolding(c_grammar::specs::ParseUnits::objects_named))]
 fn objects_or_body(
     alloc: Global,
     scope: &Scope<'_>,
@@ -295,6 +305,7 @@ fn objects_or_body(
 }
 
 /// Reads what stands behind a type at file scope.
+#[tactic(auto, unfolding(c_grammar::specs::ParseUnits::behind_type))]
 fn behind_type(
     alloc: Global,
     scope: &Scope<'_>,
@@ -323,6 +334,7 @@ fn behind_type(
 }
 
 /// Reads a declaration at file scope behind its storage word.
+#[tactic(auto, unfolding(c_grammar::specs::ParseUnits::stored))]
 fn behind_storage(
     alloc: Global,
     scope: &Scope<'_>,
@@ -337,6 +349,7 @@ fn behind_storage(
 }
 
 /// Reads an external declaration.
+#[tactic(auto, unfolding(c_grammar::specs::ParseUnits::external))]
 fn external(
     alloc: Global,
     scope: &mut Scope<'_>,
@@ -363,6 +376,7 @@ fn external(
 }
 
 /// Reads external declarations up to the end.
+#[tactic(auto, using(crate::proofs::Loops::externals_turn, crate::proofs::Loops::externals_end, crate::proofs::Loops::externals_none))]
 pub fn externals(
     alloc: Global,
     scope: &mut Scope<'_>,
@@ -376,6 +390,7 @@ pub fn externals(
         if left == 0 {
             return Ok(found);
         }
+        tokens.count_from(left);
         let more = external(alloc, scope, tokens, left)?;
         found = append(found, more)?;
     }
