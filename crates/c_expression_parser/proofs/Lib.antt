@@ -1,7 +1,5 @@
-pub mod Turns
-pub mod SplitWords
-pub mod Layers
-pub mod Operands
-pub mod Indexes
 pub mod Loops
 pub mod Deeper
+pub mod Lexemes
+pub mod Layers
+pub mod Indexes

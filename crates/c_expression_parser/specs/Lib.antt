@@ -1,3 +1,3 @@
 pub mod Answers
 pub mod Shapes
-pub mod Indexes
+pub mod model

@@ -10,6 +10,7 @@ use crate::expressions::{declarator, expr};
 use crate::scope::Scope;
 use crate::shapes::with_shapes;
 use crate::specifiers::{named_type, read_words};
+use c_grammar::levels;
 use c_grammar::{Declarator, Naming, Specifier, SpecifierStart};
 use c_lexer::Punct;
 use c_tree::{Constant, Declaration, Name, Seq, TypeNode};
@@ -29,7 +30,7 @@ pub fn append<T: Drop>(found: Seq<T>, more: Seq<T>) -> Result<Seq<T>, AllocError
 #[tactic(auto, unfolding(c_grammar::specs::ParseSpecifiers::declaration))]
 pub fn declaration(
     alloc: Global,
-    scope: &Scope<'_>,
+    scope: &Scope,
     tokens: &mut Tokens<'_>,
     depth: usize,
     naming: Naming,
@@ -53,7 +54,7 @@ pub fn declaration(
 #[tactic(auto, unfolding(c_grammar::specs::ParseSpecifiers::constant))]
 fn constant(
     alloc: Global,
-    scope: &Scope<'_>,
+    scope: &Scope,
     tokens: &mut Tokens<'_>,
     depth: usize,
 ) -> Result<Constant, Fault>
@@ -66,7 +67,7 @@ fn constant(
         return Err(Fault::Refused);
     }
     let at = tokens.place();
-    let name = scope.name_at(alloc, tokens)?;
+    let name = tokens.name(alloc)?;
     tokens.take();
     if !tokens.sees(Punct::Assign) {
         return Ok(Constant {
@@ -76,7 +77,7 @@ fn constant(
         });
     }
     tokens.take();
-    let value = expr(alloc, scope, tokens, depth, 4)?;
+    let value = expr(alloc, scope, tokens, depth, levels::CONDITIONAL)?;
     Ok(Constant {
         at,
         name,
@@ -88,7 +89,7 @@ fn constant(
 #[tactic(auto, using(crate::proofs::Loops::braced_turn, crate::proofs::Loops::braced_end))]
 fn constants(
     alloc: Global,
-    scope: &Scope<'_>,
+    scope: &Scope,
     tokens: &mut Tokens<'_>,
     depth: usize,
 ) -> Result<Seq<Constant>, Fault>
@@ -112,7 +113,7 @@ fn constants(
 #[tactic(auto, using(crate::proofs::Loops::declarators_turn, crate::proofs::Loops::declarators_end))]
 fn member_declarators(
     alloc: Global,
-    scope: &Scope<'_>,
+    scope: &Scope,
     tokens: &mut Tokens<'_>,
     depth: usize,
     base: SpecifierType,
@@ -139,7 +140,7 @@ fn member_declarators(
 #[tactic(auto, unfolding(c_grammar::specs::ParseSpecifiers::member))]
 fn member(
     alloc: Global,
-    scope: &Scope<'_>,
+    scope: &Scope,
     tokens: &mut Tokens<'_>,
     depth: usize,
 ) -> Result<Seq<Declaration>, Fault>
@@ -156,7 +157,7 @@ fn member(
 #[tactic(auto, using(crate::proofs::Loops::members_turn, crate::proofs::Loops::members_end))]
 fn members(
     alloc: Global,
-    scope: &Scope<'_>,
+    scope: &Scope,
     tokens: &mut Tokens<'_>,
     depth: usize,
 ) -> Result<Seq<Declaration>, Fault>
@@ -177,7 +178,7 @@ fn members(
 #[tactic(auto, unfolding(c_grammar::specs::ParseSpecifiers::braces))]
 fn braces(
     alloc: Global,
-    scope: &Scope<'_>,
+    scope: &Scope,
     tokens: &mut Tokens<'_>,
     depth: usize,
     word: Specifier,
@@ -208,7 +209,7 @@ fn braces(
 #[tactic(auto, unfolding(c_grammar::specs::ParseSpecifiers::tag_or_body))]
 fn tag_or_body(
     alloc: Global,
-    scope: &Scope<'_>,
+    scope: &Scope,
     tokens: &mut Tokens<'_>,
     depth: usize,
     word: Specifier,
@@ -220,7 +221,7 @@ fn tag_or_body(
         return braces(alloc, scope, tokens, depth, word, at, None);
     }
     let place = tokens.place();
-    let name = scope.name_at(alloc, tokens)?;
+    let name = tokens.name(alloc)?;
     tokens.take();
     if tokens.sees(Punct::LeftBrace) {
         return braces(alloc, scope, tokens, depth, word, place, Some(name));
@@ -234,7 +235,7 @@ fn tag_or_body(
 #[tactic(auto, using(crate::proofs::Deeper::specifier_deeper), unfolding(c_grammar::specs::ParseSpecifiers::specifier))]
 pub fn specifier(
     alloc: Global,
-    scope: &Scope<'_>,
+    scope: &Scope,
     tokens: &mut Tokens<'_>,
     depth: usize,
 ) -> Result<SpecifierType, Fault>

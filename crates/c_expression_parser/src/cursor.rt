@@ -1,12 +1,14 @@
 //! A cursor over tokens.
 
-ghost use Rattle.std.specs.Prelude.{◌≡◌, length, Ok};
+ghost use Rattle.std.specs.Prelude.{◌≡◌, IfOk, length, take, drop, Ok};
+ghost use Rattle.c_lexer.specs.Pieces.{lexemes};
 ghost use Rattle.c_grammar.specs.Tokens as tokens;
 ghost use Rattle.c_grammar.specs.Parser as model;
-ghost use Rattle.c_expression_parser.specs.Answers.{Answers, first_of};
+ghost use Rattle.c_expression_parser.specs.Answers.{Answers, place_or};
 
 use c_lexer::{Keyword, Punct, Token, TokenKind};
-use std::alloc::AllocError;
+use c_tree::Name;
+use std::alloc::{AllocError, Global};
 use std::marker::Model;
 
 /// Why a function that reads has stopped.
@@ -33,9 +35,11 @@ impl From<AllocError> for Fault {
 /// stack, so one more is want of memory.
 const MOST_OPEN: usize = 1024;
 
-/// The tokens that are still to be read.
+/// The tokens that are still to be read, which contracts see with their spellings.
 #[derive(Drop)]
 pub struct Tokens<'a> {
+    /// The text that they are of.
+    text: &'a [u8],
     rest: &'a [Token],
     /// The least depth at which a construct may be opened.
     least_depth: usize,
@@ -43,18 +47,23 @@ pub struct Tokens<'a> {
 
 impl<'a> Model for Tokens<'a> {
     ghost use Rattle.std.specs.Prelude.{List};
-    ghost use Rattle.c_lexer.specs.declared.token.Token.{Token};
+    ghost use Rattle.c_lexer.specs.Pieces.{Lexeme, lexemes};
+    ghost use Rattle.c_expression_parser.specs.model.Codes.{lexemes_code};
 
-    ghost Value = { List Token };
+    ghost Value = { List Lexeme };
 
-    ghost view = { λ t. t.rest.now };
+    ghost coded = { lexemes_code };
+
+    ghost view = { λ t. lexemes t.text.now t.rest.now };
 }
 
 impl<'a> Tokens<'a> {
-    pub fn new(rest: &'a [Token]) -> Tokens<'a>
-        ensures { result ≡ rest.now }
+    /// These tokens of a text.
+    pub fn new(text: &'a [u8], rest: &'a [Token]) -> Tokens<'a>
+        ensures { result ≡ lexemes text.now rest.now }
     {
         Tokens {
+            text,
             rest,
             least_depth: rest.len().saturating_sub(MOST_OPEN),
         }
@@ -78,6 +87,7 @@ impl<'a> Tokens<'a> {
     }
 
     /// How many are left.
+    #[tactic(auto, using(crate::proofs::Lexemes::length_lexemes))]
     pub fn left(&self) -> usize
         ensures { result ≡ length self.now }
     {
@@ -104,14 +114,31 @@ impl<'a> Tokens<'a> {
         }
     }
 
-    /// The next one.
-    pub fn first(&self) -> Option<Token>
-        ensures { result ≡ first_of self.now }
+    /// The same, or this offset behind the last one.
+    pub fn place_or(&self, end: u32) -> u32
+        ensures { result ≡ place_or end self.now }
     {
         match self.rest {
-            [] => None,
-            [first, ..] => Some(*first),
+            [] => end,
+            [first, ..] => first.at,
         }
+    }
+
+    /// The bytes of the next one.
+    pub fn spelling(&self) -> &'a [u8]
+        ensures { result.now ≡ tokens.spelling_at self.now }
+    {
+        match self.rest {
+            [] => &[],
+            [first, ..] => front(behind(self.text, first.at as usize), first.len as usize),
+        }
+    }
+
+    /// The bytes of the next one, as a name of their own.
+    pub fn name(&self, alloc: Global) -> Result<Name, AllocError>
+        ensures { IfOk result (λ n. n ≡ tokens.spelling_at self.now) }
+    {
+        Name::from_slice(alloc, self.spelling())
     }
 
     /// The tokens behind the next one.
@@ -120,10 +147,12 @@ impl<'a> Tokens<'a> {
     {
         match self.rest {
             [] => Tokens {
+                text: self.text,
                 rest: &[],
                 least_depth: self.least_depth,
             },
             [_, rest @ ..] => Tokens {
+                text: self.text,
                 rest,
                 least_depth: self.least_depth,
             },
@@ -217,4 +246,18 @@ impl<'a> Tokens<'a> {
             self.take();
         }
     }
+}
+
+/// The first bytes, as many of them as there are.
+fn front(s: &[u8], n: usize) -> &[u8]
+    ensures { result.now ≡ take n s.now }
+{
+    if n < s.len() { &s[..n] } else { s }
+}
+
+/// What stands behind the first bytes.
+fn behind(s: &[u8], n: usize) -> &[u8]
+    ensures { result.now ≡ drop n s.now }
+{
+    if n < s.len() { &s[n..] } else { &[] }
 }

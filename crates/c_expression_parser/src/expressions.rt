@@ -3,17 +3,18 @@
 ghost use Rattle.std.specs.Prelude.{◌≡◌, [], length};
 ghost use Rattle.c_tree.specs.declared.expressions.Expr as trees;
 ghost use Rattle.c_grammar.specs.Parser.{and_then, pure};
+ghost use Rattle.c_grammar.specs.Levels as levels;
 ghost use Rattle.c_grammar.specs.ParseExpr as model;
 ghost use Rattle.c_grammar.specs.declared.classes.Infix.TheVariants as roles;
 ghost use Rattle.c_grammar.specs.declared.classes.Prefix.TheVariants as fronts;
 ghost use Rattle.c_expression_parser.specs.Answers.{Answers};
 
 use crate::cursor::{Fault, Tokens};
-use crate::parts::{member, named_core, no_name, texts};
+use crate::parts::{member, core_name, no_name, texts};
 use crate::scope::Scope;
 use crate::shapes::{comma_of, may_be_nameless, parameter_of, with_shapes, with_shape, without_void};
 use crate::specifiers::plain;
-use c_grammar::levels::{binding_level, level_of, operand_level, result_level};
+use c_grammar::levels::{self, binding_level, level_of, operand_level, result_level};
 use c_grammar::{Declarator, Infix, Naming, Prefix, Shape, infix_of, prefix_of};
 use c_lexer::Punct;
 use c_tree::{AssignOp, BinaryOp, Box, Expr, Name, Parameter, Seq, TypeName, UnaryOp};
@@ -24,15 +25,15 @@ use std::alloc::Global;
 #[tactic(auto, using(crate::proofs::Loops::list_turn, crate::proofs::Loops::list_end))]
 fn assignments(
     alloc: Global,
-    scope: &Scope<'_>,
+    scope: &Scope,
     tokens: &mut Tokens<'_>,
     depth: usize,
 ) -> Result<Seq<Expr>, Fault>
-    ensures { Answers (model.list_from (model.expr scope.now depth 2) (length tokens.old) [] tokens.old) result tokens.new }
+    ensures { Answers (model.list_from (model.expr scope.now depth levels.assignment) (length tokens.old) [] tokens.old) result tokens.new }
 {
     let mut found = Seq::new(alloc);
     for _turn in 0..tokens.left() {
-        found.push(expr(alloc, scope, tokens, depth, 2)?)?;
+        found.push(expr(alloc, scope, tokens, depth, levels::ASSIGNMENT)?)?;
         if !tokens.sees(Punct::Comma) {
             return Ok(found);
         }
@@ -46,7 +47,7 @@ fn assignments(
 #[tactic(auto, unfolding(c_grammar::specs::ParseExpr::whole))]
 pub fn whole(
     alloc: Global,
-    scope: &Scope<'_>,
+    scope: &Scope,
     tokens: &mut Tokens<'_>,
     depth: usize,
 ) -> Result<Expr, Fault>
@@ -62,7 +63,7 @@ pub fn whole(
 #[tactic(auto, unfolding(c_grammar::specs::ParseExpr::type_name))]
 fn type_name(
     alloc: Global,
-    scope: &Scope<'_>,
+    scope: &Scope,
     tokens: &mut Tokens<'_>,
     depth: usize,
 ) -> Result<TypeName, Fault>
@@ -80,7 +81,7 @@ fn type_name(
 #[tactic(auto, unfolding(c_grammar::specs::ParseExpr::parameter))]
 fn parameter(
     alloc: Global,
-    scope: &Scope<'_>,
+    scope: &Scope,
     tokens: &mut Tokens<'_>,
     depth: usize,
 ) -> Result<Parameter, Fault>
@@ -97,7 +98,7 @@ fn parameter(
 #[tactic(auto, using(crate::proofs::Loops::list_turn, crate::proofs::Loops::list_end))]
 fn parameter_list(
     alloc: Global,
-    scope: &Scope<'_>,
+    scope: &Scope,
     tokens: &mut Tokens<'_>,
     depth: usize,
 ) -> Result<Seq<Parameter>, Fault>
@@ -119,7 +120,7 @@ fn parameter_list(
 #[tactic(auto, unfolding(c_grammar::specs::ParseExpr::parameters))]
 fn parameters(
     alloc: Global,
-    scope: &Scope<'_>,
+    scope: &Scope,
     tokens: &mut Tokens<'_>,
     depth: usize,
 ) -> Result<Seq<Parameter>, Fault>
@@ -139,7 +140,7 @@ fn parameters(
 #[tactic(auto, unfolding(c_grammar::specs::ParseExpr::arguments))]
 fn arguments(
     alloc: Global,
-    scope: &Scope<'_>,
+    scope: &Scope,
     tokens: &mut Tokens<'_>,
     depth: usize,
 ) -> Result<Seq<Expr>, Fault>
@@ -156,10 +157,10 @@ fn arguments(
 
 /// Reads what stands behind a name that is no type.
 #[cycle(expr)]
-#[tactic(auto, unfolding(c_grammar::specs::ParseExpr::named))]
+#[tactic(auto, unfolding(c_grammar::specs::ParseExpr::behind_name))]
 fn behind_name(
     alloc: Global,
-    scope: &Scope<'_>,
+    scope: &Scope,
     tokens: &mut Tokens<'_>,
     depth: usize,
     at: u32,
@@ -168,7 +169,7 @@ fn behind_name(
     ensures { Answers (model.behind_name scope.now (model.expr scope.now depth) (model.declarator scope.now depth) at name tokens.old) result tokens.new }
 {
     if !tokens.sees(Punct::LeftParen) {
-        return Ok((Expr::Name { at, name }, 19));
+        return Ok((Expr::Name { at, name }, levels::PRIMARY));
     }
     tokens.take();
     let arguments = arguments(alloc, scope, tokens, depth)?;
@@ -178,7 +179,7 @@ fn behind_name(
             name,
             arguments,
         },
-        19,
+        levels::PRIMARY,
     ))
 }
 
@@ -187,7 +188,7 @@ fn behind_name(
 #[tactic(auto, unfolding(c_grammar::specs::ParseExpr::cast_behind))]
 fn cast_behind(
     alloc: Global,
-    scope: &Scope<'_>,
+    scope: &Scope,
     tokens: &mut Tokens<'_>,
     depth: usize,
     at: u32,
@@ -196,8 +197,8 @@ fn cast_behind(
 {
     let to = Box::new(alloc, type_name(alloc, scope, tokens, depth)?)?;
     tokens.expect(Punct::RightParen)?;
-    let operand = Box::new(alloc, expr(alloc, scope, tokens, depth, 16)?)?;
-    Ok((Expr::Cast { at, to, operand }, 16))
+    let operand = Box::new(alloc, expr(alloc, scope, tokens, depth, levels::CAST)?)?;
+    Ok((Expr::Cast { at, to, operand }, levels::CAST))
 }
 
 /// Reads an expression in brackets, behind the first.
@@ -205,7 +206,7 @@ fn cast_behind(
 #[tactic(auto, unfolding(c_grammar::specs::ParseExpr::brackets_behind))]
 fn brackets_behind(
     alloc: Global,
-    scope: &Scope<'_>,
+    scope: &Scope,
     tokens: &mut Tokens<'_>,
     depth: usize,
 ) -> Result<(Expr, u8), Fault>
@@ -213,7 +214,7 @@ fn brackets_behind(
 {
     let found = whole(alloc, scope, tokens, depth)?;
     tokens.expect(Punct::RightParen)?;
-    Ok((found, 19))
+    Ok((found, levels::PRIMARY))
 }
 
 /// Reads the type of a `sizeof`, behind the bracket.
@@ -221,7 +222,7 @@ fn brackets_behind(
 #[tactic(auto, unfolding(c_grammar::specs::ParseExpr::size_of_type))]
 fn size_of_type(
     alloc: Global,
-    scope: &Scope<'_>,
+    scope: &Scope,
     tokens: &mut Tokens<'_>,
     depth: usize,
     at: u32,
@@ -230,7 +231,7 @@ fn size_of_type(
 {
     let operand = Box::new(alloc, type_name(alloc, scope, tokens, depth)?)?;
     tokens.expect(Punct::RightParen)?;
-    Ok((Expr::SizeOfType { at, operand }, 17))
+    Ok((Expr::SizeOfType { at, operand }, levels::UNARY))
 }
 
 /// Reads the operand of a `sizeof`, which is no type in brackets.
@@ -238,22 +239,22 @@ fn size_of_type(
 #[tactic(auto, unfolding(c_grammar::specs::ParseExpr::size_of_value))]
 fn size_of_value(
     alloc: Global,
-    scope: &Scope<'_>,
+    scope: &Scope,
     tokens: &mut Tokens<'_>,
     depth: usize,
     at: u32,
 ) -> Result<(Expr, u8), Fault>
     ensures { Answers (model.size_of_value scope.now (model.expr scope.now depth) (model.declarator scope.now depth) at tokens.old) result tokens.new }
 {
-    let operand = Box::new(alloc, expr(alloc, scope, tokens, depth, 17)?)?;
-    Ok((Expr::SizeOfValue { at, operand }, 17))
+    let operand = Box::new(alloc, expr(alloc, scope, tokens, depth, levels::UNARY)?)?;
+    Ok((Expr::SizeOfValue { at, operand }, levels::UNARY))
 }
 
 /// Reads what stands behind `sizeof`.
 #[cycle(expr)]
 fn size_of(
     alloc: Global,
-    scope: &Scope<'_>,
+    scope: &Scope,
     tokens: &mut Tokens<'_>,
     depth: usize,
     at: u32,
@@ -272,7 +273,7 @@ fn size_of(
 #[cycle(expr)]
 fn name_or_call(
     alloc: Global,
-    scope: &Scope<'_>,
+    scope: &Scope,
     tokens: &mut Tokens<'_>,
     depth: usize,
 ) -> Result<(Expr, u8), Fault>
@@ -282,7 +283,7 @@ fn name_or_call(
     if scope.is_type_at(tokens) {
         return Err(Fault::Refused);
     }
-    let name = scope.name_at(alloc, tokens)?;
+    let name = tokens.name(alloc)?;
     tokens.take();
     behind_name(alloc, scope, tokens, depth, at, name)
 }
@@ -292,7 +293,7 @@ fn name_or_call(
 #[cycle(expr)]
 fn bracket_operand(
     alloc: Global,
-    scope: &Scope<'_>,
+    scope: &Scope,
     tokens: &mut Tokens<'_>,
     depth: usize,
     at: u32,
@@ -303,7 +304,7 @@ fn bracket_operand(
     if !scope.begins_type(tokens) {
         return brackets_behind(alloc, scope, tokens, depth);
     }
-    if least >= 17 {
+    if least >= levels::UNARY {
         return Err(Fault::Refused);
     }
     cast_behind(alloc, scope, tokens, depth, at)
@@ -313,17 +314,17 @@ fn bracket_operand(
 #[cycle(expr)]
 fn unary(
     alloc: Global,
-    scope: &Scope<'_>,
+    scope: &Scope,
     tokens: &mut Tokens<'_>,
     depth: usize,
     least: u8,
     at: u32,
     op: UnaryOp,
 ) -> Result<(Expr, u8), Fault>
-    ensures { Answers (and_then (model.expr scope.now depth least tokens.old) (λ x. pure (trees.Unary at op x, 17))) result tokens.new }
+    ensures { Answers (and_then (model.expr scope.now depth least tokens.old) (λ x. pure (trees.Unary at op x, levels.unary))) result tokens.new }
 {
     let operand = Box::new(alloc, expr(alloc, scope, tokens, depth, least)?)?;
-    Ok((Expr::Unary { at, op, operand }, 17))
+    Ok((Expr::Unary { at, op, operand }, levels::UNARY))
 }
 
 /// Reads the front of an expression, up to the operators behind it, and says its level. A cast stands
@@ -332,7 +333,7 @@ fn unary(
 #[tactic(auto, unfolding(c_grammar::specs::ParseExpr::operand))]
 fn operand(
     alloc: Global,
-    scope: &Scope<'_>,
+    scope: &Scope,
     tokens: &mut Tokens<'_>,
     depth: usize,
     least: u8,
@@ -343,18 +344,18 @@ fn operand(
     match prefix_of(tokens.peek()) {
         Prefix::Name => name_or_call(alloc, scope, tokens, depth),
         Prefix::Number => {
-            let spelling = scope.name_at(alloc, tokens)?;
+            let spelling = tokens.name(alloc)?;
             tokens.take();
-            Ok((Expr::Number { at, spelling }, 19))
+            Ok((Expr::Number { at, spelling }, levels::PRIMARY))
         }
         Prefix::Character => {
-            let spelling = scope.name_at(alloc, tokens)?;
+            let spelling = tokens.name(alloc)?;
             tokens.take();
-            Ok((Expr::Character { at, spelling }, 19))
+            Ok((Expr::Character { at, spelling }, levels::PRIMARY))
         }
         Prefix::Text => {
-            let spellings = texts(alloc, scope, tokens)?;
-            Ok((Expr::Text { at, spellings }, 19))
+            let spellings = texts(alloc, tokens)?;
+            Ok((Expr::Text { at, spellings }, levels::PRIMARY))
         }
         Prefix::Bracket => {
             tokens.take();
@@ -362,11 +363,11 @@ fn operand(
         }
         Prefix::Step(op) => {
             tokens.take();
-            unary(alloc, scope, tokens, depth, 17, at, op)
+            unary(alloc, scope, tokens, depth, levels::UNARY, at, op)
         }
         Prefix::Unary(op) => {
             tokens.take();
-            unary(alloc, scope, tokens, depth, 16, at, op)
+            unary(alloc, scope, tokens, depth, levels::CAST, at, op)
         }
         Prefix::SizeOf => {
             tokens.take();
@@ -378,10 +379,9 @@ fn operand(
 
 /// Reads what stands behind an operator, whose left operand is given with its place.
 #[cycle(expr)]
-#[tactic(auto, unfolding(c_grammar::specs::ParseExpr::member))]
 fn step(
     alloc: Global,
-    scope: &Scope<'_>,
+    scope: &Scope,
     tokens: &mut Tokens<'_>,
     depth: usize,
     kind: Infix,
@@ -394,7 +394,7 @@ fn step(
     match kind {
         Infix::Index => index(alloc, scope, tokens, depth, at, left),
         Infix::Field => {
-            let name = member(alloc, scope, tokens)?;
+            let name = member(alloc, tokens)?;
             Ok(Expr::Field {
                 at,
                 operand: left,
@@ -402,7 +402,7 @@ fn step(
             })
         }
         Infix::Arrow => {
-            let name = member(alloc, scope, tokens)?;
+            let name = member(alloc, tokens)?;
             Ok(Expr::Arrow {
                 at,
                 operand: left,
@@ -425,7 +425,7 @@ fn step(
 #[cycle(expr)]
 fn index(
     alloc: Global,
-    scope: &Scope<'_>,
+    scope: &Scope,
     tokens: &mut Tokens<'_>,
     depth: usize,
     at: u32,
@@ -442,7 +442,7 @@ fn index(
 #[cycle(expr)]
 fn binary(
     alloc: Global,
-    scope: &Scope<'_>,
+    scope: &Scope,
     tokens: &mut Tokens<'_>,
     depth: usize,
     at: u32,
@@ -465,7 +465,7 @@ fn binary(
 #[cycle(expr)]
 fn assignment(
     alloc: Global,
-    scope: &Scope<'_>,
+    scope: &Scope,
     tokens: &mut Tokens<'_>,
     depth: usize,
     at: u32,
@@ -474,7 +474,7 @@ fn assignment(
 ) -> Result<Expr, Fault>
     ensures { Answers (model.step_by scope.now (model.expr scope.now depth) (model.declarator scope.now depth) (roles.Assign op) at left tokens.old) result tokens.new }
 {
-    let right = Box::new(alloc, expr(alloc, scope, tokens, depth, 2)?)?;
+    let right = Box::new(alloc, expr(alloc, scope, tokens, depth, levels::ASSIGNMENT)?)?;
     Ok(Expr::Assign {
         at,
         op,
@@ -487,7 +487,7 @@ fn assignment(
 #[cycle(expr)]
 fn choice(
     alloc: Global,
-    scope: &Scope<'_>,
+    scope: &Scope,
     tokens: &mut Tokens<'_>,
     depth: usize,
     at: u32,
@@ -497,7 +497,7 @@ fn choice(
 {
     let holds = Box::new(alloc, whole(alloc, scope, tokens, depth)?)?;
     tokens.expect(Punct::Colon)?;
-    let fails = Box::new(alloc, expr(alloc, scope, tokens, depth, 4)?)?;
+    let fails = Box::new(alloc, expr(alloc, scope, tokens, depth, levels::CONDITIONAL)?)?;
     Ok(Expr::Conditional {
         at,
         condition,
@@ -511,7 +511,7 @@ fn choice(
 #[tactic(auto, using(std::proofs::lemmas::Grind::common_steps, crate::proofs::Loops::climb_turn, crate::proofs::Loops::climb_end))]
 fn climb(
     alloc: Global,
-    scope: &Scope<'_>,
+    scope: &Scope,
     tokens: &mut Tokens<'_>,
     depth: usize,
     at: u32,
@@ -542,7 +542,7 @@ fn climb(
 #[tactic(auto, using(crate::proofs::Deeper::expr_deeper), unfolding(c_grammar::specs::ParseExpr::expr))]
 pub fn expr(
     alloc: Global,
-    scope: &Scope<'_>,
+    scope: &Scope,
     tokens: &mut Tokens<'_>,
     depth: usize,
     least: u8,
@@ -563,7 +563,7 @@ pub fn expr(
 #[tactic(auto, unfolding(c_grammar::specs::ParseExpr::length_of))]
 fn length_of(
     alloc: Global,
-    scope: &Scope<'_>,
+    scope: &Scope,
     tokens: &mut Tokens<'_>,
     depth: usize,
     found: Declarator,
@@ -574,7 +574,7 @@ fn length_of(
         tokens.take();
         return Ok(with_shape(found, Shape::Array(None))?);
     }
-    let length = expr(alloc, scope, tokens, depth, 4)?;
+    let length = expr(alloc, scope, tokens, depth, levels::CONDITIONAL)?;
     tokens.expect(Punct::RightBracket)?;
     Ok(with_shape(found, Shape::Array(Some(length)))?)
 }
@@ -584,7 +584,7 @@ fn length_of(
 #[tactic(auto, using(crate::proofs::Loops::suffixes_turn, crate::proofs::Loops::suffixes_end))]
 fn suffixes(
     alloc: Global,
-    scope: &Scope<'_>,
+    scope: &Scope,
     tokens: &mut Tokens<'_>,
     depth: usize,
     mut found: Declarator,
@@ -611,7 +611,7 @@ fn suffixes(
 #[tactic(auto, unfolding(c_grammar::specs::ParseExpr::group_behind))]
 fn group_behind(
     alloc: Global,
-    scope: &Scope<'_>,
+    scope: &Scope,
     tokens: &mut Tokens<'_>,
     depth: usize,
     naming: Naming,
@@ -628,7 +628,7 @@ fn group_behind(
 #[tactic(auto, unfolding(c_grammar::specs::ParseExpr::core))]
 fn core(
     alloc: Global,
-    scope: &Scope<'_>,
+    scope: &Scope,
     tokens: &mut Tokens<'_>,
     depth: usize,
     naming: Naming,
@@ -636,7 +636,7 @@ fn core(
     ensures { Answers (model.core scope.now (model.expr scope.now depth) (model.declarator scope.now depth) naming tokens.old) result tokens.new }
 {
     if tokens.sees_name() {
-        return named_core(alloc, scope, tokens, naming);
+        return core_name(alloc, scope, tokens, naming);
     }
     if !tokens.sees(Punct::LeftParen) {
         return no_name(alloc, tokens, naming);
@@ -657,7 +657,7 @@ fn core(
 #[tactic(auto, unfolding(c_grammar::specs::ParseExpr::pointer_declarator))]
 fn pointer_declarator(
     alloc: Global,
-    scope: &Scope<'_>,
+    scope: &Scope,
     tokens: &mut Tokens<'_>,
     depth: usize,
     naming: Naming,
@@ -674,7 +674,7 @@ fn pointer_declarator(
 #[tactic(auto, using(crate::proofs::Deeper::declarator_deeper), unfolding(c_grammar::specs::ParseExpr::declarator))]
 pub fn declarator(
     alloc: Global,
-    scope: &Scope<'_>,
+    scope: &Scope,
     tokens: &mut Tokens<'_>,
     depth: usize,
     naming: Naming,

@@ -2,14 +2,13 @@
 //! 6.5 and 6.7).
 //!
 //! Each function reads what the function of that name in the grammar's model reads (the crate `c_grammar`),
-//! from the tokens at a cursor. After a refusal the cursor stands at the token that goes on with no reading.
+//! from the tokens at a cursor. After a refusal the cursor stands at the refused token.
 #![tactic(auto)]
 
 mod specifier_type;
 mod braces;
 mod cursor;
 mod expressions;
-mod names;
 mod parts;
 mod scope;
 mod shapes;

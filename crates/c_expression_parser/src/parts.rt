@@ -13,7 +13,7 @@ use std::alloc::Global;
 
 /// Reads the text literals that stand here side by side.
 #[tactic(auto, using(crate::proofs::Loops::texts_turn, crate::proofs::Loops::texts_end))]
-pub fn texts(alloc: Global, scope: &Scope<'_>, tokens: &mut Tokens<'_>) -> Result<Seq<Name>, Fault>
+pub fn texts(alloc: Global, tokens: &mut Tokens<'_>) -> Result<Seq<Name>, Fault>
     ensures { Answers (model.texts_from (length tokens.old) [] tokens.old) result tokens.new }
 {
     let mut found = Seq::new(alloc);
@@ -21,20 +21,21 @@ pub fn texts(alloc: Global, scope: &Scope<'_>, tokens: &mut Tokens<'_>) -> Resul
         if !tokens.sees_text() {
             return Ok(found);
         }
-        found.push(scope.name_at(alloc, tokens)?)?;
+        found.push(tokens.name(alloc)?)?;
         tokens.take();
     }
     Ok(found)
 }
 
 /// Reads the name of a member.
-pub fn member(alloc: Global, scope: &Scope<'_>, tokens: &mut Tokens<'_>) -> Result<Name, Fault>
+#[tactic(auto, unfolding(c_grammar::specs::ParseExpr::member))]
+pub fn member(alloc: Global, tokens: &mut Tokens<'_>) -> Result<Name, Fault>
     ensures { Answers (model.member tokens.old) result tokens.new }
 {
     if !tokens.sees_name() {
         return Err(Fault::Refused);
     }
-    let name = scope.name_at(alloc, tokens)?;
+    let name = tokens.name(alloc)?;
     tokens.take();
     Ok(name)
 }
@@ -53,9 +54,9 @@ pub fn no_name(alloc: Global, tokens: &Tokens<'_>, naming: Naming) -> Result<Dec
 }
 
 /// Reads the name of a declarator where a name stands, which may be none of its own.
-pub fn named_core(
+pub fn core_name(
     alloc: Global,
-    scope: &Scope<'_>,
+    scope: &Scope,
     tokens: &mut Tokens<'_>,
     naming: Naming,
 ) -> Result<Declarator, Fault>
@@ -65,7 +66,7 @@ pub fn named_core(
         return no_name(alloc, tokens, naming);
     }
     let at = tokens.place();
-    let name = scope.name_at(alloc, tokens)?;
+    let name = tokens.name(alloc)?;
     tokens.take();
     Ok(Declarator {
         name: Some(DeclaredName { at, name }),

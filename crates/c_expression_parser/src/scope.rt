@@ -1,87 +1,73 @@
-//! The text of the tokens, and the names of types so far.
+//! The names of types so far.
 
-ghost use Rattle.std.specs.Prelude.{◌≡◌, take, drop, [], IfOk, OnOk};
+ghost use Rattle.std.specs.Prelude.{◌≡◌, [], OnOk, OnErr};
 ghost use Rattle.c_grammar.specs.Tokens as words;
 ghost use Rattle.c_grammar.specs.Units as units;
 
 use crate::cursor::Tokens;
-use crate::names::Names;
 use c_grammar::{Specifier, specifier_of};
-use c_lexer::Token;
 use c_tree::Name;
 use std::alloc::{AllocError, Global};
+use std::collections::HashSet;
 use std::marker::Model;
 
-/// The text of the tokens, and the names that `typedef` has made so far.
+/// The names that `typedef` has made so far, which contracts see as a list with the newest first.
 #[derive(Drop)]
-pub struct Scope<'a> {
-    text: &'a [u8],
-    types: Names,
+pub struct Scope {
+    /// With the oldest first.
+    list: Vec<Name>,
+    /// The same names, in which one is found at once.
+    index: HashSet<Vec<u8>>,
 }
 
-impl<'a> Model for Scope<'a> {
-    ghost use Rattle.c_grammar.specs.Tokens.{Scope};
+impl Model for Scope {
+    ghost use Rattle.std.specs.Prelude.{List, ℕ, reverse};
+    ghost use Rattle.c_expression_parser.specs.model.Indexes.{IsIndex};
 
-    ghost Value = { Scope };
+    ghost Value = { List (List ℕ) };
 
-    ghost view = { λ s. record { text = s.text.now; types = s.types } };
+    ghost view = { λ s. reverse s.list.items };
+
+    ghost invariant = { λ s. IsIndex s.index s.list.items };
 }
 
-impl<'a> Scope<'a> {
-    /// The scope of a text, with no name of a type.
-    pub fn new(alloc: Global, text: &'a [u8]) -> Scope<'a>
-        ensures { result ≡ record { text = text.now; types = [] } }
+impl Scope {
+    /// The scope with no name of a type.
+    pub fn new(alloc: Global) -> Scope
+        ensures { result ≡ [] }
     {
         Scope {
-            text,
-            types: Names::new(alloc),
+            list: Vec::new(alloc),
+            index: HashSet::new(alloc),
         }
     }
 
     /// Whether the name is that of a type.
     fn is_type(&self, name: &[u8]) -> bool
-        ensures { result ≡ words.is_listed self.now name.now }
+        ensures { result ≡ words.is_type_name self.now name.now }
     {
-        self.types.contains(name)
+        self.index.contains(name)
     }
 
-    /// Makes the name that of a type.
+    /// Makes the name that of a type. Where memory is short, the scope is as before.
     pub fn add_type(&mut self, alloc: Global, name: Name) -> Result<(), AllocError>
-        ensures { OnOk result (self.new ≡ units.with_type self.old name) }
+        ensures added { OnOk result (self.new ≡ units.with_type self.old name) }
+        ensures unchanged { OnErr result (self.new ≡ self.old) }
     {
-        self.types.push(alloc, name)
-    }
-
-    /// The bytes of a token.
-    #[tactic(auto, unfolding(c_grammar::specs::Tokens::spelling))]
-    fn spelling(&self, token: Token) -> &'a [u8]
-        ensures { result.now ≡ words.spelling self.now token }
-    {
-        front(behind(self.text, token.at as usize), token.len as usize)
-    }
-
-    /// The bytes of the next token.
-    fn spelling_at(&self, tokens: &Tokens<'_>) -> &'a [u8]
-        ensures { result.now ≡ words.spelling_at self.now tokens.now }
-    {
-        match tokens.first() {
-            None => &[],
-            Some(token) => self.spelling(token),
+        let key = Vec::from_slice(alloc, name.as_slice())?;
+        self.list.push(name)?;
+        if self.index.insert(key).is_err() {
+            self.list.pop();
+            return Err(AllocError);
         }
-    }
-
-    /// The bytes of the next token, as a name of their own.
-    pub fn name_at(&self, alloc: Global, tokens: &Tokens<'_>) -> Result<Name, AllocError>
-        ensures { IfOk result (λ n. n ≡ words.spelling_at self.now tokens.now) }
-    {
-        Name::from_slice(alloc, self.spelling_at(tokens))
+        Ok(())
     }
 
     /// Whether the next token spells the name of a type.
     pub fn is_type_at(&self, tokens: &Tokens<'_>) -> bool
         ensures { result ≡ words.is_type_at self.now tokens.now }
     {
-        self.is_type(self.spelling_at(tokens))
+        self.is_type(tokens.spelling())
     }
 
     /// Whether a type begins at the next token.
@@ -94,18 +80,4 @@ impl<'a> Scope<'a> {
             _ => true,
         }
     }
-}
-
-/// The first bytes, as many of them as there are.
-fn front(s: &[u8], n: usize) -> &[u8]
-    ensures { result.now ≡ take n s.now }
-{
-    if n < s.len() { &s[..n] } else { s }
-}
-
-/// What stands behind the first bytes.
-fn behind(s: &[u8], n: usize) -> &[u8]
-    ensures { result.now ≡ drop n s.now }
-{
-    if n < s.len() { &s[n..] } else { &[] }
 }

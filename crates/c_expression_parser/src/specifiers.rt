@@ -6,16 +6,15 @@ ghost use Rattle.c_grammar.specs.ParseExpr as model;
 ghost use Rattle.c_grammar.specs.Types as types;
 ghost use Rattle.c_expression_parser.specs.Answers.{Answers};
 
-use crate::specifier_type::SpecifierType;
 use crate::cursor::{Fault, Tokens};
 use crate::scope::Scope;
+use crate::specifier_type::SpecifierType;
 use c_grammar::{Specifier, SpecifierStart, WordSet, specifier_of};
-use c_tree::BasicType;
 use std::alloc::Global;
 
 /// What the words so far spell, or else what stands behind them.
-fn words_of(set: WordSet, kind: Specifier) -> Words
-    ensures { result ≡ words.settled (basic_of set) kind }
+fn start_of(set: WordSet, kind: Specifier) -> SpecifierStart
+    ensures { result ≡ model.start_of (basic_of set) kind }
 {
     match set.basic() {
         Some(basic) => SpecifierStart::Basic(basic),
@@ -24,8 +23,8 @@ fn words_of(set: WordSet, kind: Specifier) -> Words
 }
 
 /// The set with the word more that stands here, if one does.
-fn with_specifier(set: WordSet, kind: Specifier) -> Option<WordSet>
-    ensures { result ≡ words.grown set kind }
+fn extend(set: WordSet, kind: Specifier) -> Option<WordSet>
+    ensures { result ≡ model.extend set kind }
 {
     match kind {
         Specifier::Const => Some(set),
@@ -36,31 +35,31 @@ fn with_specifier(set: WordSet, kind: Specifier) -> Option<WordSet>
 
 /// Reads the words of a specifier.
 #[tactic(auto, using(crate::proofs::Loops::words_turn, crate::proofs::Loops::words_end))]
-pub fn read_words(tokens: &mut Tokens<'_>) -> Words
-    ensures { words.words_from (length tokens.old) no_words tokens.old ≡ (result, tokens.new) }
+pub fn read_words(tokens: &mut Tokens<'_>) -> SpecifierStart
+    ensures { model.words_from (length tokens.old) no_words tokens.old ≡ (result, tokens.new) }
 {
     let mut set = WordSet::new();
     for _turn in 0..tokens.left() {
         let kind = specifier_of(tokens.peek());
-        let Some(more) = with_specifier(set, kind) else {
-            return words_of(set, kind);
+        let Some(more) = extend(set, kind) else {
+            return start_of(set, kind);
         };
         tokens.take();
         set = more;
     }
-    words_of(set, Specifier::Nothing)
+    start_of(set, Specifier::Nothing)
 }
 
 /// Reads the name of a type.
 #[tactic(auto, unfolding(c_grammar::specs::ParseExpr::named_type))]
-pub fn named_type(alloc: Global, scope: &Scope<'_>, tokens: &mut Tokens<'_>) -> Result<SpecifierType, Fault>
+pub fn named_type(alloc: Global, scope: &Scope, tokens: &mut Tokens<'_>) -> Result<SpecifierType, Fault>
     ensures answers { Answers (model.named_type scope.now tokens.old) result tokens.new }
     ensures bare { IfOk result (λ base. types.bare base ≡ base) }
 {
     if !scope.is_type_at(tokens) {
         return Err(Fault::Refused);
     }
-    let name = scope.name_at(alloc, tokens)?;
+    let name = tokens.name(alloc)?;
     tokens.take();
     tokens.consts();
     Ok(SpecifierType::of_name(name))
@@ -70,18 +69,17 @@ pub fn named_type(alloc: Global, scope: &Scope<'_>, tokens: &mut Tokens<'_>) -> 
 #[tactic(auto, unfolding(c_grammar::specs::ParseExpr::tag))]
 fn tag(
     alloc: Global,
-    scope: &Scope<'_>,
     tokens: &mut Tokens<'_>,
     word: Specifier,
 ) -> Result<SpecifierType, Fault>
-    ensures answers { Answers (model.tag scope.now word tokens.old) result tokens.new }
+    ensures answers { Answers (model.tag word tokens.old) result tokens.new }
     ensures bare { IfOk result (λ base. types.bare base ≡ base) }
 {
     if !tokens.sees_name() {
         return Err(Fault::Refused);
     }
     let at = tokens.place();
-    let name = scope.name_at(alloc, tokens)?;
+    let name = tokens.name(alloc)?;
     tokens.take();
     tokens.consts();
     Ok(SpecifierType::tag_type(word, at, name))
@@ -89,7 +87,7 @@ fn tag(
 
 /// Reads a specifier without braces.
 #[tactic(auto, using(crate::proofs::Deeper::plain_words))]
-pub fn plain(alloc: Global, scope: &Scope<'_>, tokens: &mut Tokens<'_>) -> Result<SpecifierType, Fault>
+pub fn plain(alloc: Global, scope: &Scope, tokens: &mut Tokens<'_>) -> Result<SpecifierType, Fault>
     ensures answers { Answers (model.plain scope.now tokens.old) result tokens.new }
     ensures bare { IfOk result (λ base. types.bare base ≡ base) }
 {
@@ -97,11 +95,11 @@ pub fn plain(alloc: Global, scope: &Scope<'_>, tokens: &mut Tokens<'_>) -> Resul
         SpecifierStart::Basic(basic) => Ok(SpecifierType::basic(basic)),
         SpecifierStart::Other(Specifier::Struct) => {
             tokens.take();
-            tag(alloc, scope, tokens, Specifier::Struct)
+            tag(alloc, tokens, Specifier::Struct)
         }
         SpecifierStart::Other(Specifier::Enum) => {
             tokens.take();
-            tag(alloc, scope, tokens, Specifier::Enum)
+            tag(alloc, tokens, Specifier::Enum)
         }
         SpecifierStart::Other(Specifier::Name) => named_type(alloc, scope, tokens),
         SpecifierStart::Other(_) => Err(Fault::Refused),

@@ -1,5 +1,5 @@
 use Rattle.std.proofs.Common.{◌≡◌, [], length, ◌-◌}
-use Rattle.c_grammar.specs.ParseSpecifiers.{declared_from}
+use Rattle.c_grammar.specs.ParseSpecifiers.{declarators_from}
 use Rattle.c_expression_parser.proofs.braces.member_declarators.Given as goal
 
 abbrev pub invariant-loop-turn : goal.invariant-loop-turn

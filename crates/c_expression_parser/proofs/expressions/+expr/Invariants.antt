@@ -1,4 +1,5 @@
 use Rattle.std.proofs.Common.{◌≡◌, [], ◌+◌, ◌-◌, ◌*◌, length}
+use Rattle.c_grammar.specs.Levels as levels
 use Rattle.c_grammar.specs.ParseExpr as model
 use Rattle.c_expression_parser.proofs.expressions.+expr.Given as goal
 
@@ -93,10 +94,10 @@ abbrev pub decreases-declarator : goal.decreases-declarator
 decreases-declarator l = 10 * l.depth
 
 abbrev pub invariant-assignments-loop-turn : goal.invariant-assignments-loop-turn
-invariant-assignments-loop-turn l = model.listed_from (model.expr l.scope l.depth 2) (length l.fn.tokens) [] l.fn.tokens ≡ model.listed_from (model.expr l.scope l.depth 2) (l._turn-end - l._turn) l.found l.tokens
+invariant-assignments-loop-turn l = model.list_from (model.expr l.scope l.depth levels.assignment) (length l.fn.tokens) [] l.fn.tokens ≡ model.list_from (model.expr l.scope l.depth levels.assignment) (l._turn-end - l._turn) l.found l.tokens
 
 abbrev pub invariant-parameter_list-loop-turn : goal.invariant-parameter_list-loop-turn
-invariant-parameter_list-loop-turn l = model.listed_from (model.parameter l.scope (model.expr l.scope l.depth) (model.declarator l.scope l.depth)) (length l.fn.tokens) [] l.fn.tokens ≡ model.listed_from (model.parameter l.scope (model.expr l.scope l.depth) (model.declarator l.scope l.depth)) (l._turn-end - l._turn) l.found l.tokens
+invariant-parameter_list-loop-turn l = model.list_from (model.parameter l.scope (model.expr l.scope l.depth) (model.declarator l.scope l.depth)) (length l.fn.tokens) [] l.fn.tokens ≡ model.list_from (model.parameter l.scope (model.expr l.scope l.depth) (model.declarator l.scope l.depth)) (l._turn-end - l._turn) l.found l.tokens
 
 abbrev pub invariant-climb-loop-turn : goal.invariant-climb-loop-turn
 invariant-climb-loop-turn l = model.climb l.scope (model.expr l.scope l.depth) (model.declarator l.scope l.depth) l.at l.least (length l.fn.tokens) l.fn.first.1 l.fn.first.0 l.fn.tokens ≡ model.climb l.scope (model.expr l.scope l.depth) (model.declarator l.scope l.depth) l.at l.least (l._turn-end - l._turn) l.level l.left l.tokens

@@ -1,9 +1,0 @@
-use Rattle.std.proofs.Common.{◌∙◌, ap, List, ℕ, bytes_eq}
-use Rattle.std.specs.List.{list_any}
-use Rattle.c_expression_parser.proofs.Indexes.{any-reverse}
-use Rattle.c_expression_parser.proofs.names.Names.contains.Goals as goal
-
-pub returns : goal.returns
-returns c =
-    let test = λ (x : List ℕ). bytes_eq x c.args.name.now in
-    c.contains.ensures ∙ (c.self.invariant c.args.name.now ∙ (any-reverse test c.self.inside.list.items ∙ ap (list_any test) c.self.view_is))
