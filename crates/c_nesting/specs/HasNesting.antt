@@ -14,9 +14,13 @@ most_bytes = 4194304
 abbrev pub role_of_token : Token → Role
 role_of_token t = role_of t.kind
 
+-- tokens of a text, with its length
+abbrev pub toks_of : List ℕ → List Token → Toks
+toks_of text tokens = record { items = lexemes text tokens; size = length text }
+
 -- these are the tokens of the whole text
 abbrev pub IsTokens : List ℕ → List Token → Type 0
-IsTokens text tokens = Tokens text (record { items = lexemes text tokens; size = length text })
+IsTokens text tokens = Tokens text (toks_of text tokens)
 
 -- The text is all tokens, and this is their nesting.
 pub record HasNesting (text : List ℕ) (n : ℕ) : Type 0 where

@@ -1,5 +1,5 @@
 pub mod Loops
 pub mod Deeper
-pub mod ObjectFacts
+pub mod Opens
 pub mod Whole
 pub mod OneAnswer

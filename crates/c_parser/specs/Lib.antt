@@ -1,5 +1,4 @@
 pub mod Limits
 pub mod Faults
-pub mod Blocks
-pub mod Objects
 pub mod Reading
+pub mod model

@@ -2,10 +2,11 @@
 
 ghost use Rattle.std.specs.Prelude.{◌≤◌, ◌<◌, ◌≡◌, length, IfOk, IfErr};
 ghost use Rattle.c_tree.specs.Nodes.{unit_nodes, unit_height};
-ghost use Rattle.c_nesting.specs.HasNesting.{IsTokens, most_bytes};
+ghost use Rattle.c_nesting.specs.HasNesting.{IsTokens, toks_of, most_bytes};
 ghost use Rattle.c_parser.specs.declared.fault.ParseFault.TheVariants.{NoMemory};
 ghost use Rattle.c_parser.specs.Limits.{most_nodes, most_height};
-ghost use Rattle.c_parser.specs.Reading.{place_of, Gives, IsRead, IsNotRead};
+ghost use Rattle.c_parser.specs.Reading.{IsRead, IsNotRead};
+ghost use Rattle.c_parser.specs.model.Gives.{Gives};
 
 use crate::fault::ParseFault;
 use crate::units::externals;
@@ -21,16 +22,6 @@ const MOST_NESTING: u32 = 256;
 /// The most nodes that stand one under the other.
 const MOST_HEIGHT: u32 = 2048;
 
-/// The offset of the next token, or else the length of the text.
-fn place_of(tokens: &Tokens<'_>, length: u32) -> u32
-    ensures { result ≡ place_of length tokens.now }
-{
-    match tokens.first() {
-        None => length,
-        Some(token) => token.at,
-    }
-}
-
 /// The unit, where its tree is no higher than is taken.
 fn low_enough(unit: TranslationUnit) -> Result<TranslationUnit, ParseFault>
     ensures same { IfOk result (λ u. u ≡ unit) }
@@ -43,23 +34,23 @@ fn low_enough(unit: TranslationUnit) -> Result<TranslationUnit, ParseFault>
 /// The unit that the tokens of the text spell.
 fn unit_of(alloc: Global, text: &[u8], tokens: &[Token]) -> Result<TranslationUnit, ParseFault>
     requires { length text.now ≤ most_bytes }
-    ensures gives { Gives text.now tokens.now result }
+    ensures gives { Gives (toks_of text.now tokens.now) result }
     ensures height { IfOk result (λ unit. unit_height unit ≤ most_height) }
 {
     let length = text.len() as u32;
-    let mut scope = Scope::new(alloc, text);
-    let mut cursor = Tokens::new(tokens);
+    let mut scope = Scope::new(alloc);
+    let mut cursor = Tokens::new(text, tokens);
     match externals(alloc, &mut scope, &mut cursor) {
         Ok(externals) => low_enough(TranslationUnit { externals, length }),
-        Err(fault) => Err(ParseFault::of_stop(fault, place_of(&cursor, length))),
+        Err(fault) => Err(ParseFault::of_stop(fault, cursor.place_or(length))),
     }
 }
 
 /// The unit that tokens spell, which are those of a text of at most 4,194,304 bytes.
 fn unit_within(alloc: Global, text: &[u8], tokens: &[Token]) -> Result<TranslationUnit, ParseFault>
-    requires { length text.now ≤ most_bytes }
-    requires { IsTokens text.now tokens.now }
-    requires { length tokens.now ≤ length text.now }
+    requires length { length text.now ≤ most_bytes }
+    requires all { IsTokens text.now tokens.now }
+    requires count { length tokens.now ≤ length text.now }
     ensures read { IfOk result (IsRead text.now) }
     ensures fault { IfErr result (IsNotRead text.now) }
     ensures nodes { IfOk result (λ unit. unit_nodes unit ≤ most_nodes) }

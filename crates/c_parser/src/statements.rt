@@ -8,6 +8,7 @@ ghost use Rattle.c_grammar.specs.ParseStatements as model;
 ghost use Rattle.c_expression_parser.specs.Answers.{Answers};
 
 use c_expression_parser::{SpecifierType, Fault, Scope, Tokens, declaration, expr, plain, whole};
+use c_grammar::levels;
 use c_grammar::{Head, Naming, head_of};
 use c_lexer::{Keyword, Punct};
 use c_tree::{Box, Expr, ForFirst, Label, Local, Section, Seq, Stmt, TypeNode};
@@ -17,7 +18,7 @@ use std::alloc::{AllocError, Global};
 #[tactic(auto, unfolding(c_grammar::specs::ParseStatements::local))]
 fn local(
     alloc: Global,
-    scope: &Scope<'_>,
+    scope: &Scope,
     tokens: &mut Tokens<'_>,
     depth: usize,
     ty: TypeNode,
@@ -32,7 +33,7 @@ fn local(
         });
     }
     tokens.take();
-    let init = expr(alloc, scope, tokens, depth, 2)?;
+    let init = expr(alloc, scope, tokens, depth, levels::ASSIGNMENT)?;
     Ok(Local {
         declaration,
         init: Some(init),
@@ -43,7 +44,7 @@ fn local(
 #[tactic(auto, using(c_expression_parser::proofs::Loops::list_turn, c_expression_parser::proofs::Loops::list_end))]
 fn locals(
     alloc: Global,
-    scope: &Scope<'_>,
+    scope: &Scope,
     tokens: &mut Tokens<'_>,
     depth: usize,
     base: SpecifierType,
@@ -67,7 +68,7 @@ fn locals(
 #[tactic(auto, unfolding(c_grammar::specs::ParseStatements::line))]
 fn line(
     alloc: Global,
-    scope: &Scope<'_>,
+    scope: &Scope,
     tokens: &mut Tokens<'_>,
     depth: usize,
 ) -> Result<Seq<Local>, Fault>
@@ -83,7 +84,7 @@ fn line(
 #[tactic(auto, unfolding(c_grammar::specs::ParseStatements::optional))]
 fn optional(
     alloc: Global,
-    scope: &Scope<'_>,
+    scope: &Scope,
     tokens: &mut Tokens<'_>,
     depth: usize,
     mark: Punct,
@@ -100,7 +101,7 @@ fn optional(
 #[tactic(auto, unfolding(c_grammar::specs::ParseStatements::condition))]
 fn condition(
     alloc: Global,
-    scope: &Scope<'_>,
+    scope: &Scope,
     tokens: &mut Tokens<'_>,
     depth: usize,
 ) -> Result<Expr, Fault>
@@ -116,7 +117,7 @@ fn condition(
 #[tactic(auto, unfolding(c_grammar::specs::ParseStatements::first_value))]
 fn first_value(
     alloc: Global,
-    scope: &Scope<'_>,
+    scope: &Scope,
     tokens: &mut Tokens<'_>,
     depth: usize,
 ) -> Result<ForFirst, Fault>
@@ -131,7 +132,7 @@ fn first_value(
 #[tactic(auto, unfolding(c_grammar::specs::ParseStatements::first))]
 fn for_first(
     alloc: Global,
-    scope: &Scope<'_>,
+    scope: &Scope,
     tokens: &mut Tokens<'_>,
     depth: usize,
 ) -> Result<ForFirst, Fault>
@@ -151,14 +152,14 @@ fn for_first(
 #[tactic(auto, unfolding(c_grammar::specs::ParseStatements::case_label))]
 fn case_label(
     alloc: Global,
-    scope: &Scope<'_>,
+    scope: &Scope,
     tokens: &mut Tokens<'_>,
     depth: usize,
     at: u32,
 ) -> Result<Label, Fault>
     ensures { Answers (model.case_label scope.now depth at tokens.old) result tokens.new }
 {
-    let value = expr(alloc, scope, tokens, depth, 4)?;
+    let value = expr(alloc, scope, tokens, depth, levels::CONDITIONAL)?;
     tokens.expect(Punct::Colon)?;
     Ok(Label::Case { at, value })
 }
@@ -167,7 +168,7 @@ fn case_label(
 #[tactic(auto, unfolding(c_grammar::specs::ParseStatements::label))]
 fn label(
     alloc: Global,
-    scope: &Scope<'_>,
+    scope: &Scope,
     tokens: &mut Tokens<'_>,
     depth: usize,
 ) -> Result<Label, Fault>
@@ -184,9 +185,10 @@ fn label(
 }
 
 /// Reads the value of a `return` behind its word, up to the semicolon behind it.
+#[tactic(auto, unfolding(crate::proofs::Opens::return_behind))]
 fn return_behind(
     alloc: Global,
-    scope: &Scope<'_>,
+    scope: &Scope,
     tokens: &mut Tokens<'_>,
     depth: usize,
     at: u32,
@@ -199,9 +201,10 @@ fn return_behind(
 }
 
 /// Reads an expression as a statement.
+#[tactic(auto, unfolding(c_grammar::specs::ParseStatements::value))]
 fn expression_statement(
     alloc: Global,
-    scope: &Scope<'_>,
+    scope: &Scope,
     tokens: &mut Tokens<'_>,
     depth: usize,
 ) -> Result<Stmt, Fault>
@@ -236,7 +239,7 @@ fn push_locals(found: &mut Seq<Stmt>, locals: Seq<Local>) -> Result<(), AllocErr
 #[tactic(auto, using(crate::proofs::Loops::items_turn, crate::proofs::Loops::items_end))]
 pub fn items(
     alloc: Global,
-    scope: &Scope<'_>,
+    scope: &Scope,
     tokens: &mut Tokens<'_>,
     depth: usize,
     inner: usize,
@@ -263,7 +266,7 @@ pub fn items(
 #[tactic(auto, using(crate::proofs::Loops::stmts_turn, crate::proofs::Loops::stmts_end))]
 fn stmts(
     alloc: Global,
-    scope: &Scope<'_>,
+    scope: &Scope,
     tokens: &mut Tokens<'_>,
     depth: usize,
     inner: usize,
@@ -285,7 +288,7 @@ fn stmts(
 #[tactic(auto, unfolding(c_grammar::specs::ParseStatements::section))]
 fn section(
     alloc: Global,
-    scope: &Scope<'_>,
+    scope: &Scope,
     tokens: &mut Tokens<'_>,
     depth: usize,
     inner: usize,
@@ -302,7 +305,7 @@ fn section(
 #[tactic(auto, using(crate::proofs::Loops::sections_turn, crate::proofs::Loops::sections_end))]
 fn sections(
     alloc: Global,
-    scope: &Scope<'_>,
+    scope: &Scope,
     tokens: &mut Tokens<'_>,
     depth: usize,
     inner: usize,
@@ -325,7 +328,7 @@ fn sections(
 #[tactic(auto, unfolding(c_grammar::specs::ParseStatements::alternative))]
 fn alternative(
     alloc: Global,
-    scope: &Scope<'_>,
+    scope: &Scope,
     tokens: &mut Tokens<'_>,
     depth: usize,
     inner: usize,
@@ -352,10 +355,10 @@ fn alternative(
 
 /// Reads an `if` behind its word.
 #[cycle(stmt)]
-#[tactic(auto, unfolding(c_grammar::specs::ParseStatements::choice))]
-fn choice(
+#[tactic(auto, unfolding(c_grammar::specs::ParseStatements::if_else))]
+fn if_else(
     alloc: Global,
-    scope: &Scope<'_>,
+    scope: &Scope,
     tokens: &mut Tokens<'_>,
     depth: usize,
     inner: usize,
@@ -369,10 +372,10 @@ fn choice(
 
 /// Reads a `while` behind its word.
 #[cycle(stmt)]
-#[tactic(auto, unfolding(c_grammar::specs::ParseStatements::r#while))]
+#[tactic(auto, unfolding(crate::proofs::Opens::while_loop))]
 fn while_loop(
     alloc: Global,
-    scope: &Scope<'_>,
+    scope: &Scope,
     tokens: &mut Tokens<'_>,
     depth: usize,
     inner: usize,
@@ -386,10 +389,10 @@ fn while_loop(
 
 /// Reads a `do` behind its word.
 #[cycle(stmt)]
-#[tactic(auto, unfolding(c_grammar::specs::ParseStatements::until))]
+#[tactic(auto, unfolding(c_grammar::specs::ParseStatements::do_while))]
 fn do_loop(
     alloc: Global,
-    scope: &Scope<'_>,
+    scope: &Scope,
     tokens: &mut Tokens<'_>,
     depth: usize,
     inner: usize,
@@ -405,10 +408,10 @@ fn do_loop(
 
 /// Reads a `for` behind its word.
 #[cycle(stmt)]
-#[tactic(auto, unfolding(c_grammar::specs::ParseStatements::r#for))]
+#[tactic(auto, unfolding(crate::proofs::Opens::for_loop))]
 fn for_loop(
     alloc: Global,
-    scope: &Scope<'_>,
+    scope: &Scope,
     tokens: &mut Tokens<'_>,
     depth: usize,
     inner: usize,
@@ -435,7 +438,7 @@ fn for_loop(
 #[tactic(auto, unfolding(c_grammar::specs::ParseStatements::switch))]
 fn switch(
     alloc: Global,
-    scope: &Scope<'_>,
+    scope: &Scope,
     tokens: &mut Tokens<'_>,
     depth: usize,
     inner: usize,
@@ -450,10 +453,10 @@ fn switch(
 
 /// Reads a statement. The depth bounds how deep it goes: as much as there are tokens is enough.
 #[cycle(stmt)]
-#[tactic(auto, using(crate::proofs::Deeper::stmt_deeper), unfolding(c_grammar::specs::ParseStatements::stmt, c_grammar::specs::ParseStatements::r#return, c_grammar::specs::ParseStatements::value))]
+#[tactic(auto, using(crate::proofs::Deeper::stmt_deeper), unfolding(c_grammar::specs::ParseStatements::stmt, crate::proofs::Opens::return_behind, c_grammar::specs::ParseStatements::value))]
 pub fn stmt(
     alloc: Global,
-    scope: &Scope<'_>,
+    scope: &Scope,
     tokens: &mut Tokens<'_>,
     depth: usize,
 ) -> Result<Stmt, Fault>
@@ -472,7 +475,7 @@ pub fn stmt(
     match head {
         Head::Block => Ok(Stmt::Block(items(alloc, scope, tokens, depth, inner)?)),
         Head::Empty => Ok(Stmt::Empty),
-        Head::If => choice(alloc, scope, tokens, depth, inner),
+        Head::If => if_else(alloc, scope, tokens, depth, inner),
         Head::While => while_loop(alloc, scope, tokens, depth, inner),
         Head::Do => do_loop(alloc, scope, tokens, depth, inner),
         Head::For => for_loop(alloc, scope, tokens, depth, inner),

@@ -11,6 +11,7 @@ use crate::statements::items;
 use c_expression_parser::{
     SpecifierType, Fault, Scope, Tokens, append, declaration, declarator, expr, with_shapes, specifier,
 };
+use c_grammar::levels;
 use c_grammar::{Declarator, DeclaredName, Naming, Opening, Shape, opening_of};
 use c_lexer::Punct;
 use c_tree::{Declaration, External, FunctionEnd, Init, Seq, Storage, TypeNode};
@@ -21,7 +22,7 @@ use std::alloc::{AllocError, Global};
 #[tactic(auto, using(c_expression_parser::proofs::Loops::braced_turn, c_expression_parser::proofs::Loops::braced_end))]
 fn inits(
     alloc: Global,
-    scope: &Scope<'_>,
+    scope: &Scope,
     tokens: &mut Tokens<'_>,
     depth: usize,
 ) -> Result<Seq<Init>, Fault>
@@ -46,7 +47,7 @@ fn inits(
 #[tactic(auto, using(crate::proofs::Deeper::init_deeper), unfolding(c_grammar::specs::ParseUnits::init, c_grammar::specs::ParseUnits::init_list, c_grammar::specs::ParseUnits::init_value))]
 fn init(
     alloc: Global,
-    scope: &Scope<'_>,
+    scope: &Scope,
     tokens: &mut Tokens<'_>,
     depth: usize,
 ) -> Result<Init, Fault>
@@ -57,7 +58,7 @@ fn init(
     }
     tokens.open(depth)?;
     if !tokens.sees(Punct::LeftBrace) {
-        return Ok(Init::Value(expr(alloc, scope, tokens, depth, 2)?));
+        return Ok(Init::Value(expr(alloc, scope, tokens, depth, levels::ASSIGNMENT)?));
     }
     let at = tokens.place();
     tokens.take();
@@ -70,7 +71,7 @@ fn init(
 #[tactic(auto, using(crate::proofs::Loops::typedefs_turn, crate::proofs::Loops::typedefs_end))]
 fn typedef_declarators(
     alloc: Global,
-    scope: &mut Scope<'_>,
+    scope: &mut Scope,
     tokens: &mut Tokens<'_>,
     depth: usize,
     base: SpecifierType,
@@ -98,7 +99,7 @@ fn typedef_declarators(
 #[tactic(auto, unfolding(c_grammar::specs::ParseUnits::typedefs))]
 fn typedefs(
     alloc: Global,
-    scope: &mut Scope<'_>,
+    scope: &mut Scope,
     tokens: &mut Tokens<'_>,
     depth: usize,
 ) -> Result<Seq<External>, Fault>
@@ -173,10 +174,10 @@ impl TypedDeclarator {
 }
 
 /// Reads what stands behind a declarator: its initialiser, or nothing.
-#[tactic(auto, using(crate::proofs::ObjectFacts::external_by_is), unfolding(c_grammar::specs::ParseUnits::object_by))]
+#[tactic(auto, unfolding(c_grammar::specs::ParseUnits::object_by))]
 fn object(
     alloc: Global,
-    scope: &Scope<'_>,
+    scope: &Scope,
     tokens: &mut Tokens<'_>,
     depth: usize,
     storage: Option<Storage>,
@@ -196,7 +197,7 @@ fn object(
 #[tactic(auto, using(crate::proofs::Loops::objects_turn, crate::proofs::Loops::objects_end))]
 fn objects(
     alloc: Global,
-    scope: &Scope<'_>,
+    scope: &Scope,
     tokens: &mut Tokens<'_>,
     depth: usize,
     storage: Option<Storage>,
@@ -239,7 +240,7 @@ fn objects(
 #[tactic(auto, unfolding(c_grammar::specs::ParseUnits::objects_behind))]
 fn objects_behind(
     alloc: Global,
-    scope: &Scope<'_>,
+    scope: &Scope,
     tokens: &mut Tokens<'_>,
     depth: usize,
     storage: Option<Storage>,
@@ -262,7 +263,7 @@ fn objects_behind(
 #[tactic(auto, unfolding(c_grammar::specs::ParseUnits::body_behind))]
 fn body_behind(
     alloc: Global,
-    scope: &Scope<'_>,
+    scope: &Scope,
     tokens: &mut Tokens<'_>,
     depth: usize,
     storage: Option<Storage>,
@@ -284,7 +285,7 @@ fn body_behind(
 #[tactic(auto, unfolding(c_grammar::specs::ParseUnits::objects_named))]
 fn objects_or_body(
     alloc: Global,
-    scope: &Scope<'_>,
+    scope: &Scope,
     tokens: &mut Tokens<'_>,
     depth: usize,
     storage: Option<Storage>,
@@ -308,7 +309,7 @@ fn objects_or_body(
 #[tactic(auto, unfolding(c_grammar::specs::ParseUnits::behind_type))]
 fn behind_type(
     alloc: Global,
-    scope: &Scope<'_>,
+    scope: &Scope,
     tokens: &mut Tokens<'_>,
     depth: usize,
     storage: Option<Storage>,
@@ -334,10 +335,10 @@ fn behind_type(
 }
 
 /// Reads a declaration at file scope behind its storage word.
-#[tactic(auto, unfolding(c_grammar::specs::ParseUnits::stored))]
+#[tactic(auto, unfolding(c_grammar::specs::ParseUnits::behind_storage))]
 fn behind_storage(
     alloc: Global,
-    scope: &Scope<'_>,
+    scope: &Scope,
     tokens: &mut Tokens<'_>,
     depth: usize,
     storage: Option<Storage>,
@@ -352,7 +353,7 @@ fn behind_storage(
 #[tactic(auto, unfolding(c_grammar::specs::ParseUnits::external))]
 fn external(
     alloc: Global,
-    scope: &mut Scope<'_>,
+    scope: &mut Scope,
     tokens: &mut Tokens<'_>,
     depth: usize,
 ) -> Result<Seq<External>, Fault>
@@ -379,7 +380,7 @@ fn external(
 #[tactic(auto, using(crate::proofs::Loops::externals_turn, crate::proofs::Loops::externals_end, crate::proofs::Loops::externals_none))]
 pub fn externals(
     alloc: Global,
-    scope: &mut Scope<'_>,
+    scope: &mut Scope,
     tokens: &mut Tokens<'_>,
 ) -> Result<Seq<External>, Fault>
     ensures { AnswersUnit (model.externals_from (length tokens.old) scope.old [] tokens.old) result tokens.new }

@@ -29,8 +29,8 @@ decreases-sections l = 10 * l.inner + 3
 abbrev pub decreases-alternative : goal.decreases-alternative
 decreases-alternative l = 10 * l.inner + 1
 
-abbrev pub decreases-choice : goal.decreases-choice
-decreases-choice l = 10 * l.inner + 2
+abbrev pub decreases-if_else : goal.decreases-if_else
+decreases-if_else l = 10 * l.inner + 2
 
 abbrev pub decreases-while_loop : goal.decreases-while_loop
 decreases-while_loop l = 10 * l.inner + 1
