@@ -5,7 +5,7 @@ use Rattle.c_tree.specs.declared.declarations.TranslationUnit.{TranslationUnit}
 use Rattle.c_tree.specs.Nodes.{text_of as tree_text}
 use Rattle.c_parser.specs.declared.fault.ParseFault.{ParseFault}
 use Rattle.c_parser.specs.declared.fault.ParseFault.TheVariants as fault
-use Rattle.c_parser.specs.Tokens.{HasNesting}
+use Rattle.c_parser.specs.HasNesting.{HasNesting}
 use Rattle.c_parser.specs.Reading.{IsRead, HasNoReading}
 use Rattle.msc_cli.specs.declared.outcome.Outcome.{Outcome}
 use Rattle.msc_cli.specs.declared.outcome.Outcome.TheVariants.{Printed, FileFault, WriteFault, Refused, Limit, NoMemory}
