@@ -1,5 +1,5 @@
 -- Where a list of tokens is refused.
-use Rattle.std.proofs.Common.{◌≡◌, ℕ, zero, suc, ◌≤◌, ◌<◌, List, [], ◌∷◌, ◌++◌, length, Result, Ok, Err, refl, sym, ap, ◌∙◌, subst, append_assoc, length-append, arith}
+use Rattle.std.proofs.Common.{◌≡◌, ℕ, zero, suc, ◌≤◌, ◌<◌, List, [], ◌∷◌, ◌++◌, length, Result, Ok, Err, ap, ◌∙◌, subst, append_assoc, length-append, arith}
 use Rattle.c_lexer.specs.Pieces.{Lexeme, Toks}
 use Rattle.c_tree.specs.declared.declarations.External.{External}
 use Rattle.c_tree.specs.declared.declarations.TranslationUnit.{TranslationUnit}
@@ -9,7 +9,7 @@ use Rattle.c_grammar.specs.ParseUnits.{external, externals_behind, externals_fro
 use Rattle.c_grammar.specs.Refused.{CanGoOn, RefusedFrom}
 use Rattle.c_grammar.proofs.ReadUnits.{complete, external_some}
 use Rattle.c_grammar.proofs.SoundUnits.{external_says, stops_split, externals_begin, unit_stops, refused_begins}
-use Rattle.c_grammar.proofs.Local.{Mode, Same, State, Goes, Agrees, same_lengths, some_right}
+use Rattle.c_grammar.proofs.Local.{Mode, Same, State, Goes, same_lengths, some_right}
 use Rattle.c_grammar.proofs.LocalUnits.{external_local}
 
 -- the list is refused too

@@ -1,10 +1,8 @@
 -- A shortest list of tokens for some of the grammar's forms.
-use Rattle.std.proofs.Common.{◌≡◌, ℕ, ◌≤◌, ◌<◌, Bool, true, false, ◌||◌, not, List, [], ◌∷◌, ◌++◌, length, Option, Some, None, refl, sym, ap, length-append, arith}
+use Rattle.std.proofs.Common.{◌≡◌, ℕ, ◌≤◌, ◌<◌, true, false, not, List, [], ◌∷◌, ◌++◌, length, Option, Some, None, refl, sym, ap, length-append, arith}
 use Rattle.std.specs.Prelude.{bytes_eq}
-use Rattle.std.specs.List.{list_any}
 use Rattle.std.proofs.lemmas.Slice.Eq.{bytes_eq-Decides}
 use Rattle.c_lexer.specs.declared.token.TokenKind.TheVariants as k
-use Rattle.c_lexer.specs.declared.token.Punct.TheVariants as p
 use Rattle.c_lexer.specs.Pieces.{Lexeme}
 use Rattle.c_tree.specs.declared.expressions.Expr.{Expr}
 use Rattle.c_tree.specs.declared.expressions.Expr as e
@@ -13,7 +11,7 @@ use Rattle.c_grammar.specs.declared.shapes.Naming.TheVariants as nm
 use Rattle.c_grammar.specs.declared.shapes.Declarator.{Declarator}
 use Rattle.c_grammar.specs.Tokens.{TypeNames, is_type_name, is_type}
 use Rattle.c_grammar.specs.Types.{may_be_nameless, nameless}
-use Rattle.c_grammar.specs.Grammar.{AreConsts, IsExpr, IsWhole, AreAssignments, IsDeclarator}
+use Rattle.c_grammar.specs.Grammar.{IsExpr, IsWhole, AreAssignments, IsDeclarator}
 use Rattle.c_grammar.proofs.Outcomes.{fails}
 use Rattle.c_grammar.proofs.Says.{Instance, lexeme_of}
 

@@ -1,6 +1,5 @@
 -- What is read of a list depends on the tokens up to the one at which it stops, and on none behind it.
-use Rattle.std.proofs.Common.{◌≡◌, ℕ, zero, suc, ◌+◌, ◌-◌, ◌≤◌, ◌<◌, Bool, true, false, cond, ltb, List, [], ◌∷◌, ◌++◌, length, Option, Some, None, Ok, Err, refl, sym, ap, ◌∙◌, subst, length-append, arith}
-use Rattle.c_lexer.specs.declared.token.TokenKind.{TokenKind}
+use Rattle.std.proofs.Common.{◌≡◌, ℕ, zero, suc, ◌+◌, ◌-◌, ◌≤◌, ◌<◌, Bool, true, false, cond, List, [], ◌∷◌, ◌++◌, length, Option, Some, None, Ok, Err, refl, sym, ap, ◌∙◌, subst, length-append, arith}
 use Rattle.c_lexer.specs.declared.token.TokenKind.TheVariants as kd
 use Rattle.c_lexer.specs.declared.token.Punct.{Punct}
 use Rattle.c_lexer.specs.declared.token.Punct.TheVariants as p
@@ -8,7 +7,6 @@ use Rattle.c_lexer.specs.declared.token.Keyword.{Keyword}
 use Rattle.c_lexer.specs.declared.token.Keyword.TheVariants as w
 use Rattle.c_lexer.specs.Pieces.{Lexeme}
 use Rattle.c_tree.specs.declared.expressions.Expr.{Expr}
-use Rattle.c_tree.specs.declared.expressions.Expr as e
 use Rattle.c_tree.specs.declared.types.BasicType.{BasicType}
 use Rattle.c_tree.specs.declared.types.TypeNode.{TypeNode}
 use Rattle.c_tree.specs.declared.types.TypeNode as y
@@ -29,12 +27,12 @@ use Rattle.c_grammar.specs.declared.shapes.Naming.{Naming}
 use Rattle.c_grammar.specs.declared.shapes.Naming.TheVariants as nm
 use Rattle.c_grammar.specs.declared.shapes.SpecifierStart.{SpecifierStart}
 use Rattle.c_grammar.specs.declared.shapes.SpecifierStart.TheVariants as ss
-use Rattle.c_grammar.specs.Classes.{infix_of, prefix_of, specifier_of, begins_type_by}
-use Rattle.c_grammar.specs.Levels.{level_of, binding_level, operand_level, result_level}
-use Rattle.c_grammar.specs.WordSets.{no_words, with_word, basic_of}
-use Rattle.c_grammar.specs.Tokens.{TypeNames, is_mark, is_word, is_name, is_text, kind_at, spelling_at, place, behind, is_type_name, is_type_at, begins_type}
+use Rattle.c_grammar.specs.Classes.{infix_of, prefix_of, specifier_of}
+use Rattle.c_grammar.specs.Levels.{level_of, result_level}
+use Rattle.c_grammar.specs.WordSets.{no_words, basic_of}
+use Rattle.c_grammar.specs.Tokens.{TypeNames, is_mark, is_word, is_name, is_text, kind_at, spelling_at, place, behind, is_type_name, begins_type}
 use Rattle.c_grammar.specs.Types.{bare, takes_name, may_be_nameless, nameless, with_shape, with_shapes, parameter_of, without_void, comma_of}
-use Rattle.c_grammar.specs.Parser.{ParseOutcome, Parser, and_then, ◌>>=◌, pure, expect, expect_word, consts}
+use Rattle.c_grammar.specs.Parser.{ParseOutcome, Parser, and_then, pure, expect, expect_word, consts}
 use Rattle.c_grammar.specs.ParseExpr.{extend, start_of, word_or_end, words_from, named_type, tag_type, tag, specifier_behind, specifier_from, plain, texts_from, list_from, member, no_name, core_name, whole, type_name, parameter, arguments, parameters, behind_name, cast_behind, brackets_behind, bracket_operand, size_of_type, size_of_value, size_of, operand_by, operand, step_by, climb, tight, length_of, suffixes, pointer_declarator, group_behind, core_bracket, core, shaping, expr, declarator}
 use Rattle.c_grammar.specs.Specifiers.{IsSpecifier}
 use Rattle.c_grammar.specs.ParseSpecifiers as specifiers
