@@ -205,6 +205,9 @@ class Code:
         body = self.clean
         for start, end in reversed(places):
             body = body[:start] + re.sub(r"[^\n]", " ", body[start:end]) + body[end:]
+        for m in reversed(list(re.finditer(r"#!?(?=\[)", body))):
+            end = matching(body, m.end()) + 1
+            body = body[: m.start()] + re.sub(r"[^\n]", " ", body[m.start() : end]) + body[end:]
         self.body = body
         self.uses, self.exports = {}, {}
         self.public_modules, self.modules = set(), set()
