@@ -10,3 +10,4 @@ pub mod RelatedRows
 pub mod Representation
 pub mod RowLaws
 pub mod RowValues
+pub mod TableLaws

@@ -5,7 +5,8 @@ use Rattle.std.proofs.lemmas.Option.{slice_get_read}
 use Rattle.std.specs.Prelude.{slice_get, Some, replicate}
 use Rattle.std.proofs.lemmas.List.FromFn.{length-map-range_with_len, get_or-map-range_with_len}
 use Rattle.std.proofs.lemmas.Bool.{cases_eq}
-use Rattle.mem_model.specs.model.Representation.{pointer_at, homes_of, cell_of, cells_kept}
+use Rattle.mem_model.specs.model.Representation.{homes_of, cell_of, cells_kept}
+use Rattle.mem_model.specs.model.Table.{pointer_at}
 use Rattle.mem_model.specs.declared.value.Ptr.{Ptr}
 use Rattle.mem_model.specs.declared.value.Cell.{Cell}
 use Rattle.mem_model.specs.declared.value.Cell.TheVariants.{Empty, Part}

@@ -1,27 +1,22 @@
 //! The cells of one object, kept in a few bytes each.
 //!
 //! A cell has a mark of two bytes. A pointer stands in a table: that of eight cells in a row, which hold
-//! its eight parts in order, in the slot of those cells, and any other part in a slot of its own. The
-//! table has room for every slot from the start, so no write takes memory, but it is only as long as the
-//! last slot that was used. So the room of an object of bytes is never touched.
+//! its eight parts in order, in the slot of those cells, and any other part in a slot of its own. Of the
+//! table only the blocks in use are touched. So bytes take about three bytes a cell, and whole pointers
+//! everywhere about five, each access takes constant time, and no write takes memory.
 
-ghost use Rattle.std.specs.Prelude.{◌≡◌, ◌≢◌, ℕ, ◌+◌, ◌<◌, ◌≤◌, [], length, vec_len, vec_capacity, IfOk, slice_get, slice_set, replicate};
+ghost use Rattle.std.specs.Prelude.{◌≡◌, ◌≢◌, ℕ, ◌+◌, ◌<◌, ◌≤◌, [], length, IfOk, slice_get, slice_set, replicate};
 ghost use Rattle.std.specs.Bool.{OnTrue, OnFalse};
-ghost use Rattle.mem_model.specs.model.Representation.{pointer_at, homes_of, cells_kept, IsOtherHome};
+ghost use Rattle.mem_model.specs.model.Representation.{homes_of, cells_kept, IsOtherHome};
 ghost use Rattle.mem_model.specs.declared.value.Cell.TheVariants.{Empty, Part};
 
+use crate::table::Table;
 use crate::value::{Cell, Ptr};
 use std::alloc::{AllocError, Global};
 use std::marker::Model;
 
 /// How many parts a pointer has, and how many cells share a home.
 const PARTS: usize = 8;
-
-/// What a slot of the table holds before a pointer is put there.
-const NO_POINTER: Ptr = Ptr {
-    object: 0,
-    offset: 0,
-};
 
 /// What a cell holds, but for the pointer of a part.
 #[derive(Clone, Copy, Debug, PartialEq, Eq)]
@@ -40,7 +35,7 @@ enum Mark {
 #[derive(Debug, Drop)]
 pub struct Cells {
     marks: Vec<Mark>,
-    pointers: Vec<Ptr>,
+    pointers: Table,
 }
 
 impl Model for Cells {
@@ -51,29 +46,9 @@ impl Model for Cells {
 
     ghost use Rattle.mem_model.specs.model.Representation.{cells_kept, homes_of};
 
-    ghost view = { λ c. cells_kept c.marks.items c.pointers.items };
+    ghost view = { λ c. cells_kept c.marks.items c.pointers };
 
-    ghost invariant = { λ c. (length c.marks.items ≡ 0) ⊎ (homes_of (length c.marks.items) + length c.marks.items ≤ vec_capacity c.pointers) };
-}
-
-/// The pointer in a slot, which holds none before one is put there.
-fn pointer_in(pointers: &[Ptr], slot: usize) -> Ptr
-    ensures { result ≡ pointer_at pointers.now slot }
-{
-    pointers.get(slot).copied().unwrap_or(NO_POINTER)
-}
-
-/// Puts a pointer into a slot.
-fn put_pointer(pointers: &mut Vec<Ptr>, slot: usize, pointer: Ptr)
-    requires { slot < vec_capacity pointers.old }
-    ensures there { pointer_at pointers.new.items slot ≡ pointer }
-    ensures others { (s : ℕ) → s ≢ slot → pointer_at pointers.new.items s ≡ pointer_at pointers.old.items s }
-    ensures capacity { vec_capacity pointers.new ≡ vec_capacity pointers.old }
-{
-    while pointers.len() <= slot {
-        pointers.push_reserved(NO_POINTER);
-    }
-    pointers[slot] = pointer;
+    ghost invariant = { λ c. (length c.marks.items ≡ 0) ⊎ (homes_of (length c.marks.items) + length c.marks.items ≤ length c.pointers) };
 }
 
 /// Whether no other cell of the group of `at` holds a part at home.
@@ -94,32 +69,32 @@ fn is_home_free(marks: &[Mark], at: usize) -> bool
 
 /// Puts a part of a pointer into a cell: at home where the home is that pointer's, or free, and else
 /// into the cell's own slot.
-fn put_part(marks: &mut [Mark], pointers: &mut Vec<Ptr>, at: usize, pointer: Ptr, part: u8)
+fn put_part(marks: &mut [Mark], pointers: &mut Table, at: usize, pointer: Ptr, part: u8)
     requires within { at < length marks.old }
-    requires room { homes_of (length marks.old) + length marks.old ≤ vec_capacity pointers.old }
-    ensures cells { cells_kept marks.new pointers.new.items ≡ slice_set (cells_kept marks.old pointers.old.items) at (Part pointer part) }
-    ensures capacity { vec_capacity pointers.new ≡ vec_capacity pointers.old }
+    requires room { homes_of (length marks.old) + length marks.old ≤ length pointers.old }
+    ensures cells { cells_kept marks.new pointers.new ≡ slice_set (cells_kept marks.old pointers.old) at (Part pointer part) }
+    ensures slots { length pointers.new ≡ length pointers.old }
 {
     let home = at / PARTS;
     let own = usize::from(part) == at % PARTS;
-    if own && pointer_in(pointers, home) == pointer {
+    if own && pointers.get(home) == pointer {
         marks[at] = Mark::Home;
     } else if own && is_home_free(marks, at) {
-        put_pointer(pointers, home, pointer);
+        pointers.put(home, pointer);
         marks[at] = Mark::Home;
     } else {
         let slot = marks.len() / PARTS + 1 + at;
-        put_pointer(pointers, slot, pointer);
+        pointers.put(slot, pointer);
         marks[at] = Mark::Stray(part);
     }
 }
 
 /// Puts a cell.
-fn put_cell(marks: &mut [Mark], pointers: &mut Vec<Ptr>, at: usize, cell: Cell)
+fn put_cell(marks: &mut [Mark], pointers: &mut Table, at: usize, cell: Cell)
     requires within { at < length marks.old }
-    requires room { homes_of (length marks.old) + length marks.old ≤ vec_capacity pointers.old }
-    ensures cells { cells_kept marks.new pointers.new.items ≡ slice_set (cells_kept marks.old pointers.old.items) at cell }
-    ensures capacity { vec_capacity pointers.new ≡ vec_capacity pointers.old }
+    requires room { homes_of (length marks.old) + length marks.old ≤ length pointers.old }
+    ensures cells { cells_kept marks.new pointers.new ≡ slice_set (cells_kept marks.old pointers.old) at cell }
+    ensures slots { length pointers.new ≡ length pointers.old }
 {
     match cell {
         Cell::Empty => marks[at] = Mark::Unwritten,
@@ -135,7 +110,8 @@ impl Cells {
     {
         let mut marks = Vec::new(alloc);
         marks.resize(size, Mark::Unwritten)?;
-        let pointers = Vec::with_capacity(alloc, size / PARTS + 1 + size)?;
+        let slots = size / PARTS + 1 + size;
+        let pointers = Table::new(alloc, slots / PARTS + 1)?;
         Ok(Cells { marks, pointers })
     }
 
@@ -145,7 +121,7 @@ impl Cells {
     {
         Cells {
             marks: Vec::new(alloc),
-            pointers: Vec::new(alloc),
+            pointers: Table::none(alloc),
         }
     }
 
@@ -165,8 +141,8 @@ impl Cells {
         match self.marks[at] {
             Mark::Unwritten => Cell::Empty,
             Mark::Number(byte) => Cell::Byte(byte),
-            Mark::Home => Cell::Part(pointer_in(&self.pointers, at / PARTS), (at % PARTS) as u8),
-            Mark::Stray(part) => Cell::Part(pointer_in(&self.pointers, homes + at), part),
+            Mark::Home => Cell::Part(self.pointers.get(at / PARTS), (at % PARTS) as u8),
+            Mark::Stray(part) => Cell::Part(self.pointers.get(homes + at), part),
         }
     }
 

@@ -12,4 +12,5 @@ pub mod cells;
 pub mod laws;
 pub mod memory;
 mod rows;
+mod table;
 pub mod value;

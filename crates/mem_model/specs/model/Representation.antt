@@ -1,19 +1,12 @@
 -- How the cells of an object are kept: a mark for each cell, and a table of pointers.
-use Rattle.std.specs.Prelude.{◌≡◌, ◌≢◌, ℕ, pos, ◌+◌, ◌/◌, ◌%◌, ◌<◌, List, map, length, slice_index_or}
+use Rattle.std.specs.Prelude.{◌≡◌, ◌≢◌, ℕ, ◌+◌, ◌/◌, ◌%◌, ◌<◌, List, map, length, slice_index_or}
 use Rattle.std.specs.List.{range_with_len}
 use Rattle.mem_model.specs.declared.value.Ptr.{Ptr}
 use Rattle.mem_model.specs.declared.value.Cell.{Cell}
 use Rattle.mem_model.specs.declared.value.Cell.TheVariants.{Empty, Byte, Part}
+use Rattle.mem_model.specs.model.Table.{pointer_at}
 use Rattle.mem_model.specs.declared.cells.Mark.{Mark}
 use Rattle.mem_model.specs.declared.cells.Mark.TheVariants.{Unwritten, Number, Home, Stray}
-
--- what a slot of the table holds before a pointer is put there
-abbrev pub no_pointer : Ptr
-no_pointer = record { object = 0; offset = pos 0 }
-
--- the pointer in a slot of the table
-abbrev pub pointer_at : List Ptr → ℕ → Ptr
-pointer_at pointers slot = slice_index_or pointers slot no_pointer
 
 -- the slots of homes: eight cells in a row share one
 abbrev pub homes_of : ℕ → ℕ
