@@ -43,15 +43,15 @@ shapes_more : (ss : List Shape) (s : Shape) → shapes_count (ss ++ s ∷ []) �
 shapes_more [] s = let e : shape_count s + 0 ≡ 0 + shape_count s = omega arith in e
 shapes_more (x ∷ xs) s = let i = shapes_more xs s in let e : shape_count x + shapes_count (xs ++ s ∷ []) ≡ (shape_count x + shapes_count xs) + shape_count s = omega arith in e
 
-wrapped_count : (s : Shape) (ty : TypeNode) → type_count (with_one_shape s ty) ≡ shape_count s + type_count ty
-wrapped_count sh.Pointer ty = let e = n.count-Pointer ty in omega arith
-wrapped_count (sh.Array None) ty = let e = n.count-Array-None ty in omega arith
-wrapped_count (sh.Array (Some v)) ty = let e = n.count-Array-Some ty v in omega arith
-wrapped_count (sh.Takes ps) ty = let e = n.count-Takes ty ps in omega arith
+one_shape_count : (s : Shape) (ty : TypeNode) → type_count (with_one_shape s ty) ≡ shape_count s + type_count ty
+one_shape_count sh.Pointer ty = let e = n.count-Pointer ty in omega arith
+one_shape_count (sh.Array None) ty = let e = n.count-Array-None ty in omega arith
+one_shape_count (sh.Array (Some v)) ty = let e = n.count-Array-Some ty v in omega arith
+one_shape_count (sh.Takes ps) ty = let e = n.count-Takes ty ps in omega arith
 
-pub shaped_count : (ss : List Shape) (ty : TypeNode) → type_count (with_shapes ss ty) ≡ shapes_count ss + type_count ty
-shaped_count [] ty = let e : type_count ty ≡ 0 + type_count ty = omega arith in e
-shaped_count (s ∷ ss) ty = let i = shaped_count ss ty in let c = wrapped_count s (with_shapes ss ty) in omega arith
+pub shapes_round_count : (ss : List Shape) (ty : TypeNode) → type_count (with_shapes ss ty) ≡ shapes_count ss + type_count ty
+shapes_round_count [] ty = let e : type_count ty ≡ 0 + type_count ty = omega arith in e
+shapes_round_count (s ∷ ss) ty = let i = shapes_round_count ss ty in let c = one_shape_count s (with_shapes ss ty) in omega arith
 
 pub plain_count : (s : TypeNames) {a : List Lexeme} {ty : TypeNode} → IsPlain s a ty → type_count ty ≡ 1
 plain_count s (IsPlain.words a x b h e) = n.count-Basic b
@@ -82,9 +82,9 @@ comma_count at (v ∷ z ∷ vs) some = let e = n.count-Comma at (v ∷ z ∷ vs)
 -- ---- expressions
 
 module _ (s : TypeNames) where
-  listed_some : {a : List Lexeme} {vs : List Expr} → AreAssignments s a vs → 1 ≤ length vs
-  listed_some (AreAssignments.one a v h) = omega arith
-  listed_some (AreAssignments.more a t b v vs h kind g) = omega arith
+  list_some : {a : List Lexeme} {vs : List Expr} → AreAssignments s a vs → 1 ≤ length vs
+  list_some (AreAssignments.one a v h) = omega arith
+  list_some (AreAssignments.more a t b v vs h kind g) = omega arith
 
   mutual
     pub expr_few : {m : ℕ} {a : List Lexeme} {v : Expr} → IsExpr s m a v → expr_count v ≤ 2 * length a
@@ -108,18 +108,18 @@ module _ (s : TypeNames) where
     expr_few (IsExpr.assignment a t b op v z low h kind g) = let i = expr_few h in let j = expr_few g in let e = n.count-Assign (place a) op v z in omega (arith, length-append a (t ∷ b))
 
     pub whole_few : {a : List Lexeme} {v : Expr} → IsWhole s a v → expr_count v ≤ 2 * length a
-    whole_few (IsWhole.commas a vs h) = let i = listed_few h in let c = comma_count (place a) vs (listed_some h) in omega arith
+    whole_few (IsWhole.commas a vs h) = let i = list_few h in let c = comma_count (place a) vs (list_some h) in omega arith
 
-    listed_few : {a : List Lexeme} {vs : List Expr} → AreAssignments s a vs → list_count expr_node vs + 2 * length vs ≤ 2 * length a + 2
-    listed_few (AreAssignments.one a v h) = let i = expr_few h in omega arith
-    listed_few (AreAssignments.more a t b v vs h kind g) = let i = expr_few h in let j = listed_few g in omega (arith, length-append a (t ∷ b))
+    list_few : {a : List Lexeme} {vs : List Expr} → AreAssignments s a vs → list_count expr_node vs + 2 * length vs ≤ 2 * length a + 2
+    list_few (AreAssignments.one a v h) = let i = expr_few h in omega arith
+    list_few (AreAssignments.more a t b v vs h kind g) = let i = expr_few h in let j = list_few g in omega (arith, length-append a (t ∷ b))
 
     arguments_few : {a : List Lexeme} {vs : List Expr} → AreArguments s a vs → list_count expr_node vs ≤ 2 * length a
     arguments_few AreArguments.none = omega arith
-    arguments_few (AreArguments.some a vs h) = let i = listed_few h in let o = listed_some h in omega arith
+    arguments_few (AreArguments.some a vs h) = let i = list_few h in let o = list_some h in omega arith
 
     pub type_few : {a : List Lexeme} {ty : TypeName} → IsTypeName s a ty → type_count ty.ty ≤ 2 * length a
-    type_few (IsTypeName.type_name a b ty d h g) = let i = declarator_few g in let c = shaped_count d.shapes ty in let o = plain_count s h in let f = (plain_begins s h).0 in omega (arith, length-append a b)
+    type_few (IsTypeName.type_name a b ty d h g) = let i = declarator_few g in let c = shapes_round_count d.shapes ty in let o = plain_count s h in let f = (plain_begins s h).0 in omega (arith, length-append a b)
 
     pub declarator_few : {naming : Naming} {m : ℕ} {a : List Lexeme} {d : Declarator} → IsDeclarator s naming m a d → shapes_count d.shapes + name_count d.name ≤ 2 * length a
     declarator_few (IsDeclarator.star t a b d low kind c h) = let i = declarator_few h in let o = shapes_more d.shapes sh.Pointer in omega (arith, length-append a b)
@@ -139,4 +139,4 @@ module _ (s : TypeNames) where
     parameters_listed_few (AreSomeParameters.more_parameters a t b x xs h kind g) = let i = parameter_few h in let j = parameters_listed_few g in omega (arith, length-append a (t ∷ b))
 
     parameter_few : {a : List Lexeme} {x : Parameter} → IsParameter s a x → node_count (parameter_node x) ≤ 2 * length a
-    parameter_few (IsParameter.parameter a b ty d h g) = let i = declarator_few g in let c = shaped_count d.shapes ty in let o = plain_count s h in let f = (plain_begins s h).0 in let e = parameter_count (place a) (with_shapes d.shapes ty) d.name in omega (arith, length-append a b)
+    parameter_few (IsParameter.parameter a b ty d h g) = let i = declarator_few g in let c = shapes_round_count d.shapes ty in let o = plain_count s h in let f = (plain_begins s h).0 in let e = parameter_count (place a) (with_shapes d.shapes ty) d.name in omega (arith, length-append a b)

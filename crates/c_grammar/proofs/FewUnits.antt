@@ -27,7 +27,7 @@ use Rattle.c_grammar.specs.Specifiers.{IsDeclared, AreDeclared, IsConstant, AreC
 use Rattle.c_grammar.specs.Statements.{IsLocal, AreLocals, IsLine, IsOptional, IsFirst, IsLabel, locals_of, IsStmt, AreItems, AreSections, AreStmts}
 use Rattle.c_grammar.specs.Units.{IsInit, AreInits, is_function, external_of, IsObject, AreObjects, AreTypedefs, IsExternal, AreExternals, Reads}
 use Rattle.c_grammar.proofs.ReadPlain.{plain_begins}
-use Rattle.c_grammar.proofs.Few.{shaped_count, plain_count, expr_few, whole_few, declarator_few}
+use Rattle.c_grammar.proofs.Few.{shapes_round_count, plain_count, expr_few, whole_few, declarator_few}
 
 -- ---- specifiers
 
@@ -54,7 +54,7 @@ spec_lone s (IsSpecifier.struct a t b l e r d at name ds h kind g lk o rk v) = n
 spec_lone s (IsSpecifier.enum a t b l e r d at name xs h kind g lk o rk v) = n.count-Enum-None at name
 
 declared_few : (s : TypeNames) {naming : Naming} {ty : TypeNode} {a : List Lexeme} {d : Declaration} → IsDeclared s naming ty a d → type_count d.ty + 2 ≤ 2 * length a + type_count ty
-declared_few s {ty = ty} (IsDeclared.of a v shapes h) = let c = declarator_few s h in let o = shaped_count shapes ty in omega arith
+declared_few s {ty = ty} (IsDeclared.of a v shapes h) = let c = declarator_few s h in let o = shapes_round_count shapes ty in omega arith
 
 members_few : (s : TypeNames) {ty : TypeNode} {a : List Lexeme} {ds : List Declaration} → Lone ty → AreDeclared s ty a ds → list_count member_node ds ≤ 2 * length a + type_count ty
 members_few s l (AreDeclared.one a d h) = let c = declared_few s h in omega arith
@@ -162,8 +162,8 @@ external_count true d storage None = refl
 external_count true d storage (Some v) = refl
 
 object_few : (s : TypeNames) (storage : Option Storage) {ty : TypeNode} {a : List Lexeme} {v : External} → IsObject s storage ty a v → node_count (external_node v) + 1 ≤ 2 * length a + type_count ty
-object_few s storage {ty} (IsObject.plain a v shapes h) = let c = declarator_few s h in let o = shaped_count shapes ty in let e = external_count (is_function shapes) (declaration_of ty v shapes) storage None in omega arith
-object_few s storage {ty} (IsObject.with_init a t b v shapes z h kind g) = let c = declarator_few s h in let o = shaped_count shapes ty in let d = init_few s g in let e = external_count (is_function shapes) (declaration_of ty v shapes) storage (Some z) in omega (arith, length-append a (t ∷ b))
+object_few s storage {ty} (IsObject.plain a v shapes h) = let c = declarator_few s h in let o = shapes_round_count shapes ty in let e = external_count (is_function shapes) (declaration_of ty v shapes) storage None in omega arith
+object_few s storage {ty} (IsObject.with_init a t b v shapes z h kind g) = let c = declarator_few s h in let o = shapes_round_count shapes ty in let d = init_few s g in let e = external_count (is_function shapes) (declaration_of ty v shapes) storage (Some z) in omega (arith, length-append a (t ∷ b))
 
 objects_few : (s : TypeNames) (storage : Option Storage) {ty : TypeNode} {a : List Lexeme} {vs : List External} → Lone ty → AreObjects s storage ty a vs → list_count external_node vs ≤ 2 * length a + type_count ty
 objects_few s storage l (AreObjects.one a v h) = let c = object_few s storage h in omega arith

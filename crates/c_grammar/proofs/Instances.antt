@@ -17,22 +17,22 @@ use Rattle.c_grammar.proofs.Says.{Instance, lexeme_of}
 
 -- ---- a name that is none of a type
 
-joined : TypeNames → List ℕ
-joined [] = []
-joined (x ∷ s) = x ++ joined s
+all_names : TypeNames → List ℕ
+all_names [] = []
+all_names (x ∷ s) = x ++ all_names s
 
-no_type : (s : TypeNames) (name : List ℕ) → length (joined s) < length name → is_type_name s name ≡ false
-unfolding is_type_name joined
+no_type : (s : TypeNames) (name : List ℕ) → length (all_names s) < length name → is_type_name s name ≡ false
+unfolding is_type_name all_names
 no_type [] name long = refl
 no_type (x ∷ s) name long =
-    let sizes = length-append x (joined s) in
+    let sizes = length-append x (all_names s) in
     let other = fails (bytes_eq x name) (λ e. let q = ap length ((bytes_eq-Decides x name).0 e) in absurd (omega arith)) in
     let rest = no_type s name (omega arith) in
     rw (other, rest) refl
 
 -- a name that is none of a type
 pub a_name : TypeNames → Lexeme
-a_name s = record { kind = k.Name; spelling = 0 ∷ joined s; at = 0; len = 0 }
+a_name s = record { kind = k.Name; spelling = 0 ∷ all_names s; at = 0; len = 0 }
 
 pub a_name_is : (s : TypeNames) → (a_name s).kind ≡ k.Name
 unfolding a_name
@@ -40,7 +40,7 @@ a_name_is s = refl
 
 pub no_type_name : (s : TypeNames) → is_type s (a_name s) ≡ false
 unfolding a_name
-no_type_name s = no_type s (0 ∷ joined s) (omega arith)
+no_type_name s = no_type s (0 ∷ all_names s) (omega arith)
 
 -- ---- expressions and declarators
 

@@ -168,7 +168,7 @@ module _ (t : Lexeme) (left right : List Lexeme) where
   taken_local x y h e = take_local (λ ts. Ok (x, ts)) (λ ts. Ok (y, ts)) h (λ k u v g. ok_local x y g e)
 
   -- as many turns as there are tokens: the bounds are those of the lists
-  pub record Sized (k : Mode) (b c : ℕ) (u v : List Lexeme) : Type 0 where
+  pub record Bounds (k : Mode) (b c : ℕ) (u v : List Lexeme) : Type 0 where
     pub low : ℕ
     pub high : ℕ
     pub is : State k low high u v
@@ -177,9 +177,9 @@ module _ (t : Lexeme) (left right : List Lexeme) where
     pub less : low ≤ b
     pub less' : high ≤ c
 
-  pub sized : {k : Mode} {b c : ℕ} {u v : List Lexeme} → State k b c u v → Sized k b c u v
-  sized {u = u} {v} (State.near h lb lc) = record { low = length u; high = length v; is = State.near h (omega arith) (omega arith); few = omega arith; few' = omega arith; less = lb; less' = lc }
-  sized {u = u} (State.past l lb) = record { low = length u; high = 0; is = State.past l (omega arith); few = omega arith; few' = omega arith; less = lb; less' = omega arith }
+  pub bounds_of : {k : Mode} {b c : ℕ} {u v : List Lexeme} → State k b c u v → Bounds k b c u v
+  bounds_of {u = u} {v} (State.near h lb lc) = record { low = length u; high = length v; is = State.near h (omega arith) (omega arith); few = omega arith; few' = omega arith; less = lb; less' = lc }
+  bounds_of {u = u} (State.past l lb) = record { low = length u; high = 0; is = State.past l (omega arith); few = omega arith; few' = omega arith; less = lb; less' = omega arith }
 
   -- a loop of so many turns, over what it has found so far
   module _ {A S : Type 0} (n m : ℕ) (f g : ℕ → S → Parser A) where
@@ -195,8 +195,8 @@ module _ (t : Lexeme) (left right : List Lexeme) where
     loop_local stop turn (suc j) (suc i) x k b c u v h bn cm bj ci = turn j i (loop_local stop turn j i) x k b c u v h bn cm bj ci
 
     -- the loop of as many turns as there are tokens
-    pub sized_local : ((j i : ℕ) (x : S) → Loop j i x) → (x : S) → Alike n m (λ ts. f (length ts) x ts) (λ ts. g (length ts) x ts)
-    sized_local h x k b c u v st bn cm = let z = sized st in more z.less z.less' (h (length u) (length v) x k z.low z.high u v z.is (omega (arith, z.less)) (omega (arith, z.less')) z.few z.few')
+    pub turns_local : ((j i : ℕ) (x : S) → Loop j i x) → (x : S) → Alike n m (λ ts. f (length ts) x ts) (λ ts. g (length ts) x ts)
+    turns_local h x k b c u v st bn cm = let z = bounds_of st in more z.less z.less' (h (length u) (length v) x k z.low z.high u v z.is (omega (arith, z.less)) (omega (arith, z.less')) z.few z.few')
 
   -- ---- the smallest parsers
 
@@ -215,7 +215,7 @@ module _ (t : Lexeme) (left right : List Lexeme) where
       (take_local (consts j) (consts i) h (λ k u v g. more x k (b - 1) (c - 1) u v g (omega arith) (omega arith) (omega arith) (omega arith))) (ok_local tt tt h refl))
 
   pub consts_local : (n m : ℕ) → Alike n m (λ ts. consts (length ts) ts) (λ ts. consts (length ts) ts)
-  consts_local n m = sized_local n m (λ j x. consts j) (λ j x. consts j) (consts_loop n m) tt
+  consts_local n m = turns_local n m (λ j x. consts j) (λ j x. consts j) (consts_loop n m) tt
 
   pub behind_local : {A : Type 0} {n m : ℕ} {k : Mode} {b c : ℕ} {u v : List Lexeme} (p q : Parser A) → Alike n m p q → State k b c u v → b ≤ suc n → c ≤ suc m → Agrees k b c (p (behind u)) (q (behind v))
   behind_local {b = b} {c} p q h st bn cm = take_local p q st (λ k u v g. h k (b - 1) (c - 1) u v g (omega arith) (omega arith))
@@ -276,7 +276,7 @@ module _ (t : Lexeme) (left right : List Lexeme) where
           (λ j i next x k b c u v h bn cm bj ci. rw (same_kind h) (set_local j i next x (specifier_of (kind_at v)) (extend x (specifier_of (kind_at v))) h bn cm bj ci))
 
       pub specifier_local : Alike (suc n) (suc m) (λ ts. specifier_from s on (length ts) no_words ts) (λ ts. specifier_from s on' (length ts) no_words ts)
-      specifier_local = sized_local (suc n) (suc m) (specifier_from s on) (specifier_from s on') specifier_loop no_words
+      specifier_local = turns_local (suc n) (suc m) (specifier_from s on) (specifier_from s on') specifier_loop no_words
 
     pub plain_local : (n m : ℕ) → Alike n m (plain s) (plain s)
     unfolding plain
@@ -292,7 +292,7 @@ module _ (t : Lexeme) (left right : List Lexeme) where
       (λ k u' v' g. next (found ++ spelling_at v ∷ []) k (b - 1) (c - 1) u' v' g (omega arith) (omega arith) (omega arith) (omega arith)))) (ok_local found found h refl))
 
   texts_local : (n m : ℕ) → Alike n m (λ ts. texts_from (length ts) [] ts) (λ ts. texts_from (length ts) [] ts)
-  texts_local n m = sized_local n m texts_from texts_from (texts_loop n m) []
+  texts_local n m = turns_local n m texts_from texts_from (texts_loop n m) []
 
   module _ {A : Type 0} (n m : ℕ) (item item' : Parser A) (item_local : Alike n m item item') where
     list_loop : (j i : ℕ) (found : List A) → Loop n m (list_from item) (list_from item') j i found
@@ -303,7 +303,7 @@ module _ (t : Lexeme) (left right : List Lexeme) where
         (ok_local (found ++ x ∷ []) (found ++ x ∷ []) g refl)))
 
     pub list_local : Alike n m (λ ts. list_from item (length ts) [] ts) (λ ts. list_from item' (length ts) [] ts)
-    list_local = sized_local n m (list_from item) (list_from item') list_loop []
+    list_local = turns_local n m (list_from item) (list_from item') list_loop []
 
   -- ---- expressions and declarators, over what is read a level below
 
@@ -431,7 +431,7 @@ module _ (t : Lexeme) (left right : List Lexeme) where
         (λ k u v g. bind_local _ _ _ _ (step_local class at q.1 k (b - 1) (c - 1) u v g (omega arith) (omega arith)) (λ z k u v g. next (result_level class, z) k (b - 1) (c - 1) u v g (omega arith) (omega arith) (omega arith) (omega arith)))))))
 
     climb_local : (at least : ℕ) (q : ℕ × Expr) → Alike (suc n) (suc m) (λ ts. climbing rec dec at least (length ts) q ts) (λ ts. climbing rec' dec' at least (length ts) q ts)
-    climb_local at least q = sized_local (suc n) (suc m) (climbing rec dec at least) (climbing rec' dec' at least) (climb_loop at least) q
+    climb_local at least q = turns_local (suc n) (suc m) (climbing rec dec at least) (climbing rec' dec' at least) (climb_loop at least) q
 
     pub tight_local : (least : ℕ) → Alike (suc n) (suc m) (tight s rec dec least) (tight s rec' dec' least)
     tight_local least k b c u v h bn cm = rw (same_place h) (bind_local _ _ _ _ (operand_local least k b c u v h bn cm) (λ q k u' v' g. climb_local (place v) least (q.1, q.0) k b c u' v' g bn cm))
@@ -464,7 +464,7 @@ module _ (t : Lexeme) (left right : List Lexeme) where
         (ok_local d d h refl)))
 
     suffixes_local : (d : Declarator) → Alike (suc n) (suc m) (λ ts. suffixes s rec dec (length ts) d ts) (λ ts. suffixes s rec' dec' (length ts) d ts)
-    suffixes_local d = sized_local (suc n) (suc m) (suffixes s rec dec) (suffixes s rec' dec') suffixes_loop d
+    suffixes_local d = turns_local (suc n) (suc m) (suffixes s rec dec) (suffixes s rec' dec') suffixes_loop d
 
     pointer_local : (naming : Naming) → Alike n m (pointer_declarator s rec dec naming) (pointer_declarator s rec' dec' naming)
     unfolding pointer_declarator
@@ -600,7 +600,7 @@ module _ (t : Lexeme) (left right : List Lexeme) where
         (ok_local (found ++ x ∷ []) (found ++ x ∷ []) g refl)))
 
     pub braced_local : Alike n m (λ ts. braced_list_from item (length ts) [] ts) (λ ts. braced_list_from item' (length ts) [] ts)
-    braced_local = sized_local n m (braced_list_from item) (braced_list_from item') braced_loop []
+    braced_local = turns_local n m (braced_list_from item) (braced_list_from item') braced_loop []
 
   named_local : (ty : TypeNode) (name : Option DeclaredName) (shapes : List Shape) {k : Mode} {b c : ℕ} {u v : List Lexeme} → State k b c u v → Agrees k b c (named_by ty name shapes u) (named_by ty name shapes v)
   named_local ty (Some z) shapes h = ok_local _ _ h refl
@@ -631,7 +631,7 @@ module _ (t : Lexeme) (left right : List Lexeme) where
         (ok_local _ _ g refl)))
 
     declarators_local : (ty : TypeNode) → Alike n m (λ ts. declarators_from s n (length ts) ty [] ts) (λ ts. declarators_from s m (length ts) ty [] ts)
-    declarators_local ty = sized_local n m (declarators n) (declarators m) declarators_loop (ty, [])
+    declarators_local ty = turns_local n m (declarators n) (declarators m) declarators_loop (ty, [])
 
     module _ (spec spec' : Parser TypeNode) (spec_local : Alike n m spec spec') (spec_says : (ts : List Lexeme) → Says (spec ts) ts (λ a ty. IsSpecifier s a ty)) where
       member_of_local : Alike n m (specifiers.member s n spec) (specifiers.member s m spec')
@@ -652,7 +652,7 @@ module _ (t : Lexeme) (left right : List Lexeme) where
       closed_local x {b = b} {c} h = then_expect p.RightBrace _ _ h (λ k u v g. bind_local _ _ _ _ (consts_local b c k b c u v g (omega arith) (omega arith)) (λ _ k u v g. ok_local x x g refl))
 
       body_local : (class : Specifier) (at : ℕ) (name : Option (List ℕ)) → Alike n m (specifiers.body s n spec class at name) (specifiers.body s m spec' class at name)
-      body_local cs.Struct at name k b c u v h bn cm = bind_local _ _ _ _ (sized_local n m (members_from s n spec) (members_from s m spec') members_loop [] k b c u v h bn cm) (λ ds k u v g. closed_local (y.Struct at name (Some ds)) g)
+      body_local cs.Struct at name k b c u v h bn cm = bind_local _ _ _ _ (turns_local n m (members_from s n spec) (members_from s m spec') members_loop [] k b c u v h bn cm) (λ ds k u v g. closed_local (y.Struct at name (Some ds)) g)
       body_local _ at name k b c u v h bn cm = bind_local _ _ _ _ (braced_local n m (constant s n) (constant s m) constant_local k b c u v h bn cm) (λ xs k u v g. closed_local (y.Enum at name (Some xs)) g)
 
       braces_local : (class : Specifier) (at : ℕ) (name : Option (List ℕ)) → Alike n m (braces s n spec class at name) (braces s m spec' class at name)

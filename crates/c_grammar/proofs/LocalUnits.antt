@@ -36,7 +36,7 @@ use Rattle.c_grammar.specs.ParseUnits.{init_list, init_value, init_by, init, typ
 use Rattle.c_grammar.proofs.SoundStmt.{SoundS, line_says, section_says, sound_stmt}
 use Rattle.c_grammar.proofs.ReadStatements.{line_begins, stmt_starts, label_word}
 use Rattle.c_grammar.proofs.Local.{Mode}
-use Rattle.c_grammar.proofs.Local.{Alike, Loop, State, begins_at, behind_local, bind_local, bind_some, braced_local, declaration_local, declarator_local, end_local, err_local, expect_word_local, expr_local, expr_takes, forget, list_local, loop_local, ok_local, plain_local, same_head, same_kind, same_place, sized_local, some_left, some_right, specifier_of_local, take_local, taken_local, test_local, then_expect, whole_local}
+use Rattle.c_grammar.proofs.Local.{Alike, Loop, State, begins_at, behind_local, bind_local, bind_some, braced_local, declaration_local, declarator_local, end_local, err_local, expect_word_local, expr_local, expr_takes, forget, list_local, loop_local, ok_local, plain_local, same_head, same_kind, same_place, turns_local, some_left, some_right, specifier_of_local, take_local, taken_local, test_local, then_expect, whole_local}
 
 module _ (t : Lexeme) (left right : List Lexeme) where
   module _ (s : TypeNames) (n m : ℕ) where
@@ -105,7 +105,7 @@ module _ (t : Lexeme) (left right : List Lexeme) where
           (bind_some t left right _ _ _ _ h (rec_local k b c u v h bn cm) (λ x u' e. rec_some u u' x e) (λ x k u v g. next (found ++ x ∷ []) k (b - 1) (c - 1) u v g (omega arith) (omega arith) (omega arith) (omega arith)))))
 
       pub items_local : Alike t left right n2 m2 (λ ts. items_from s n rec (length ts) [] ts) (λ ts. items_from s m rec' (length ts) [] ts)
-      items_local = sized_local t left right n2 m2 (items_from s n rec) (items_from s m rec') items_loop []
+      items_local = turns_local t left right n2 m2 (items_from s n rec) (items_from s m rec') items_loop []
 
       ends_same : {k : Mode} {b c : ℕ} {u v : List Lexeme} → State t left right k b c u v → ends_section u ≡ ends_section v
       ends_same h = same_head t left right ends_section (λ x u v. refl) h
@@ -118,7 +118,7 @@ module _ (t : Lexeme) (left right : List Lexeme) where
 
       section_local : Alike t left right n2 m2 (section s n rec) (section s m rec')
       unfolding section
-      section_local k b c u v h bn cm = bind_local t left right _ _ _ _ (label_local k b c u v h (omega arith) (omega arith)) (λ x k u v g. bind_local t left right _ _ _ _ (sized_local t left right n2 m2 (stmts_from s n rec) (stmts_from s m rec') stmts_loop [] k b c u v g bn cm) (λ ys k u v g. ok_local t left right _ _ g refl))
+      section_local k b c u v h bn cm = bind_local t left right _ _ _ _ (label_local k b c u v h (omega arith) (omega arith)) (λ x k u v g. bind_local t left right _ _ _ _ (turns_local t left right n2 m2 (stmts_from s n rec) (stmts_from s m rec') stmts_loop [] k b c u v g bn cm) (λ ys k u v g. ok_local t left right _ _ g refl))
 
       section_some : (u u' : List Lexeme) (x : Section) → section s n rec u ≡ Ok (x, u') → length u' < length u
       section_some u u' x e =
@@ -160,7 +160,7 @@ module _ (t : Lexeme) (left right : List Lexeme) where
       switch_local : Alike t left right n2 m2 (switch s n rec) (switch s m rec')
       unfolding switch
       switch_local k b c u v h bn cm = bind_local t left right _ _ _ _ (condition_local k b c u v h (omega arith) (omega arith)) (λ x k u v g. then_expect t left right p.LeftBrace _ _ g (λ k u v g.
-          bind_local t left right _ _ _ _ (sized_local t left right n2 m2 (sections_from s n rec) (sections_from s m rec') sections_loop [] k b c u v g bn cm) (λ xs k u v g. ok_local t left right _ _ g refl)))
+          bind_local t left right _ _ _ _ (turns_local t left right n2 m2 (sections_from s n rec) (sections_from s m rec') sections_loop [] k b c u v g bn cm) (λ xs k u v g. ok_local t left right _ _ g refl)))
 
       last_local : (x : Stmt) → Alike t left right n2 m2 (λ ts. and_then (expect p.Semicolon ts) (λ _. pure x)) (λ ts. and_then (expect p.Semicolon ts) (λ _. pure x))
       last_local x k b c u v h bn cm = end_local t left right p.Semicolon x x h refl
@@ -223,7 +223,7 @@ module _ (t : Lexeme) (left right : List Lexeme) where
   module _ (s : TypeNames) (n m : ℕ) where
     typedefs_local : Alike t left right n m (typedefs s n) (typedefs s m)
     unfolding typedefs
-    typedefs_local k b c u v h bn cm = bind_local t left right _ _ _ _ (specifier_of_local t left right s n m k b c u v h bn cm) (λ ty k u v g. bind_local t left right _ _ _ _ (sized_local t left right n m (typedefs_by n) (typedefs_by m) (typedefs_loop n m) (s, ty, []) k b c u v g bn cm) (λ q k u v g. end_local t left right p.Semicolon _ _ g refl))
+    typedefs_local k b c u v h bn cm = bind_local t left right _ _ _ _ (specifier_of_local t left right s n m k b c u v h bn cm) (λ ty k u v g. bind_local t left right _ _ _ _ (turns_local t left right n m (typedefs_by n) (typedefs_by m) (typedefs_loop n m) (s, ty, []) k b c u v g bn cm) (λ q k u v g. end_local t left right p.Semicolon _ _ g refl))
 
     module _ (storage : Option Storage) where
       object_local : (ty : TypeNode) (w' : DeclaredName) (shapes : List Shape) → Alike t left right n m (object_by s n storage ty w' shapes) (object_by s m storage ty w' shapes)
@@ -249,7 +249,7 @@ module _ (t : Lexeme) (left right : List Lexeme) where
       objects_behind_local : (ty : TypeNode) (w' : DeclaredName) (shapes : List Shape) → Alike t left right n m (objects_behind s n storage ty w' shapes) (objects_behind s m storage ty w' shapes)
       unfolding objects_behind
       objects_behind_local ty w' shapes k b c u v h bn cm = bind_local t left right _ _ _ _ (object_local ty w' shapes k b c u v h bn cm) (λ x k u v g. test_local t left right (ap (is_mark p.Comma) (same_kind t left right g))
-          (behind_local t left right (λ ts. objects n (length ts) (bare ty, x ∷ []) ts) (λ ts. objects m (length ts) (bare ty, x ∷ []) ts) (sized_local t left right n m (objects n) (objects m) objects_loop (bare ty, x ∷ [])) g (omega arith) (omega arith)) (ok_local t left right _ _ g refl))
+          (behind_local t left right (λ ts. objects n (length ts) (bare ty, x ∷ []) ts) (λ ts. objects m (length ts) (bare ty, x ∷ []) ts) (turns_local t left right n m (objects n) (objects m) objects_loop (bare ty, x ∷ [])) g (omega arith) (omega arith)) (ok_local t left right _ _ g refl))
 
       body_behind_local : (d : Declaration) → Alike t left right n m (body_behind s n storage d) (body_behind s m storage d)
       unfolding body_behind

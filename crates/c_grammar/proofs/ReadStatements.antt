@@ -26,7 +26,7 @@ use Rattle.c_grammar.proofs.Outcomes.{no_true, fails, is_mark_of, word_is, is_wo
 use Rattle.c_grammar.proofs.Facts.{infix_at, weak, no_type, begins_no_mark, type_no_mark}
 use Rattle.c_grammar.proofs.ReadPlain.{plain_read, plain_begins, BeginsType}
 use Rattle.c_grammar.proofs.First.{first_whole}
-use Rattle.c_grammar.proofs.RulesExpr.{EndsKind, listed_last, listed_more}
+use Rattle.c_grammar.proofs.RulesExpr.{EndsKind, list_last, list_more}
 use Rattle.c_grammar.proofs.ReadExpr.{read_expr, reach_whole}
 use Rattle.c_grammar.proofs.ReadSpecifiers.{Fronts, declared_fronts, wider, mark_ends, comma_ends, semicolon_ends, declared_read}
 
@@ -153,7 +153,7 @@ module _ (s : TypeNames) where
   locals_read : {ty : TypeNode} {a : List Lexeme} {vs : List Local} → AreLocals s ty a vs → (n j : ℕ) (found : List Local) (t : Lexeme) (r : List Lexeme) → t.kind ≡ k.Mark p.Semicolon → length (a ++ t ∷ r) < n → length (a ++ t ∷ r) ≤ j
       → list_from (local s n ty) j found (a ++ t ∷ r) ≡ Ok (found ++ vs, t ∷ r)
   locals_read {ty} (AreLocals.one a v h) n j found t r kind len le =
-      listed_last (local s n ty) j found (a ++ t ∷ r) (t ∷ r) v (omega (arith, length-append a (t ∷ r))) (local_read h n (t ∷ r) len (semicolon_ends t.kind kind) (weak t r p.Semicolon 2 kind (omega arith)) (ap (is_mark p.Assign) kind)) (ap (is_mark p.Comma) kind)
+      list_last (local s n ty) j found (a ++ t ∷ r) (t ∷ r) v (omega (arith, length-append a (t ∷ r))) (local_read h n (t ∷ r) len (semicolon_ends t.kind kind) (weak t r p.Semicolon 2 kind (omega arith)) (ap (is_mark p.Assign) kind)) (ap (is_mark p.Comma) kind)
   locals_read (AreLocals.more a o b v vs h ok g) n zero found t r kind len le = absurd (omega (arith, length-append (a ++ o ∷ b) (t ∷ r)))
   locals_read {ty} (AreLocals.more a o b v vs h ok g) n (suc j) found t r kind len le =
       let q = append_assoc a (o ∷ b) (t ∷ r) in
@@ -161,7 +161,7 @@ module _ (s : TypeNames) where
       let all : length (a ++ (o ∷ b ++ t ∷ r)) < n = subst (λ z. length z < n) q len in
       let fit : length (a ++ (o ∷ b ++ t ∷ r)) ≤ suc j = subst (λ z. length z ≤ suc j) q le in
       let e = local_read h n (o ∷ b ++ t ∷ r) all (comma_ends o.kind ok) (weak o (b ++ t ∷ r) p.Comma 2 ok (omega arith)) (ap (is_mark p.Assign) ok) in
-      ap (list_from (local s n ty) (suc j) found) q ∙ listed_more (local s n ty) j found (a ++ (o ∷ b ++ t ∷ r)) o (b ++ t ∷ r) v e ok ∙ locals_read g n j (found ++ v ∷ []) t r kind (omega arith) (omega arith)
+      ap (list_from (local s n ty) (suc j) found) q ∙ list_more (local s n ty) j found (a ++ (o ∷ b ++ t ∷ r)) o (b ++ t ∷ r) v e ok ∙ locals_read g n j (found ++ v ∷ []) t r kind (omega arith) (omega arith)
       ∙ ap (λ z. Ok (z, t ∷ r)) (append_assoc found (v ∷ []) vs)
 
   pub line_read : {a : List Lexeme} {vs : List Local} → IsLine s a vs → (n : ℕ) (r : List Lexeme) → length (a ++ r) ≤ n → line s n (a ++ r) ≡ Ok (vs, r)

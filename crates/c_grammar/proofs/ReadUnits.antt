@@ -151,7 +151,7 @@ comma_closes : (t : Lexeme) (r : List Lexeme) → t.kind ≡ k.Mark p.Comma → 
 comma_closes t r e = record { ends = comma_ends t.kind e; under = weak t r p.Comma 2 e (omega arith); no_assign = ap (is_mark p.Assign) e; no_open = ap (is_mark p.LeftBrace) e }
 
 -- an object: its declarator, and what is read behind it
-record Started (s : TypeNames) (storage : Option Storage) (n : ℕ) (ty : TypeNode) (ts r : List Lexeme) (v : External) : Type 0 where
+record Start (s : TypeNames) (storage : Option Storage) (n : ℕ) (ty : TypeNode) (ts r : List Lexeme) (v : External) : Type 0 where
   u : DeclaredName
   shapes : List Shape
   rest : List Lexeme
@@ -160,10 +160,10 @@ record Started (s : TypeNames) (storage : Option Storage) (n : ℕ) (ty : TypeNo
   gives : object_by s n storage ty u shapes rest ≡ Ok (v, r)
 
 module _ (s : TypeNames) (storage : Option Storage) where
-  started : {ty : TypeNode} {a : List Lexeme} {v : External} → IsObject s storage ty a v → (n : ℕ) (r : List Lexeme) → length (a ++ r) < n → Closes r → Started s storage n ty (a ++ r) r v
+  object_start : {ty : TypeNode} {a : List Lexeme} {v : External} → IsObject s storage ty a v → (n : ℕ) (r : List Lexeme) → length (a ++ r) < n → Closes r → Start s storage n ty (a ++ r) r v
   unfolding object_by
-  started (IsObject.plain a u shapes h) n r len c = record { u = u; shapes = shapes; rest = r; declarator_is = read_declarator s h n r len c.ends; no_open = c.no_open; gives = let e = c.no_assign in rw e refl }
-  started {ty} (IsObject.with_init a t b u shapes v h kind g) n r len c =
+  object_start (IsObject.plain a u shapes h) n r len c = record { u = u; shapes = shapes; rest = r; declarator_is = read_declarator s h n r len c.ends; no_open = c.no_open; gives = let e = c.no_assign in rw e refl }
+  object_start {ty} (IsObject.with_init a t b u shapes v h kind g) n r len c =
       let q = append_assoc a (t ∷ b) r in
       let all : length (a ++ (t ∷ b ++ r)) < n = subst (λ z. length z < n) q len in
       let ends = mark_ends t.kind p.Assign kind (record { no_star = refl; no_paren = refl; no_bracket = refl; no_name = refl; stops = refl }) in
@@ -189,7 +189,7 @@ module _ (s : TypeNames) (storage : Option Storage) where
   unfolding objects_from
   objects_read (AreObjects.one a v h) n zero found t r kind len le = absurd (omega (arith, length-append a (t ∷ r)))
   objects_read (AreObjects.one a v h) n (suc j) found t r kind len le =
-      let g = started h n (t ∷ r) len (semicolon_closes t r kind) in
+      let g = object_start h n (t ∷ r) len (semicolon_closes t r kind) in
       let e = g.declarator_is in
       let o = g.gives in
       let c = ap (is_mark p.Comma) kind in
@@ -200,7 +200,7 @@ module _ (s : TypeNames) (storage : Option Storage) where
       let sizes = length-append a (o ∷ b ++ t ∷ r) in
       let all : length (a ++ (o ∷ b ++ t ∷ r)) < n = subst (λ z. length z < n) q len in
       let fit : length (a ++ (o ∷ b ++ t ∷ r)) ≤ suc j = subst (λ z. length z ≤ suc j) q le in
-      let d = started h n (o ∷ b ++ t ∷ r) all (comma_closes o (b ++ t ∷ r) ok) in
+      let d = object_start h n (o ∷ b ++ t ∷ r) all (comma_closes o (b ++ t ∷ r) ok) in
       let e = d.declarator_is in
       let i' = d.gives in
       let c = is_mark_of p.Comma o.kind ok in
@@ -211,7 +211,7 @@ module _ (s : TypeNames) (storage : Option Storage) where
   unfolding behind_type objects_named objects_behind
   behind_read (AreObjects.one a v h) n t r kind len =
       let f = (object_fronts h).no_end (t ∷ r) in
-      let g = started h n (t ∷ r) len (semicolon_closes t r kind) in
+      let g = object_start h n (t ∷ r) len (semicolon_closes t r kind) in
       let e = g.declarator_is in
       let b = g.no_open in
       let o = g.gives in
@@ -223,7 +223,7 @@ module _ (s : TypeNames) (storage : Option Storage) where
       let sizes = length-append a (o ∷ b ++ t ∷ r) in
       let all : length (a ++ (o ∷ b ++ t ∷ r)) < n = subst (λ z. length z < n) q len in
       let f = (object_fronts h).no_end (o ∷ b ++ t ∷ r) in
-      let d = started h n (o ∷ b ++ t ∷ r) all (comma_closes o (b ++ t ∷ r) ok) in
+      let d = object_start h n (o ∷ b ++ t ∷ r) all (comma_closes o (b ++ t ∷ r) ok) in
       let e = d.declarator_is in
       let j = d.no_open in
       let i' = d.gives in

@@ -22,7 +22,7 @@ use Rattle.c_grammar.proofs.Facts.{weak, begins_no_mark, type_no_mark}
 use Rattle.c_grammar.proofs.ReadPlain.{Stops, no_const, consts_all, plain_read, BeginsType, plain_begins}
 use Rattle.c_grammar.proofs.Reach.{place-append, Reads}
 use Rattle.c_grammar.proofs.First.{Begins}
-use Rattle.c_grammar.proofs.RulesExpr.{EndsKind, ReadsType, paren_ends, listed_last, listed_more}
+use Rattle.c_grammar.proofs.RulesExpr.{EndsKind, ReadsType, paren_ends, list_last, list_more}
 
 -- what may stand behind a missing name
 pub record Opens (r : List Lexeme) : Type 0 where
@@ -62,8 +62,8 @@ bracket_opens l r e = record { no_star = ap (is_mark p.Star) e; no_name = ap is_
 paren_opens : (l : Lexeme) (r : List Lexeme) → l.kind ≡ k.Mark p.LeftParen → is_mark p.Star (kind_at r) ≡ false → Opens (l ∷ r)
 paren_opens l r e h = record { no_star = ap (is_mark p.Star) e; no_name = ap is_name e; no_group = λ q. h }
 
-typed : ℕ → TypeNode → List Lexeme → ParseOutcome TypeName
-typed at ty r = Ok (record { at = at; ty = ty }, r)
+type_name_of : ℕ → TypeNode → List Lexeme → ParseOutcome TypeName
+type_name_of at ty r = Ok (record { at = at; ty = ty }, r)
 
 both_ways : {A : Type 0} (b : Bool) (x v z : A) → (b ≡ true → x ≡ z) → (b ≡ false → v ≡ z) → cond b x v ≡ z
 both_ways true x v z f g = f refl
@@ -202,7 +202,7 @@ module _ (s : TypeNames) where
   }
 
   pub one_parameter_rule : (a : List Lexeme) (x : Parameter) → 0 < length a → ReadsP s a x → ReadsPListed s a (x ∷ [])
-  one_parameter_rule a x some h n j found r len le ends nc = listed_last (parameter s (expr s n) (declarator s n)) j found (a ++ r) r x (omega (arith, length-append a r)) (h n r len ends) nc
+  one_parameter_rule a x some h n j found r len le ends nc = list_last (parameter s (expr s n) (declarator s n)) j found (a ++ r) r x (omega (arith, length-append a r)) (h n r len ends) nc
 
   comma_ends : (kind : TokenKind) → kind ≡ k.Mark p.Comma → EndsKind kind
   comma_ends kind e = subst EndsKind (sym e) (record { no_star = refl; no_paren = refl; no_bracket = refl; no_name = refl; stops = refl })
@@ -215,7 +215,7 @@ module _ (s : TypeNames) where
       let all : length (a ++ (t ∷ b ++ r)) ≤ n = subst (λ z. length z ≤ n) q len in
       let fit : length (a ++ (t ∷ b ++ r)) ≤ suc j = subst (λ z. length z ≤ suc j) q le in
       let o = h n (t ∷ b ++ r) all (comma_ends t.kind kind) in
-      ap (list_from (parameter s (expr s n) (declarator s n)) (suc j) found) q ∙ listed_more (parameter s (expr s n) (declarator s n)) j found (a ++ (t ∷ b ++ r)) t (b ++ r) x o kind
+      ap (list_from (parameter s (expr s n) (declarator s n)) (suc j) found) q ∙ list_more (parameter s (expr s n) (declarator s n)) j found (a ++ (t ∷ b ++ r)) t (b ++ r) x o kind
       ∙ g n j (found ++ x ∷ []) r (omega arith) (omega arith) ends nc ∙ ap (λ z. Ok (z, r)) (append_assoc found (x ∷ []) xs)
 
   pub parameter_rule : (a b : List Lexeme) (ty : TypeNode) (d : Declarator) → IsPlain s a ty → ((r : List Lexeme) → Stops r → Stops (b ++ r)) → ReadsD s nm.Optional b d → ReadsP s (a ++ b) (parameter_of (place a) ty d)
@@ -229,11 +229,11 @@ module _ (s : TypeNames) where
       rw (q, o, c) (ap (λ at. Ok (parameter_of at ty d, r)) (place-append a (b ++ r) some))
 
   pub type_rule : (a b : List Lexeme) (ty : TypeNode) (d : Declarator) → IsPlain s a ty → ((r : List Lexeme) → Stops r → Stops (b ++ r)) → ReadsD s nm.Refused b d → ReadsType s (a ++ b) (record { at = place a; ty = with_shapes d.shapes ty })
-  unfolding type_name typed
+  unfolding type_name type_name_of
   type_rule a b ty d h stops g n r len ends =
       let q = append_assoc a b r in
       let some = (plain_begins s h).0 in
       let all : length (a ++ (b ++ r)) ≤ n = subst (λ z. length z ≤ n) q len in
       let o = plain_read s h (b ++ r) (stops r ends.stops) in
       let c = g n r (omega (arith, length-append a (b ++ r))) ends in
-      rw (q, o, c) (ap (λ at. typed at (with_shapes d.shapes ty) r) (place-append a (b ++ r) some))
+      rw (q, o, c) (ap (λ at. type_name_of at (with_shapes d.shapes ty) r) (place-append a (b ++ r) some))

@@ -49,15 +49,15 @@ paren_ends kind e = subst EndsKind (sym e) (record { no_star = refl; no_paren = 
 
 -- ---- lists
 
-pub listed_last : {A : Type 0} (item : Parser A) (j : ℕ) (found : List A) (ts r : List Lexeme) (x : A) → 0 < j → item ts ≡ Ok (x, r) → is_mark p.Comma (kind_at r) ≡ false → list_from item j found ts ≡ Ok (found ++ x ∷ [], r)
+pub list_last : {A : Type 0} (item : Parser A) (j : ℕ) (found : List A) (ts r : List Lexeme) (x : A) → 0 < j → item ts ≡ Ok (x, r) → is_mark p.Comma (kind_at r) ≡ false → list_from item j found ts ≡ Ok (found ++ x ∷ [], r)
 unfolding list_from
-listed_last item zero found ts r x some e h = absurd (omega arith)
-listed_last item (suc j) found ts r x some e h = rw (e, h) refl
+list_last item zero found ts r x some e h = absurd (omega arith)
+list_last item (suc j) found ts r x some e h = rw (e, h) refl
 
-pub listed_more : {A : Type 0} (item : Parser A) (j : ℕ) (found : List A) (ts : List Lexeme) (t : Lexeme) (r : List Lexeme) (x : A) → item ts ≡ Ok (x, t ∷ r) → t.kind ≡ k.Mark p.Comma
+pub list_more : {A : Type 0} (item : Parser A) (j : ℕ) (found : List A) (ts : List Lexeme) (t : Lexeme) (r : List Lexeme) (x : A) → item ts ≡ Ok (x, t ∷ r) → t.kind ≡ k.Mark p.Comma
     → list_from item (suc j) found ts ≡ list_from item j (found ++ x ∷ []) r
 unfolding list_from
-listed_more item j found ts t r x e kind = let h = is_mark_of p.Comma t.kind kind in rw (e, h) refl
+list_more item j found ts t r x e kind = let h = is_mark_of p.Comma t.kind kind in rw (e, h) refl
 
 pub comma_weak : (t : Lexeme) (r : List Lexeme) → t.kind ≡ k.Mark p.Comma → binding_level (infix_at (t ∷ r)) < 2
 comma_weak t r e = weak t r p.Comma 2 e (omega arith)
@@ -227,7 +227,7 @@ module _ (s : TypeNames) where
 
   pub one_rule : (a : List Lexeme) (x : Expr) → 0 < length a → Reads s 2 a x → ReadsListed s a (x ∷ [])
   one_rule a x some h n j found r len le next =
-      listed_last (expr s n 2) j found (a ++ r) r x (omega (arith, length-append a r)) (h n r len (omega arith)) (no_comma (kind_at r) next)
+      list_last (expr s n 2) j found (a ++ r) r x (omega (arith, length-append a r)) (h n r len (omega arith)) (no_comma (kind_at r) next)
 
   pub more_rule : (a : List Lexeme) (t : Lexeme) (b : List Lexeme) (x : Expr) (xs : List Expr) → 0 < length a → Reads s 2 a x → t.kind ≡ k.Mark p.Comma → ReadsListed s b xs → ReadsListed s (a ++ t ∷ b) (x ∷ xs)
   more_rule a t b x xs some h kind g n zero found r len le next = absurd (omega (arith, length-append (a ++ t ∷ b) r, length-append a (t ∷ b)))
@@ -237,7 +237,7 @@ module _ (s : TypeNames) where
       let all : length (a ++ (t ∷ b ++ r)) ≤ n = subst (λ z. length z ≤ n) q len in
       let fit : length (a ++ (t ∷ b ++ r)) ≤ suc j = subst (λ z. length z ≤ suc j) q le in
       let o = h n (t ∷ b ++ r) all (comma_weak t (b ++ r) kind) in
-      ap (list_from (expr s n 2) (suc j) found) q ∙ listed_more (expr s n 2) j found (a ++ (t ∷ b ++ r)) t (b ++ r) x o kind ∙ g n j (found ++ x ∷ []) r (omega arith) (omega arith) next
+      ap (list_from (expr s n 2) (suc j) found) q ∙ list_more (expr s n 2) j found (a ++ (t ∷ b ++ r)) t (b ++ r) x o kind ∙ g n j (found ++ x ∷ []) r (omega arith) (omega arith) next
       ∙ ap (λ z. Ok (z, r)) (append_assoc found (x ∷ []) xs)
 
   pub whole_rule : (a : List Lexeme) (xs : List Expr) → 0 < length a → ReadsListed s a xs → ReadsWhole s a (comma_of (place a) xs)

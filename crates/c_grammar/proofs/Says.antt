@@ -146,13 +146,13 @@ after_says L go found x a (t ∷ r) one more = if_says (is_mark p.Comma t.kind) 
     (λ other. done_says (found ++ x ∷ []) a (t ∷ r) (λ a ys. (xs : List _) × (ys ≡ found ++ xs) × L a xs) (x ∷ [], refl, one))
 
 -- Elements with commas between: what one and what one more make of a list.
-pub listed_says : {A : Type 0} (item : Parser A) (R : List Lexeme → A → Type 0) (L : List Lexeme → List A → Type 0)
+pub list_says : {A : Type 0} (item : Parser A) (R : List Lexeme → A → Type 0) (L : List Lexeme → List A → Type 0)
     → ((ts : List Lexeme) → Says (item ts) ts R)
     → ((a : List Lexeme) (x : A) → R a x → L a (x ∷ []))
     → ((a : List Lexeme) (t : Lexeme) (b : List Lexeme) (x : A) (xs : List A) → R a x → t.kind ≡ k.Mark p.Comma → L b xs → L (a ++ t ∷ b) (x ∷ xs))
     → (j : ℕ) (found : List A) (ts : List Lexeme) → Says (list_from item j found ts) ts (λ a ys. (xs : List A) × (ys ≡ found ++ xs) × L a xs)
 unfolding list_from
-listed_says item R L h one more zero found ts = let q = some_of (item []) [] R (h []) in refused_says ts _ (q.0, found ++ q.1 ∷ [], (q.1 ∷ [], refl, one q.0 q.1 q.2))
-listed_says item R L h one more (suc j) found ts = bind_says (item ts) _ ts R _ (h ts) (λ a x r g.
+list_says item R L h one more zero found ts = let q = some_of (item []) [] R (h []) in refused_says ts _ (q.0, found ++ q.1 ∷ [], (q.1 ∷ [], refl, one q.0 q.1 q.2))
+list_says item R L h one more (suc j) found ts = bind_says (item ts) _ ts R _ (h ts) (λ a x r g.
     after_says L (list_from item j (found ++ x ∷ [])) found x a r (one a x g) (λ t u kind.
-    weaker (list_from item j (found ++ x ∷ []) u) u _ _ (λ b ys q. (q.0, q.1, more a t b x q.0 g kind q.2)) (listed_says item R L h one more j (found ++ x ∷ []) u)))
+    weaker (list_from item j (found ++ x ∷ []) u) u _ _ (λ b ys q. (q.0, q.1, more a t b x q.0 g kind q.2)) (list_says item R L h one more j (found ++ x ∷ []) u)))

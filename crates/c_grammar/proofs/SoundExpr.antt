@@ -30,7 +30,7 @@ use Rattle.c_grammar.proofs.Facts.{levels}
 use Rattle.c_grammar.proofs.Reach.{place-append}
 use Rattle.c_grammar.proofs.First.{first, first_listed}
 use Rattle.c_grammar.proofs.ReadPlain.{plain_begins}
-use Rattle.c_grammar.proofs.Says.{Instance, Viable, Says, lexeme_of, ok_says, err_says, refused_says, bind_says, bind_says_at, if_says, token_says, done_says, expect_says, consts_says, listed_says, weaker}
+use Rattle.c_grammar.proofs.Says.{Instance, Viable, Says, lexeme_of, ok_says, err_says, refused_says, bind_says, bind_says_at, if_says, token_says, done_says, expect_says, consts_says, list_says, weaker}
 use Rattle.c_grammar.proofs.Instances.{number, some_number, whole_number, some_declarator}
 use Rattle.c_grammar.proofs.SoundPlain.{plain_says}
 
@@ -197,22 +197,22 @@ module _ (s : TypeNames) where
   loosen (IsDeclarator.function a l b r d xs h lk g rk) = IsDeclarator.function a l b r d xs h lk g rk
 
   module _ (rec : ℕ → Parser Expr) (dec : Naming → Parser Declarator) (sound : SoundE s rec) (sound_d : SoundD s dec) where
-    listed_of : (j : ℕ) (ts : List Lexeme) → Says (list_from (rec 2) j [] ts) ts (λ a xs. AreAssignments s a xs)
-    listed_of j ts = weaker (list_from (rec 2) j [] ts) ts _ _ (λ a ys q. subst (λ z. AreAssignments s a z) (sym q.1) q.2)
-        (listed_says (rec 2) (λ a x. IsExpr s 2 a x) (λ a xs. AreAssignments s a xs) (λ ts. sound 2 ts two_wanted) (λ a x h. AreAssignments.one a x h) (λ a t b x xs h kind g. AreAssignments.more a t b x xs h kind g) j [] ts)
+    list_of : (j : ℕ) (ts : List Lexeme) → Says (list_from (rec 2) j [] ts) ts (λ a xs. AreAssignments s a xs)
+    list_of j ts = weaker (list_from (rec 2) j [] ts) ts _ _ (λ a ys q. subst (λ z. AreAssignments s a z) (sym q.1) q.2)
+        (list_says (rec 2) (λ a x. IsExpr s 2 a x) (λ a xs. AreAssignments s a xs) (λ ts. sound 2 ts two_wanted) (λ a x h. AreAssignments.one a x h) (λ a t b x xs h kind g. AreAssignments.more a t b x xs h kind g) j [] ts)
 
     pub whole_says : (ts : List Lexeme) → Says (whole s rec dec ts) ts (λ a x. IsWhole s a x)
     unfolding whole
-    whole_says ts = bind_says_at (list_from (rec 2) (length ts) [] ts) _ ts (λ a xs. AreAssignments s a xs) _ (listed_of (length ts) ts) (λ a xs r e h.
+    whole_says ts = bind_says_at (list_from (rec 2) (length ts) [] ts) _ ts (λ a xs. AreAssignments s a xs) _ (list_of (length ts) ts) (λ a xs r e h.
         done_says (comma_of (place ts) xs) a r (λ a x. IsWhole s a x) (subst (λ at. IsWhole s a (comma_of at xs)) (sym (ap place e ∙ place-append a r (first_listed s h).0)) (IsWhole.commas a xs h)))
         (λ a xs h. ([], comma_of (place a) xs, subst (λ c. IsWhole s c (comma_of (place a) xs)) (sym (append-nil a)) (IsWhole.commas a xs h)))
 
     arguments_says : (ts : List Lexeme) → Says (arguments s rec dec ts) ts (λ a xs. (b : List Lexeme) × (r : Lexeme) × (a ≡ b ++ r ∷ []) × AreArguments s b xs × (r.kind ≡ k.Mark p.RightParen))
     unfolding arguments
-    arguments_says [] = bind_says (list_from (rec 2) 0 [] []) _ [] (λ a xs. AreAssignments s a xs) _ (listed_of 0 []) (λ a xs u h. expect_says p.RightParen _ u _ (λ r v kind. ok_says xs v _ (a, r, refl, AreArguments.some a xs h, kind)))
+    arguments_says [] = bind_says (list_from (rec 2) 0 [] []) _ [] (λ a xs. AreAssignments s a xs) _ (list_of 0 []) (λ a xs u h. expect_says p.RightParen _ u _ (λ r v kind. ok_says xs v _ (a, r, refl, AreArguments.some a xs h, kind)))
     arguments_says (t ∷ ts) = if_says (is_mark p.RightParen t.kind) (Ok ([], ts)) _ (t ∷ ts) _
         (λ yes. token_says (Ok ([], ts)) t ts _ (ok_says [] ts _ ([], t, refl, AreArguments.none, mark_is p.RightParen t.kind yes)))
-        (λ other. bind_says (list_from (rec 2) (length (t ∷ ts)) [] (t ∷ ts)) _ (t ∷ ts) (λ a xs. AreAssignments s a xs) _ (listed_of (length (t ∷ ts)) (t ∷ ts)) (λ a xs u h. expect_says p.RightParen _ u _ (λ r v kind. ok_says xs v _ (a, r, refl, AreArguments.some a xs h, kind))))
+        (λ other. bind_says (list_from (rec 2) (length (t ∷ ts)) [] (t ∷ ts)) _ (t ∷ ts) (λ a xs. AreAssignments s a xs) _ (list_of (length (t ∷ ts)) (t ∷ ts)) (λ a xs u h. expect_says p.RightParen _ u _ (λ r v kind. ok_says xs v _ (a, r, refl, AreArguments.some a xs h, kind))))
 
     type_says : (ts : List Lexeme) → Says (type_name s rec dec ts) ts (λ a ty. IsTypeName s a ty)
     unfolding type_name
@@ -230,7 +230,7 @@ module _ (s : TypeNames) where
 
     parameters_of : (j : ℕ) (ts : List Lexeme) → Says (list_from (parameter s rec dec) j [] ts) ts (λ a xs. AreSomeParameters s a xs)
     parameters_of j ts = weaker (list_from (parameter s rec dec) j [] ts) ts _ _ (λ a ys q. subst (λ z. AreSomeParameters s a z) (sym q.1) q.2)
-        (listed_says (parameter s rec dec) (λ a x. IsParameter s a x) (λ a xs. AreSomeParameters s a xs) parameter_says (λ a x h. AreSomeParameters.one_parameter a x h) (λ a t b x xs h kind g. AreSomeParameters.more_parameters a t b x xs h kind g) j [] ts)
+        (list_says (parameter s rec dec) (λ a x. IsParameter s a x) (λ a xs. AreSomeParameters s a xs) parameter_says (λ a x h. AreSomeParameters.one_parameter a x h) (λ a t b x xs h kind g. AreSomeParameters.more_parameters a t b x xs h kind g) j [] ts)
 
     parameters_says : (ts : List Lexeme) → Says (parameters s rec dec ts) ts (λ a xs. (b : List Lexeme) × (r : Lexeme) × (a ≡ b ++ r ∷ []) × AreParameters s b xs × (r.kind ≡ k.Mark p.RightParen))
     unfolding parameters
@@ -244,10 +244,10 @@ module _ (s : TypeNames) where
     lone_name : (least : ℕ) (t : Lexeme) (ts : List Lexeme) → least ≤ 17 → t.kind ≡ k.Name → is_type s t ≡ false → Says (Ok ((e.Name t.at t.spelling, 19), ts)) ts (λ b q. IsOperand s least (t ∷ b) q)
     lone_name least t ts cap kind listed = ok_says (e.Name t.at t.spelling, 19) ts _ (record { wanted = omega arith; is = IsExpr.name t (omega arith) kind listed })
 
-    named_says : (least : ℕ) (t : Lexeme) (ts : List Lexeme) → least ≤ 17 → t.kind ≡ k.Name → is_type s t ≡ false → Says (behind_name s rec dec t.at t.spelling ts) ts (λ b q. IsOperand s least (t ∷ b) q)
+    by_name_says : (least : ℕ) (t : Lexeme) (ts : List Lexeme) → least ≤ 17 → t.kind ≡ k.Name → is_type s t ≡ false → Says (behind_name s rec dec t.at t.spelling ts) ts (λ b q. IsOperand s least (t ∷ b) q)
     unfolding behind_name
-    named_says least t [] cap kind listed = lone_name least t [] cap kind listed
-    named_says least t (l ∷ ts) cap kind listed = if_says (is_mark p.LeftParen l.kind) _ _ (l ∷ ts) _
+    by_name_says least t [] cap kind listed = lone_name least t [] cap kind listed
+    by_name_says least t (l ∷ ts) cap kind listed = if_says (is_mark p.LeftParen l.kind) _ _ (l ∷ ts) _
         (λ yes. token_says _ l ts _ (bind_says (arguments s rec dec ts) _ ts _ _ (arguments_says ts) (λ a xs u q.
         let P : List Lexeme → Type 0 = λ a. Says (Ok ((e.Call t.at t.spelling xs, 19), u)) u (λ c z. IsOperand s least (t ∷ l ∷ (a ++ c)) z) in
         subst P (sym q.2) (done_says (e.Call t.at t.spelling xs, 19) (q.0 ++ q.1 ∷ []) u (λ c z. IsOperand s least (t ∷ l ∷ c) z) (record { wanted = omega arith; is = IsExpr.call {m = 19} t l q.0 q.1 xs (omega arith) kind listed (mark_is p.LeftParen l.kind yes) q.3 q.4 })))))
@@ -274,8 +274,8 @@ module _ (s : TypeNames) where
       },
     )
 
-    bracketed_says : (least : ℕ) (l : Lexeme) (ts : List Lexeme) → least ≤ 17 → l.kind ≡ k.Mark p.LeftParen → Says (bracket_operand s rec dec least l.at ts) ts (λ b q. IsOperand s least (l ∷ b) q)
-    bracketed_says least l ts cap lk = if_says (begins_type s ts) _ _ ts _
+    bracket_operand_says : (least : ℕ) (l : Lexeme) (ts : List Lexeme) → least ≤ 17 → l.kind ≡ k.Mark p.LeftParen → Says (bracket_operand s rec dec least l.at ts) ts (λ b q. IsOperand s least (l ∷ b) q)
+    bracket_operand_says least l ts cap lk = if_says (begins_type s ts) _ _ ts _
         (λ yes. if_says (ltb least 17) (cast_behind s rec dec l.at ts) (Err ts) ts _ (λ low. let h = ltb-true least 17 low in cast_says least l ts (omega arith) lk) (λ high. refused_says ts _ (some_brackets least l cap lk)))
         (λ other. brackets_says least l ts cap lk)
 
@@ -316,13 +316,13 @@ module _ (s : TypeNames) where
     some_operand least cap = (number ∷ [], (e.Number 0 [], 19), record { wanted = omega arith; is = some_number s 19 (omega arith) })
 
     operand_says : (kind : TokenKind) (least : ℕ) (t : Lexeme) (ts : List Lexeme) → least ≤ 17 → t.kind ≡ kind → Says (operand_by s rec dec least (prefix_of kind) (t ∷ ts)) (t ∷ ts) (IsOperand s least)
-    operand_says k.Name least t ts cap kind = if_says (is_type s t) (Err (t ∷ ts)) _ (t ∷ ts) _ (λ yes. refused_says (t ∷ ts) _ (some_operand least cap)) (λ other. token_says _ t ts _ (named_says least t ts cap kind other))
+    operand_says k.Name least t ts cap kind = if_says (is_type s t) (Err (t ∷ ts)) _ (t ∷ ts) _ (λ yes. refused_says (t ∷ ts) _ (some_operand least cap)) (λ other. token_says _ t ts _ (by_name_says least t ts cap kind other))
     operand_says k.Number least t ts cap kind = token_says (Ok ((e.Number t.at t.spelling, 19), ts)) t ts _ (ok_says (e.Number t.at t.spelling, 19) ts _ (record { wanted = omega arith; is = IsExpr.number {m = 19} t (omega arith) kind }))
     operand_says k.Char least t ts cap kind = token_says (Ok ((e.Character t.at t.spelling, 19), ts)) t ts _ (ok_says (e.Character t.at t.spelling, 19) ts _ (record { wanted = omega arith; is = IsExpr.character {m = 19} t (omega arith) kind }))
     operand_says k.Text least t ts cap kind = texts_operand least t ts cap kind
     operand_says (k.Word w.Sizeof) least t ts cap kind = token_says _ t ts _ (size_says least t ts cap kind)
     operand_says (k.Word _) least t ts cap kind = refused_says (t ∷ ts) _ (some_operand least cap)
-    operand_says (k.Mark p.LeftParen) least t ts cap kind = token_says _ t ts _ (bracketed_says least t ts cap kind)
+    operand_says (k.Mark p.LeftParen) least t ts cap kind = token_says _ t ts _ (bracket_operand_says least t ts cap kind)
     operand_says (k.Mark p.Increment) least t ts cap kind = step_prefix_says least t ts _ cap (ap prefix_of kind)
     operand_says (k.Mark p.Decrement) least t ts cap kind = step_prefix_says least t ts _ cap (ap prefix_of kind)
     operand_says (k.Mark p.Ampersand) least t ts cap kind = unary_says least t ts _ cap (ap prefix_of kind)
@@ -406,15 +406,15 @@ module _ (s : TypeNames) where
         subst P (sym q.2) (weaker _ u _ _ (λ c v o. subst (λ c. IsDeclarator s naming 1 c v) (append_assoc done (t ∷ q.0 ++ q.1 ∷ []) c) o) (suffixes_says naming j (done ++ (t ∷ q.0 ++ q.1 ∷ [])) (with_shape d (sh.Takes (without_void xs))) u (IsDeclarator.function done t q.0 q.1 d xs h (mark_is p.LeftParen t.kind yes) q.3 q.4))))))
         (λ none. done_says d done (t ∷ ts) (λ a z. IsDeclarator s naming 1 a z) h))
 
-    starred_says : (naming : Naming) (t : Lexeme) (ts : List Lexeme) → t.kind ≡ k.Mark p.Star → Says (pointer_declarator s rec dec naming ts) ts (λ b d. IsDeclarator s naming 0 (t ∷ b) d)
+    pointer_says : (naming : Naming) (t : Lexeme) (ts : List Lexeme) → t.kind ≡ k.Mark p.Star → Says (pointer_declarator s rec dec naming ts) ts (λ b d. IsDeclarator s naming 0 (t ∷ b) d)
     unfolding pointer_declarator
-    starred_says naming t ts kind = bind_says (consts (length ts) ts) _ ts (λ a q. AreConsts a) _ (consts_says (length ts) ts) (λ a q r c.
+    pointer_says naming t ts kind = bind_says (consts (length ts) ts) _ ts (λ a q. AreConsts a) _ (consts_says (length ts) ts) (λ a q r c.
         bind_says (dec naming r) _ r (λ b d. IsDeclarator s naming 0 b d) _ (sound_d naming r) (λ b d u h.
         done_says (with_shape d sh.Pointer) b u (λ c z. IsDeclarator s naming 0 (t ∷ (a ++ c)) z) (IsDeclarator.star t a b d (omega arith) kind c h)))
 
     group_says : (naming : Naming) (l t : Lexeme) (ts : List Lexeme) → l.kind ≡ k.Mark p.LeftParen → t.kind ≡ k.Mark p.Star → Says (group_behind s rec dec naming ts) ts (λ b d. IsDeclarator s naming 1 (l ∷ t ∷ b) d)
     unfolding group_behind
-    group_says naming l t ts lk tk = bind_says (pointer_declarator s rec dec naming ts) _ ts (λ a d. IsDeclarator s naming 0 (t ∷ a) d) _ (starred_says naming t ts tk) (λ a d u h. expect_says p.RightParen _ u _ (λ r v rk.
+    group_says naming l t ts lk tk = bind_says (pointer_declarator s rec dec naming ts) _ ts (λ a d. IsDeclarator s naming 0 (t ∷ a) d) _ (pointer_says naming t ts tk) (λ a d u h. expect_says p.RightParen _ u _ (λ r v rk.
         ok_says d v _ (IsDeclarator.group l t a r d lk tk h rk)))
 
     nameless_says : (naming : Naming) (r ts : List Lexeme) → Viable r ts (λ a d. IsDeclarator s naming 1 a d) → Says (cond (may_be_nameless naming) (Ok (nameless, ts)) (Err r)) ts (λ a d. IsDeclarator s naming 1 a d)
@@ -450,7 +450,7 @@ module _ (s : TypeNames) where
 
     shaping_says : (naming : Naming) (ts : List Lexeme) → Says (shaping s rec dec naming ts) ts (λ a d. IsDeclarator s naming 0 a d)
     shaping_says naming [] = core_suffixes naming []
-    shaping_says naming (t ∷ ts) = if_says (is_mark p.Star t.kind) _ _ (t ∷ ts) _ (λ yes. token_says _ t ts _ (starred_says naming t ts (mark_is p.Star t.kind yes))) (λ other. core_suffixes naming (t ∷ ts))
+    shaping_says naming (t ∷ ts) = if_says (is_mark p.Star t.kind) _ _ (t ∷ ts) _ (λ yes. token_says _ t ts _ (pointer_says naming t ts (mark_is p.Star t.kind yes))) (λ other. core_suffixes naming (t ∷ ts))
 
 mutual
   unfolding expr

@@ -169,9 +169,9 @@ module _ (s : TypeNames) (on : Specifier → ℕ → Parser TypeNode) (U : Lexem
   module _ (struct_says : (u : Lexeme) (r : List Lexeme) → u.kind ≡ k.Word w.Struct → Says (on c.Struct u.at r) r (λ b ty. U u b ty))
       (enum_says : (u : Lexeme) (r : List Lexeme) → u.kind ≡ k.Word w.Enum → Says (on c.Enum u.at r) r (λ b ty. U u b ty))
       (named : (u : Lexeme) (b : List Lexeme) → u.kind ≡ k.Name → is_type s u ≡ true → AreConsts b → U u b (y.Named u.spelling)) where
-    named_says : (x : WordSet) (u : Lexeme) (r : List Lexeme) → u.kind ≡ k.Name → basic_of x ≡ None → Says (named_type s (u ∷ r)) (u ∷ r) (λ a ty. From U x a ty)
+    by_name_says : (x : WordSet) (u : Lexeme) (r : List Lexeme) → u.kind ≡ k.Name → basic_of x ≡ None → Says (named_type s (u ∷ r)) (u ∷ r) (λ a ty. From U x a ty)
     unfolding named_type
-    named_says x u r e n = if_says (is_type s u) _ _ (u ∷ r) _
+    by_name_says x u r e n = if_says (is_type s u) _ _ (u ∷ r) _
         (λ yes. token_says _ u r _ (bind_says (consts (length r) r) _ r (λ a q. AreConsts a) _ (consts_says (length r) r) (λ a q v h. done_says (y.Named u.spelling) a v (λ a ty. From U x (u ∷ a) ty) (From.tail [] u a (y.Named u.spelling) n AreConsts.none (named u a e yes h)))))
         (λ other. refused_says (u ∷ r) _ (some_int x n))
 
@@ -182,7 +182,7 @@ module _ (s : TypeNames) (on : Specifier → ℕ → Parser TypeNode) (U : Lexem
     turn_says j x (c.Word word) u r e h = word_says (with_word x word) j x u r word e refl h
     turn_says j x c.Struct u r e h = stop_says x c.Struct (u ∷ r) (λ n. token_says (on c.Struct u.at r) u r _ (weaker (on c.Struct u.at r) r _ _ (λ b ty q. From.tail [] u b ty n AreConsts.none q) (struct_says u r (struct_is u.kind e))))
     turn_says j x c.Enum u r e h = stop_says x c.Enum (u ∷ r) (λ n. token_says (on c.Enum u.at r) u r _ (weaker (on c.Enum u.at r) r _ _ (λ b ty q. From.tail [] u b ty n AreConsts.none q) (enum_says u r (enum_is u.kind e))))
-    turn_says j x c.Name u r e h = stop_says x c.Name (u ∷ r) (λ n. named_says x u r (named_is u.kind e) n)
+    turn_says j x c.Name u r e h = stop_says x c.Name (u ∷ r) (λ n. by_name_says x u r (named_is u.kind e) n)
     turn_says j x c.Nothing u r e h = stop_says x c.Nothing (u ∷ r) (λ n. refused_says (u ∷ r) _ (some_int x n))
 
     pub specifier_says : (j : ℕ) (x : WordSet) (ts : List Lexeme) → Says (specifier_from s on j x ts) ts (λ a ty. From U x a ty)

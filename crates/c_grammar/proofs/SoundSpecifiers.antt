@@ -30,22 +30,22 @@ use Rattle.c_grammar.proofs.SoundExpr.{four_wanted, sound_expr, sound_declarator
 
 -- ---- declarators with their type
 
-named_says : (s : TypeNames) (naming : Naming) (ty : TypeNode) (a : List Lexeme) (o : Option DeclaredName) (shapes : List Shape) (r : List Lexeme) → may_be_nameless naming ≡ false → IsDeclarator s naming 0 a (record { name = o; shapes = shapes }) → Says (named_by ty o shapes r) r (λ b z. IsDeclared s naming ty (a ++ b) z)
-named_says s naming ty a (Some u) shapes r must h = done_says (declaration_of ty u shapes) a r (λ a z. IsDeclared s naming ty a z) (IsDeclared.of a u shapes h)
-named_says s naming ty a None shapes r must h = no_true (sym must ∙ nameless_may s h refl)
+by_name_says : (s : TypeNames) (naming : Naming) (ty : TypeNode) (a : List Lexeme) (o : Option DeclaredName) (shapes : List Shape) (r : List Lexeme) → may_be_nameless naming ≡ false → IsDeclarator s naming 0 a (record { name = o; shapes = shapes }) → Says (named_by ty o shapes r) r (λ b z. IsDeclared s naming ty (a ++ b) z)
+by_name_says s naming ty a (Some u) shapes r must h = done_says (declaration_of ty u shapes) a r (λ a z. IsDeclared s naming ty a z) (IsDeclared.of a u shapes h)
+by_name_says s naming ty a None shapes r must h = no_true (sym must ∙ nameless_may s h refl)
 
 pub declaration_says : (s : TypeNames) (n : ℕ) (naming : Naming) (ty : TypeNode) (ts : List Lexeme) → may_be_nameless naming ≡ false → Says (declaration s n naming ty ts) ts (λ a d. IsDeclared s naming ty a d)
 unfolding declaration
-declaration_says s n naming ty ts must = bind_says (declarator s n naming ts) _ ts (λ a d. IsDeclarator s naming 0 a d) _ (sound_declarator s n naming ts) (λ a d r h. named_says s naming ty a d.name d.shapes r must h)
+declaration_says s n naming ty ts must = bind_says (declarator s n naming ts) _ ts (λ a d. IsDeclarator s naming 0 a d) _ (sound_declarator s n naming ts) (λ a d r h. by_name_says s naming ty a d.name d.shapes r must h)
 
-declared_says : (s : TypeNames) (n j : ℕ) (ty : TypeNode) (found : List Declaration) (ts : List Lexeme) → Says (declarators_from s n j ty found ts) ts (λ a ys. (xs : List Declaration) × (ys ≡ found ++ xs) × AreDeclared s ty a xs)
+declarators_says : (s : TypeNames) (n j : ℕ) (ty : TypeNode) (found : List Declaration) (ts : List Lexeme) → Says (declarators_from s n j ty found ts) ts (λ a ys. (xs : List Declaration) × (ys ≡ found ++ xs) × AreDeclared s ty a xs)
 unfolding declarators_from
-declared_says s n zero ty found ts =
+declarators_says s n zero ty found ts =
     let q = some_of (declaration s n nm.Member ty []) [] (λ a d. IsDeclared s nm.Member ty a d) (declaration_says s n nm.Member ty [] refl) in
     refused_says ts _ (q.0, found ++ q.1 ∷ [], (q.1 ∷ [], refl, AreDeclared.one q.0 q.1 q.2))
-declared_says s n (suc j) ty found ts = bind_says (declaration s n nm.Member ty ts) _ ts (λ a d. IsDeclared s nm.Member ty a d) _ (declaration_says s n nm.Member ty ts refl) (λ a d r h.
+declarators_says s n (suc j) ty found ts = bind_says (declaration s n nm.Member ty ts) _ ts (λ a d. IsDeclared s nm.Member ty a d) _ (declaration_says s n nm.Member ty ts refl) (λ a d r h.
     after_says (λ a xs. AreDeclared s ty a xs) (declarators_from s n j (bare ty) (found ++ d ∷ [])) found d a r (AreDeclared.one a d h) (λ t u kind.
-    weaker (declarators_from s n j (bare ty) (found ++ d ∷ []) u) u _ _ (λ b ys q. (q.0, q.1, AreDeclared.more a t b d q.0 h kind q.2)) (declared_says s n j (bare ty) (found ++ d ∷ []) u)))
+    weaker (declarators_from s n j (bare ty) (found ++ d ∷ []) u) u _ _ (λ b ys q. (q.0, q.1, AreDeclared.more a t b d q.0 h kind q.2)) (declarators_says s n j (bare ty) (found ++ d ∷ []) u)))
 
 -- ---- lists up to a brace
 
@@ -60,23 +60,23 @@ braced_after L go found x a (t ∷ r) one last more = if_says (is_mark p.Comma t
     (λ goes. weaker (go r) r _ _ (λ b ys q. (x ∷ q.0, q.1 ∙ append_assoc found (x ∷ []) q.0, q.2)) (more t r (mark_is p.Comma t.kind yes)))))
     (λ other. done_says (found ++ x ∷ []) a (t ∷ r) (λ a ys. (xs : List _) × (ys ≡ found ++ xs) × L a xs) (x ∷ [], refl, one))
 
-pub braced_says : {A : Type 0} (item : Parser A) (R : List Lexeme → A → Type 0) (L : List Lexeme → List A → Type 0)
+pub braced_list_says : {A : Type 0} (item : Parser A) (R : List Lexeme → A → Type 0) (L : List Lexeme → List A → Type 0)
     → ((ts : List Lexeme) → Says (item ts) ts R)
     → ((a : List Lexeme) (x : A) → R a x → L a (x ∷ []))
     → ((a : List Lexeme) (t : Lexeme) (x : A) → R a x → t.kind ≡ k.Mark p.Comma → L (a ++ t ∷ []) (x ∷ []))
     → ((a : List Lexeme) (t : Lexeme) (b : List Lexeme) (x : A) (xs : List A) → R a x → t.kind ≡ k.Mark p.Comma → L b xs → L (a ++ t ∷ b) (x ∷ xs))
     → (j : ℕ) (found : List A) (ts : List Lexeme) → Says (braced_list_from item j found ts) ts (λ a ys. (xs : List A) × (ys ≡ found ++ xs) × L a xs)
 unfolding braced_list_from
-braced_says item R L h one last more zero found ts = let q = some_of (item []) [] R (h []) in refused_says ts _ (q.0, found ++ q.1 ∷ [], (q.1 ∷ [], refl, one q.0 q.1 q.2))
-braced_says item R L h one last more (suc j) found ts = bind_says (item ts) _ ts R _ (h ts) (λ a x r g.
+braced_list_says item R L h one last more zero found ts = let q = some_of (item []) [] R (h []) in refused_says ts _ (q.0, found ++ q.1 ∷ [], (q.1 ∷ [], refl, one q.0 q.1 q.2))
+braced_list_says item R L h one last more (suc j) found ts = bind_says (item ts) _ ts R _ (h ts) (λ a x r g.
     braced_after L (braced_list_from item j (found ++ x ∷ [])) found x a r (one a x g) (λ t kind. last a t x g kind) (λ t u kind.
-    weaker (braced_list_from item j (found ++ x ∷ []) u) u _ _ (λ b ys q. (q.0, q.1, more a t b x q.0 g kind q.2)) (braced_says item R L h one last more j (found ++ x ∷ []) u)))
+    weaker (braced_list_from item j (found ++ x ∷ []) u) u _ _ (λ b ys q. (q.0, q.1, more a t b x q.0 g kind q.2)) (braced_list_says item R L h one last more j (found ++ x ∷ []) u)))
 
 -- ---- enumeration constants
 
-valued_says : (s : TypeNames) (n : ℕ) (t : Lexeme) (ts : List Lexeme) → t.kind ≡ k.Name → is_type s t ≡ false → Says (constant_value s n t.at t.spelling ts) ts (λ b x. IsConstant s (t ∷ b) x)
-valued_says s n t [] kind listed = ok_says (record { at = t.at; name = t.spelling; value = None }) [] _ (IsConstant.plain t kind listed)
-valued_says s n t (u ∷ r) kind listed = if_says (is_mark p.Assign u.kind) _ _ (u ∷ r) _
+constant_value_says : (s : TypeNames) (n : ℕ) (t : Lexeme) (ts : List Lexeme) → t.kind ≡ k.Name → is_type s t ≡ false → Says (constant_value s n t.at t.spelling ts) ts (λ b x. IsConstant s (t ∷ b) x)
+constant_value_says s n t [] kind listed = ok_says (record { at = t.at; name = t.spelling; value = None }) [] _ (IsConstant.plain t kind listed)
+constant_value_says s n t (u ∷ r) kind listed = if_says (is_mark p.Assign u.kind) _ _ (u ∷ r) _
     (λ yes. token_says _ u r _ (bind_says (expr s n 4 r) _ r (λ a x. IsExpr s 4 a x) _ (sound_expr s n 4 r four_wanted) (λ a x v h.
     done_says (record { at = t.at; name = t.spelling; value = Some x }) a v (λ b z. IsConstant s (t ∷ u ∷ b) z) (IsConstant.with_value t u a x kind listed (mark_is p.Assign u.kind yes) h))))
     (λ other. ok_says (record { at = t.at; name = t.spelling; value = None }) (u ∷ r) _ (IsConstant.plain t kind listed))
@@ -88,7 +88,7 @@ constant_says : (s : TypeNames) (n : ℕ) (ts : List Lexeme) → Says (constant 
 unfolding constant
 constant_says s n [] = refused_says [] _ (some_constant s)
 constant_says s n (t ∷ r) = if_says (is_name t.kind) _ _ (t ∷ r) _
-    (λ yes. if_says (is_type s t) (Err (t ∷ r)) _ (t ∷ r) _ (λ type. refused_says (t ∷ r) _ (some_constant s)) (λ listed. token_says _ t r _ (valued_says s n t r (name_is t.kind yes) listed)))
+    (λ yes. if_says (is_type s t) (Err (t ∷ r)) _ (t ∷ r) _ (λ type. refused_says (t ∷ r) _ (some_constant s)) (λ listed. token_says _ t r _ (constant_value_says s n t r (name_is t.kind yes) listed)))
     (λ other. refused_says (t ∷ r) _ (some_constant s))
 
 -- ---- specifiers
@@ -113,7 +113,7 @@ module _ (s : TypeNames) (n : ℕ) (spec : Parser TypeNode) (sound : (ts : List 
   pub member_says : (ts : List Lexeme) → Says (member s n spec ts) ts (λ a ds. IsMember s a ds)
   unfolding member
   member_says ts = bind_says (spec ts) _ ts (λ a ty. IsSpecifier s a ty) _ (sound ts) (λ a ty r h.
-      bind_says (declarators_from s n (length r) ty [] r) _ r _ _ (declared_says s n (length r) ty [] r) (λ b ds u q. expect_says p.Semicolon _ u _ (λ t v kind.
+      bind_says (declarators_from s n (length r) ty [] r) _ r _ _ (declarators_says s n (length r) ty [] r) (λ b ds u q. expect_says p.Semicolon _ u _ (λ t v kind.
       ok_says ds v _ (subst (λ z. IsMember s (a ++ (b ++ t ∷ [])) z) (sym q.1) (IsMember.member a b t ty q.0 h q.2 kind)))))
 
   members_says : (j : ℕ) (found : List Declaration) (ts : List Lexeme) → Says (members_from s n spec j found ts) ts (λ a ys. (xs : List Declaration) × (ys ≡ found ++ xs) × AreMembers s a xs)
@@ -132,7 +132,7 @@ module _ (s : TypeNames) (n : ℕ) (spec : Parser TypeNode) (sound : (ts : List 
   enum_says : (u : Lexeme) (b : List Lexeme) (at : ℕ) (name : Option (List ℕ)) (ts : List Lexeme) → u.kind ≡ k.Word w.Enum → IsTag u b at name → Says (braces s n spec c.Enum at name ts) ts (λ e ty. IsBraced s u (b ++ e) ty)
   unfolding braces
   enum_says u b at name ts kind g = expect_says p.LeftBrace _ ts _ (λ l r lk. bind_says (braced_list_from (constant s n) (length r) [] r) _ r _ _
-      (braced_says (constant s n) (λ a x. IsConstant s a x) (λ a xs. AreConstants s a xs) (constant_says s n) (λ a x h. AreConstants.one a x h) (λ a t x h kind. AreConstants.last a t x h kind) (λ a t b x xs h kind g. AreConstants.more a t b x xs h kind g) (length r) [] r) (λ e xs v q. expect_says p.RightBrace _ v _ (λ r' v' rk.
+      (braced_list_says (constant s n) (λ a x. IsConstant s a x) (λ a xs. AreConstants s a xs) (constant_says s n) (λ a x h. AreConstants.one a x h) (λ a t x h kind. AreConstants.last a t x h kind) (λ a t b x xs h kind g. AreConstants.more a t b x xs h kind g) (length r) [] r) (λ e xs v q. expect_says p.RightBrace _ v _ (λ r' v' rk.
       bind_says (consts (length v') v') _ v' (λ a q. AreConsts a) _ (consts_says (length v') v') (λ d x z o.
       done_says (y.Enum at name (Some xs)) d z (λ d ty. IsBraced s u (b ++ (l ∷ (e ++ (r' ∷ d)))) ty) (subst (λ m. IsBraced s u (b ++ (l ∷ (e ++ (r' ∷ d)))) (y.Enum at name (Some m))) (sym q.1) (IsBraced.enum b l e r' d at name q.0 kind g lk q.2 rk o))))))
 

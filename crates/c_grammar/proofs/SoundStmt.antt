@@ -26,7 +26,7 @@ use Rattle.c_grammar.specs.ParseExpr.{plain, list_from, expr, declarator}
 use Rattle.c_grammar.specs.ParseSpecifiers.{declaration}
 use Rattle.c_grammar.specs.ParseStatements.{expression, local_by, local, line, optional, condition, first_value, first, case_label, label, items_from, ends_section, stmts_from, section, sections_from, alternative, if_else, while, do_while, for, switch, return, value, stmt_by, stmt}
 use Rattle.c_grammar.proofs.Outcomes.{mark_is, word_is}
-use Rattle.c_grammar.proofs.Says.{Instance, Says, lexeme_of, ok_says, refused_says, bind_says, if_says, token_says, done_says, expect_says, expect_word_first, listed_says, weaker}
+use Rattle.c_grammar.proofs.Says.{Instance, Says, lexeme_of, ok_says, refused_says, bind_says, if_says, token_says, done_says, expect_says, expect_word_first, list_says, weaker}
 use Rattle.c_grammar.proofs.SaysRest.{SaysR, ok_r, refused_r, bind_r, then_r, drop, weaker_r, if_r, token_r, done_r, expect_r, expect_word_r}
 use Rattle.c_grammar.proofs.SoundPlain.{plain_says}
 use Rattle.c_grammar.proofs.SoundExpr.{four_wanted, two_wanted, sound_expr, sound_declarator, whole_says}
@@ -52,7 +52,7 @@ module _ (s : TypeNames) (n : ℕ) where
   pub line_says : (ts : List Lexeme) → Says (line s n ts) ts (λ a vs. IsLine s a vs)
   unfolding line
   line_says ts = bind_says (plain s ts) _ ts (λ a ty. IsPlain s a ty) _ (plain_says s ts) (λ a ty r h.
-      bind_says (list_from (local s n ty) (length r) [] r) _ r _ _ (listed_says (local s n ty) (λ a v. IsLocal s ty a v) (λ a vs. AreLocals s ty a vs) (local_says ty) (λ a v g. AreLocals.one a v g) (λ a t b v vs g kind o. AreLocals.more a t b v vs g kind o) (length r) [] r) (λ b vs z q.
+      bind_says (list_from (local s n ty) (length r) [] r) _ r _ _ (list_says (local s n ty) (λ a v. IsLocal s ty a v) (λ a vs. AreLocals s ty a vs) (local_says ty) (λ a v g. AreLocals.one a v g) (λ a t b v vs g kind o. AreLocals.more a t b v vs g kind o) (length r) [] r) (λ b vs z q.
       expect_says p.Semicolon _ z _ (λ t r' kind. ok_says vs r' _ (subst (λ w'. IsLine s (a ++ (b ++ t ∷ [])) w') (sym q.1) (IsLine.line a b t ty q.0 h q.2 kind)))))
 
   optional_says : (m : Punct) (ts : List Lexeme) → Says (optional s n m ts) ts (λ a v. IsOptional s a v)
@@ -211,19 +211,19 @@ module _ (s : TypeNames) (n : ℕ) (rec : Parser Stmt) (sound : SoundS s rec) wh
   Made a v r = IsStmt s (else_at r) a v
 
   -- the tokens of a condition and a statement
-  grouped : (t l : Lexeme) (a : List Lexeme) (r : Lexeme) (b : List Lexeme) → t ∷ ((l ∷ a ++ r ∷ []) ++ b) ≡ (t ∷ l ∷ a) ++ (r ∷ b)
-  grouped t l a r b = ap (λ z. t ∷ l ∷ z) (append_assoc a (r ∷ []) b)
+  group_tokens : (t l : Lexeme) (a : List Lexeme) (r : Lexeme) (b : List Lexeme) → t ∷ ((l ∷ a ++ r ∷ []) ++ b) ≡ (t ∷ l ∷ a) ++ (r ∷ b)
+  group_tokens t l a r b = ap (λ z. t ∷ l ∷ z) (append_assoc a (r ∷ []) b)
 
   short_of : (t : Lexeme) (a b : List Lexeme) (v : Expr) (z : Stmt) (r : List Lexeme) → t.kind ≡ k.Word w.If → InBrackets s n a v → IsStmt s (else_at r) b z → is_word w.Else (kind_at r) ≡ false → IsStmt s (else_at r) (t ∷ (a ++ b)) (u.If v z None)
   short_of t a b v z r kind h g e =
       let low : else_at r ≡ 0 = ap (λ b. cond b 1 0) e in
       let f : IsStmt s 0 ((t ∷ h.left ∷ h.inner) ++ (h.right ∷ b)) (u.If v z None) = IsStmt.if_only t h.left h.inner h.right b v z (omega arith) kind h.open_is h.is h.close_is (subst (λ m. IsStmt s m b z) low g) in
-      subst (λ m. IsStmt s m (t ∷ (a ++ b)) (u.If v z None)) (sym low) (subst (λ c. IsStmt s 0 c (u.If v z None)) (sym (ap (λ c. t ∷ (c ++ b)) h.whole_is ∙ grouped t h.left h.inner h.right b)) f)
+      subst (λ m. IsStmt s m (t ∷ (a ++ b)) (u.If v z None)) (sym low) (subst (λ c. IsStmt s 0 c (u.If v z None)) (sym (ap (λ c. t ∷ (c ++ b)) h.whole_is ∙ group_tokens t h.left h.inner h.right b)) f)
 
   long_of : (t : Lexeme) (a b : List Lexeme) (o : Lexeme) (c : List Lexeme) (v : Expr) (z q : Stmt) (y : List Lexeme) → t.kind ≡ k.Word w.If → InBrackets s n a v → IsStmt s 1 b z → o.kind ≡ k.Word w.Else → IsStmt s (else_at y) c q → IsStmt s (else_at y) (t ∷ (a ++ (b ++ (o ∷ c)))) (u.If v z (Some q))
   long_of t a b o c v z q y kind h g ok j =
       let f : IsStmt s (else_at y) ((t ∷ h.left ∷ h.inner) ++ ((h.right ∷ b) ++ (o ∷ c))) (u.If v z (Some q)) = IsStmt.if_else t h.left h.inner h.right b o c v z q kind h.open_is h.is h.close_is g ok j in
-      subst (λ d. IsStmt s (else_at y) d (u.If v z (Some q))) (sym (ap (λ d. t ∷ (d ++ (b ++ (o ∷ c)))) h.whole_is ∙ grouped t h.left h.inner h.right (b ++ (o ∷ c)))) f
+      subst (λ d. IsStmt s (else_at y) d (u.If v z (Some q))) (sym (ap (λ d. t ∷ (d ++ (b ++ (o ∷ c)))) h.whole_is ∙ group_tokens t h.left h.inner h.right (b ++ (o ∷ c)))) f
 
   alternative_says : (t : Lexeme) (a b : List Lexeme) (v : Expr) (z : Stmt) (r : List Lexeme) → t.kind ≡ k.Word w.If → InBrackets s n a v → IsStmt s (else_at r) b z → SaysR (alternative s n rec v z r) r (λ c q y. IsStmt s (else_at y) (t ∷ (a ++ (b ++ c))) q)
   unfolding alternative
@@ -240,7 +240,7 @@ module _ (s : TypeNames) (n : ℕ) (rec : Parser Stmt) (sound : SoundS s rec) wh
   while_says : (t : Lexeme) (ts : List Lexeme) → t.kind ≡ k.Word w.While → SaysR (while s n rec ts) ts (λ a v r. Made (t ∷ a) v r)
   unfolding while
   while_says t ts kind = then_r (condition s n ts) _ ts (InBrackets s n) _ (condition_says s n ts) (λ a v r h. bind_r (rec r) _ r Made _ (sound r) (λ b z y g.
-      done_r (u.While v z) b y (λ b q y. Made (t ∷ (a ++ b)) q y) (subst (λ c. IsStmt s (else_at y) c (u.While v z)) (sym (ap (λ c. t ∷ (c ++ b)) h.whole_is ∙ grouped t h.left h.inner h.right b)) (IsStmt.while t h.left h.inner h.right b v z kind h.open_is h.is h.close_is g))))
+      done_r (u.While v z) b y (λ b q y. Made (t ∷ (a ++ b)) q y) (subst (λ c. IsStmt s (else_at y) c (u.While v z)) (sym (ap (λ c. t ∷ (c ++ b)) h.whole_is ∙ group_tokens t h.left h.inner h.right b)) (IsStmt.while t h.left h.inner h.right b v z kind h.open_is h.is h.close_is g))))
 
   do_while_says : (t : Lexeme) (ts : List Lexeme) → t.kind ≡ k.Word w.Do → SaysR (do_while s n rec ts) ts (λ a v r. Made (t ∷ a) v r)
   unfolding do_while
@@ -257,7 +257,7 @@ module _ (s : TypeNames) (n : ℕ) (rec : Parser Stmt) (sound : SoundS s rec) wh
   unfolding switch
   switch_says t ts kind = then_r (condition s n ts) _ ts (InBrackets s n) _ (condition_says s n ts) (λ a v r h. expect_r p.LeftBrace _ r _ (λ o y ok. then_r (sections_from s n rec (length y) [] y) _ y _ _ (sections_says (length y) [] y) (λ b vs i q.
       let c = q.2 in
-      done_r (u.Switch v vs) b i (λ b w' i. Made (t ∷ (a ++ (o ∷ b))) w' i) (subst (λ d. IsStmt s (else_at i) (t ∷ (a ++ (o ∷ b))) (u.Switch v d)) (sym q.1) (subst (λ d. IsStmt s (else_at i) d (u.Switch v q.0)) (sym (ap (λ d. t ∷ (a ++ (o ∷ d))) c.all_is ∙ ap (λ d. t ∷ (d ++ (o ∷ (c.inner ++ c.close ∷ [])))) h.whole_is ∙ grouped t h.left h.inner h.right (o ∷ (c.inner ++ c.close ∷ []))))
+      done_r (u.Switch v vs) b i (λ b w' i. Made (t ∷ (a ++ (o ∷ b))) w' i) (subst (λ d. IsStmt s (else_at i) (t ∷ (a ++ (o ∷ b))) (u.Switch v d)) (sym q.1) (subst (λ d. IsStmt s (else_at i) d (u.Switch v q.0)) (sym (ap (λ d. t ∷ (a ++ (o ∷ d))) c.all_is ∙ ap (λ d. t ∷ (d ++ (o ∷ (c.inner ++ c.close ∷ [])))) h.whole_is ∙ group_tokens t h.left h.inner h.right (o ∷ (c.inner ++ c.close ∷ []))))
       (IsStmt.switch t h.left h.inner h.right o c.inner c.close v q.0 kind h.open_is h.is h.close_is ok c.are c.close_is))))))
 
   return_says : (t : Lexeme) (ts : List Lexeme) → t.kind ≡ k.Word w.Return → SaysR (return s n t.at ts) ts (λ a v r. Made (t ∷ a) v r)

@@ -38,7 +38,7 @@ use Rattle.c_grammar.proofs.Outcomes.{no_true, mark_is}
 use Rattle.c_grammar.proofs.Says.{Viable, Says, some_of, ok_says, refused_says, bind_says, if_says, token_says, done_says, expect_says, after_says, weaker}
 use Rattle.c_grammar.proofs.Instances.{number, some_number, a_name, a_name_is, no_type_name, nameless_may}
 use Rattle.c_grammar.proofs.SoundExpr.{two_wanted, sound_expr, sound_declarator}
-use Rattle.c_grammar.proofs.SoundSpecifiers.{declaration_says, braced_says, sound_specifier}
+use Rattle.c_grammar.proofs.SoundSpecifiers.{declaration_says, braced_list_says, sound_specifier}
 use Rattle.c_grammar.proofs.SoundStmt.{items_says, sound_stmt}
 use Rattle.c_grammar.proofs.ReadUnits.{complete, external_some}
 
@@ -50,7 +50,7 @@ init_value_says s n rec ts = bind_says (expr s n 2 ts) _ ts (λ a v. IsExpr s 2 
 
 init_list_says : (s : TypeNames) (n : ℕ) (rec : Parser Init) (l : Lexeme) (ts : List Lexeme) → ((ts : List Lexeme) → Says (rec ts) ts (λ a v. IsInit s a v)) → l.kind ≡ k.Mark p.LeftBrace → Says (init_list s n rec l.at ts) ts (λ a v. IsInit s (l ∷ a) v)
 unfolding init_list
-init_list_says s n rec l ts h lk = bind_says (braced_list_from rec (length ts) [] ts) _ ts _ _ (braced_says rec (λ a v. IsInit s a v) (λ a vs. AreInits s a vs) h (λ a v g. AreInits.one a v g) (λ a t v g kind. AreInits.last a t v g kind) (λ a t b v vs g kind o. AreInits.more a t b v vs g kind o) (length ts) [] ts) (λ a vs r q.
+init_list_says s n rec l ts h lk = bind_says (braced_list_from rec (length ts) [] ts) _ ts _ _ (braced_list_says rec (λ a v. IsInit s a v) (λ a vs. AreInits s a vs) h (λ a v g. AreInits.one a v g) (λ a t v g kind. AreInits.last a t v g kind) (λ a t b v vs g kind o. AreInits.more a t b v vs g kind o) (length ts) [] ts) (λ a vs r q.
     expect_says p.RightBrace _ r _ (λ r' u rk. ok_says (i.List l.at vs) u _ (subst (λ z. IsInit s (l ∷ (a ++ r' ∷ [])) (i.List l.at z)) (sym q.1) (IsInit.list l a r' q.0 lk q.2 rk))))
 
 sound_init : (s : TypeNames) (n : ℕ) (ts : List Lexeme) → Says (init s n ts) ts (λ a v. IsInit s a v)
@@ -98,9 +98,9 @@ module _ (s : TypeNames) (n : ℕ) (storage : Option Storage) where
       done_says (external_of (is_function shapes) (declaration_of ty u shapes) storage (Some v)) b z (λ b w'. IsObject s storage ty (a ++ t ∷ b) w') (IsObject.with_init a t b u shapes v h (mark_is p.Assign t.kind yes) g))))
       (λ other. done_says (external_of (is_function shapes) (declaration_of ty u shapes) storage None) a (t ∷ r) (λ a v. IsObject s storage ty a v) (IsObject.plain a u shapes h))
 
-  named_says : (ty : TypeNode) (o' : Option DeclaredName) (shapes : List Shape) (a r : List Lexeme) → IsDeclarator s nm.Required 0 a (record { name = o'; shapes = shapes }) → Says (object_named s n storage ty o' shapes r) r (λ b v. IsObject s storage ty (a ++ b) v)
-  named_says ty (Some u) shapes a r h = object_says ty u shapes a r h
-  named_says ty None shapes a r h = no_true (nameless_may s h refl)
+  by_name_says : (ty : TypeNode) (o' : Option DeclaredName) (shapes : List Shape) (a r : List Lexeme) → IsDeclarator s nm.Required 0 a (record { name = o'; shapes = shapes }) → Says (object_named s n storage ty o' shapes r) r (λ b v. IsObject s storage ty (a ++ b) v)
+  by_name_says ty (Some u) shapes a r h = object_says ty u shapes a r h
+  by_name_says ty None shapes a r h = no_true (nameless_may s h refl)
 
   objects_says : (j : ℕ) (ty : TypeNode) (found : List External) (ts : List Lexeme) → Says (objects_from s n storage j ty found ts) ts (λ a zs. (vs : List External) × (zs ≡ found ++ vs) × AreObjects s storage ty a vs)
   unfolding objects_from
@@ -109,7 +109,7 @@ module _ (s : TypeNames) (n : ℕ) (storage : Option Storage) where
       let v : External = external_of false (declaration_of ty u []) storage None in
       refused_says ts _ (a_name s ∷ [], found ++ v ∷ [], (v ∷ [], refl, AreObjects.one (a_name s ∷ []) v (IsObject.plain (a_name s ∷ []) u [] (IsDeclarator.own_name (a_name s) (a_name_is s) (ap not (no_type_name s))))))
   objects_says (suc j) ty found ts = bind_says (declarator s n nm.Required ts) _ ts (λ a d. IsDeclarator s nm.Required 0 a d) _ (sound_declarator s n nm.Required ts) (λ a d r h.
-      bind_says (object_named s n storage ty d.name d.shapes r) _ r (λ b v. IsObject s storage ty (a ++ b) v) _ (named_says ty d.name d.shapes a r h) (λ b v z g.
+      bind_says (object_named s n storage ty d.name d.shapes r) _ r (λ b v. IsObject s storage ty (a ++ b) v) _ (by_name_says ty d.name d.shapes a r h) (λ b v z g.
       weaker _ z _ _ (λ c zs q. subst (λ y. (vs : List External) × (zs ≡ found ++ vs) × AreObjects s storage ty y vs) (append_assoc a b c) q)
       (after_says (λ a vs. AreObjects s storage ty a vs) (objects_from s n storage j (bare ty) (found ++ v ∷ [])) found v (a ++ b) z (AreObjects.one (a ++ b) v g) (λ t u kind.
       weaker (objects_from s n storage j (bare ty) (found ++ v ∷ []) u) u _ _ (λ c zs q. (q.0, q.1, AreObjects.more (a ++ b) t c v q.0 g kind q.2)) (objects_says j (bare ty) (found ++ v ∷ []) u)))))
@@ -140,13 +140,13 @@ module _ (s : TypeNames) (n : ℕ) (storage : Option Storage) where
       (λ other. rest_says ty u d.shapes a (l ∷ r) h)
   first_says ty d None a r h = no_true (nameless_may s h refl)
 
-  declared_says : (ty : TypeNode) (ts : List Lexeme) → Says (and_then (declarator s n nm.Required ts) (λ d. objects_by s n storage ty d d.name)) ts (λ a vs. IsBehind s storage ty a vs)
-  declared_says ty ts = bind_says (declarator s n nm.Required ts) _ ts (λ a d. IsDeclarator s nm.Required 0 a d) _ (sound_declarator s n nm.Required ts) (λ a d r h. first_says ty d d.name a r h)
+  declarators_says : (ty : TypeNode) (ts : List Lexeme) → Says (and_then (declarator s n nm.Required ts) (λ d. objects_by s n storage ty d d.name)) ts (λ a vs. IsBehind s storage ty a vs)
+  declarators_says ty ts = bind_says (declarator s n nm.Required ts) _ ts (λ a d. IsDeclarator s nm.Required 0 a d) _ (sound_declarator s n nm.Required ts) (λ a d r h. first_says ty d d.name a r h)
 
   behind_says : (ty : TypeNode) (ts : List Lexeme) → Says (behind_type s n storage ty ts) ts (λ a vs. IsBehind s storage ty a vs)
   unfolding behind_type
-  behind_says ty [] = declared_says ty []
-  behind_says ty (t ∷ r) = if_says (is_mark p.Semicolon t.kind) (Ok (x.Tags storage ty ∷ [], r)) _ (t ∷ r) _ (λ yes. token_says (Ok (x.Tags storage ty ∷ [], r)) t r _ (ok_says (x.Tags storage ty ∷ []) r _ (IsBehind.tags t (mark_is p.Semicolon t.kind yes)))) (λ other. declared_says ty (t ∷ r))
+  behind_says ty [] = declarators_says ty []
+  behind_says ty (t ∷ r) = if_says (is_mark p.Semicolon t.kind) (Ok (x.Tags storage ty ∷ [], r)) _ (t ∷ r) _ (λ yes. token_says (Ok (x.Tags storage ty ∷ [], r)) t r _ (ok_says (x.Tags storage ty ∷ []) r _ (IsBehind.tags t (mark_is p.Semicolon t.kind yes)))) (λ other. declarators_says ty (t ∷ r))
 
   external_behind : {ty : TypeNode} {a b c : List Lexeme} {vs : List External} → IsStorage a storage → IsSpecifier s b ty → IsBehind s storage ty c vs → IsExternal s (a ++ (b ++ c)) vs s
   external_behind {ty} {a} {b} h g (IsBehind.tags r kind) = IsExternal.tags a b r storage ty h g kind

@@ -12,22 +12,26 @@ ghost use Rattle.c_grammar.specs.Refused.{RefusedFrom};
 ghost use Rattle.c_grammar.specs.ParseUnits.{unit};
 
 /// A list of tokens has at most one reading.
+#[tactic(auto, using(crate::proofs::SoundUnits::one_reading))]
 pub fn one_reading()
     ensures { (toks : Toks) (x y : TranslationUnit) → Reads toks x → Reads toks y → x ≡ y }
 {}
 
 /// The function `unit` of lists, which looks one token ahead, gives exactly the readings of the grammar.
+#[tactic(auto, using(crate::proofs::ReadUnits::complete, crate::proofs::SoundUnits::sound))]
 pub fn unit_is_exact()
     ensures complete { (toks : Toks) (x : TranslationUnit) → Reads toks x → unit toks ≡ Ok x }
     ensures sound { (toks : Toks) (x : TranslationUnit) → unit toks ≡ Ok x → Reads toks x }
 {}
 
 /// The tree of a reading has at most two nodes for each token.
+#[tactic(auto, using(crate::proofs::FewUnits::unit_few))]
 pub fn nodes_are_few()
     ensures { (toks : Toks) (x : TranslationUnit) → Reads toks x → unit_nodes x ≤ 2 * length toks.items }
 {}
 
 /// What the function `unit` refuses are the last of the tokens, from the refused one on.
+#[tactic(auto, using(crate::proofs::SoundUnits::refused_end))]
 pub fn refused_tokens_are_the_last()
     ensures { (toks : Toks) (rest : List Lexeme) → unit toks ≡ Err rest → IsEnd rest toks.items }
 {}
