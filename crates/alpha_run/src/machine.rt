@@ -93,7 +93,7 @@ impl Machine {
         })
     }
 
-    /// IsMachineOf at most `budget` steps. A machine whose program came to its end answers that end again.
+    /// Runs at most `budget` steps. A machine whose program came to its end answers that end again.
     ///
     /// `Budget` comes exactly where the machine still runs after so many steps. The input is asked once for
     /// each byte that a step takes, the one that failed included, and at no other time.
