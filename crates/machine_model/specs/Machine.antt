@@ -77,7 +77,12 @@ module _ (V S : Type 0) (rooms : Rooms) (c : Code V S) where
   abbrev pub act_on : Config S → Meter → Site V S → Act V → Next S
   act_on k m s (Writes vs o) = Goes (record { here = frame_after s vs k.here; callers = k.callers; world = world_of o m })
   act_on k m s (Jumps target o) = jump_to k (world_of o m) s (slice_get s.targets target)
-  act_on k m s (Calls function vs o) = Goes (record { here = entry_frame function vs o; callers = k.here ∷ k.callers; world = world_of (begin_locals o (c.locals function)) (enter_call rooms function m) })
+  act_on k m s (Calls function vs o) =
+      Goes (record {
+        here = entry_frame function vs o;
+        callers = k.here ∷ k.callers;
+        world = world_of (begin_locals o (c.locals function)) (enter_call rooms function m);
+      })
   act_on k m s (Returns vs o) =
       return_to (c.number k.here.point) vs
       (world_of (end_locals o k.here.own (length (c.locals k.here.point.function))) (leave_call rooms k.here.point.function m)) k.callers
@@ -107,4 +112,8 @@ exec V S rooms c (suc n) k = go_on (step V S rooms c k) (exec V S rooms c n)
 -- the start of a function without arguments
 abbrev pub start : (V S : Type 0) → Rooms → Code V S → (function : ℕ) → World → Config S
 start V S rooms c function w =
-    record { here = entry_frame V S rooms c function [] w.outer; callers = []; world = world_of (begin_locals w.outer (c.locals function)) (enter_call rooms function w.meter) }
+    record {
+      here = entry_frame V S rooms c function [] w.outer;
+      callers = [];
+      world = world_of (begin_locals w.outer (c.locals function)) (enter_call rooms function w.meter);
+    }

@@ -11,7 +11,8 @@ use Rattle.mem_model.specs.Pointers.{ptr_plus}
 
 -- a range of so many bytes shares none with another one
 abbrev pub Apart : Ptr → (size : ℕ) → Ptr → (other : ℕ) → Type 0
-Apart p size q other = (p.object ≢ q.object) ⊎ (place_of p.offset + size ≤ place_of q.offset) ⊎ (place_of q.offset + other ≤ place_of p.offset)
+Apart p size q other =
+    (p.object ≢ q.object) ⊎ (place_of p.offset + size ≤ place_of q.offset) ⊎ (place_of q.offset + other ≤ place_of p.offset)
 
 -- one object has other cells, as many as before; all else is as before, and each object keeps its number
 pub record ChangesCells (old new : Memory) (id : ℕ) : Type 0 where
@@ -58,10 +59,12 @@ StorePuts =
     store_at m p width v ≡ Ok new → IsPut m new p width (cells_of width v)
 
 abbrev pub CopyPuts : Type 0
-CopyPuts = (m new : Memory) (to from : Ptr) (size align : ℕ) → copy_at m to from size align ≡ Ok new → IsPut m new to size (row_at m from size)
+CopyPuts =
+    (m new : Memory) (to from : Ptr) (size align : ℕ) → copy_at m to from size align ≡ Ok new → IsPut m new to size (row_at m from size)
 
 abbrev pub InitPuts : Type 0
-InitPuts = (m new : Memory) (p : Ptr) (values : List Value) → init_at m p values ≡ Ok new → IsPut m new p (length values) (map byte_of values)
+InitPuts =
+    (m new : Memory) (p : Ptr) (values : List Value) → init_at m p values ≡ Ok new → IsPut m new p (length values) (map byte_of values)
 
 -- where one object has other cells, each access has the fault that it had
 pub record SameFaults (old new : Memory) : Type 0 where
@@ -78,7 +81,8 @@ pub record IsLoad (m : Memory) (p : Ptr) (width : ℕ) (pointer : Bool) (v : Val
   pub value : value_or_fault pointer (row_at m p width) ≡ Ok v
 
 abbrev pub LoadTells : Type 0
-LoadTells = (m : Memory) (p : Ptr) (width : ℕ) (pointer : Bool) (v : Value) → load_at m p width pointer ≡ Ok v → IsLoad m p width pointer v
+LoadTells =
+    (m : Memory) (p : Ptr) (width : ℕ) (pointer : Bool) (v : Value) → load_at m p width pointer ≡ Ok v → IsLoad m p width pointer v
 
 -- a number that was stored is loaded as what its width holds of it
 abbrev pub LoadsNumber : Type 0

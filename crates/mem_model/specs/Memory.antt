@@ -91,7 +91,8 @@ abbrev pub range_fault : Memory → Ptr → (size : ℕ) → Option MemFault
 range_fault m p size = first_fault ((is_gone m p, NoObject) ∷ (is_outside m p size, Outside) ∷ [])
 
 abbrev pub read_fault : Memory → Ptr → (size align : ℕ) → Option MemFault
-read_fault m p size align = first_fault ((is_gone m p, NoObject) ∷ (is_outside m p size, Outside) ∷ (is_misaligned p align, Misaligned) ∷ [])
+read_fault m p size align =
+    first_fault ((is_gone m p, NoObject) ∷ (is_outside m p size, Outside) ∷ (is_misaligned p align, Misaligned) ∷ [])
 
 abbrev pub write_fault : Memory → Ptr → (size align : ℕ) → Option MemFault
 write_fault m p size align =
@@ -113,7 +114,8 @@ row_at m p size = take size (drop (place_of p.offset) (object_at m p.object).cel
 
 -- the memory with a row of cells put there
 abbrev pub put_row : Memory → Ptr → List Cell → Memory
-put_row m p row = slice_set m p.object (record (object_at m p.object) { cells = with_row (object_at m p.object).cells (place_of p.offset) row })
+put_row m p row =
+    slice_set m p.object (record (object_at m p.object) { cells = with_row (object_at m p.object).cells (place_of p.offset) row })
 
 -- a fault, where there is one, and else what is answered
 abbrev pub unless : {A : Type 0} → Option MemFault → Result A MemFault → Result A MemFault

@@ -63,7 +63,8 @@ is_null m Unset = None
 
 -- `==` (C99 6.5.9). Of pointers to two objects none may stand at its object's end, where the other may begin
 abbrev pub addresses_eq : Memory → (p q : Ptr) → Option Bool
-addresses_eq m p q = if p.object == q.object then Some (int_eq p.offset q.offset) else when (not (is_at_end m p || is_at_end m q)) false
+addresses_eq m p q =
+    if p.object == q.object then Some (int_eq p.offset q.offset) else when (not (is_at_end m p || is_at_end m q)) false
 
 abbrev pub pointer_eq : Memory → Value → Value → Option Bool
 pointer_eq m (Address p) (Address q) = if is_live m p && is_live m q then addresses_eq m p q else None

@@ -42,7 +42,8 @@ pub fn loads_tell()
     ensures { LoadTells }
 {}
 
-/// Where one object has other cells, each access has the fault that it had, and the operators on pointers answer the same.
+/// Where one object has other cells, each access has the fault that it had, and the operators on pointers
+/// answer the same.
 pub fn changes_keep_faults()
     ensures faults { ChangesKeepFaults }
     ensures pointers { ChangesKeepPointers }

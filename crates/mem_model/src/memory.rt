@@ -162,7 +162,8 @@ fn copy_across(
     requires source { from + size ≤ length (object_in source.now).cells }
     requires fits_to { to + size < 2 ^ 64 }
     requires fits_from { from + size < 2 ^ 64 }
-    ensures { object_in target.new ≡ with_row_in (object_in target.old) to (take size (drop from (object_in source.now).cells)) }
+    ensures { object_in target.new
+        ≡ with_row_in (object_in target.old) to (take size (drop from (object_in source.now).cells)) }
 {
     match (target, source) {
         (Some(object), Some(other)) => copy_from(&mut object.cells, to, &other.cells, from, size),

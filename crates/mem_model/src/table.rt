@@ -39,7 +39,8 @@ impl Model for Table {
 
     ghost view = { λ t. table_of t.ranks.items t.pointers.items };
 
-    ghost invariant = { λ t. IsTable t.ranks.items t.pointers.items × (length t.pointers.items + 8 * free_blocks t.ranks.items ≤ vec_capacity t.pointers) };
+    ghost invariant = { λ t. IsTable t.ranks.items t.pointers.items
+        × (length t.pointers.items + 8 * free_blocks t.ranks.items ≤ vec_capacity t.pointers) };
 }
 
 /// Puts a block into use, where it is not yet.
