@@ -1,3 +1,4 @@
 pub mod Code
+pub mod Example
 pub mod Laws
 pub mod Machine

@@ -1,6 +1,10 @@
 //! Laws of runs, each the contract of a function that does nothing. They hold for all types of values and of what
 //! keeps them.
 
+ghost use Rattle.std.specs.Prelude.{◌≡◌};
+ghost use Rattle.mem_model.specs.Ending.{Done};
+ghost use Rattle.machine_model.specs.Machine.{Over};
+ghost use Rattle.machine_model.specs.Example.{run, last_world};
 ghost use Rattle.machine_model.specs.Laws.{StepsKeepEndings, OneEnding, TurnsKeepEndings, PeakRises, OutputGrows, TurnsExtendOutput};
 
 /// An ending stays with more steps, so a run has one at most.
@@ -23,4 +27,9 @@ pub fn peaks_rise<V, S>()
 pub fn outputs_grow<V, S>()
     ensures run { OutputGrows V S }
     ensures turns { TurnsExtendOutput V S }
+{}
+
+/// The example runs to its end, in five instructions with five turns.
+pub fn an_example_runs()
+    ensures { run 5 5 ≡ Over (Done last_world 7) }
 {}
