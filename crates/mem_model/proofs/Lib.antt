@@ -6,6 +6,8 @@ pub mod LoadsBack
 pub mod Objects
 pub mod Places
 pub mod Pointers
+pub mod RelatedMemory
+pub mod RelatedPointers
 pub mod RelatedRows
 pub mod Representation
 pub mod RowLaws

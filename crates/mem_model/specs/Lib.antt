@@ -6,6 +6,7 @@ pub mod PointerLaws
 pub mod Pointers
 pub mod Related
 pub mod RelatedLaws
+pub mod RelatedMemoryLaws
 pub mod World
 pub mod WorldLaws
 pub mod model

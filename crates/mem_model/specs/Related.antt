@@ -1,6 +1,7 @@
 -- Two memories whose objects have other numbers: how values and cells correspond, as those of a program, whose
 -- objects live as long as their blocks, and of its code, whose objects live as long as the call.
-use Rattle.std.specs.Prelude.{◌≡◌, ℕ, List, [], ◌∷◌, Option, Some}
+use Rattle.std.specs.Prelude.{◌≡◌, ◌≢◌, ◌==◌, ◌<◌, ℕ, true, List, [], ◌∷◌, length, Option, Some, if◌then◌else◌}
+use Rattle.mem_model.specs.Memory.{Memory, Object, object_at}
 use Rattle.mem_model.specs.declared.value.Ptr.{Ptr}
 use Rattle.mem_model.specs.declared.value.Value.{Value}
 use Rattle.mem_model.specs.declared.value.Value.TheVariants.{Word, Address, Unset}
@@ -32,3 +33,32 @@ abbrev pub IsRowOf : Names → List Cell → List Cell → Type 0
 IsRowOf f [] [] = Unit {0}
 IsRowOf f (c ∷ cs) (d ∷ ds) = IsCellOf f c d × IsRowOf f cs ds
 IsRowOf f _ _ = ⊥
+
+-- an object of the second memory stands for one of the first, which has a number
+pub record IsObjectOf (f : Names) (n : Memory) (x : Object) (o : ℕ) : Type 0 where
+  pub name : ℕ
+  pub named : f o ≡ Some name
+  pub lives : (object_at n name).live ≡ true
+  pub writable : (object_at n name).writable ≡ x.writable
+  pub cells : IsRowOf f x.cells (object_at n name).cells
+
+-- the second memory stands for the first: an object stands for each live one, no one for two, and none for what was
+-- not made yet
+pub record IsMemoryOf (f : Names) (m n : Memory) : Type 0 where
+  pub each : (o : ℕ) → (object_at m o).live ≡ true → IsObjectOf f n (object_at m o) o
+  pub apart : (o p q : ℕ) → (object_at m o).live ≡ true → (object_at m p).live ≡ true → f o ≡ Some q → f p ≡ Some q → o ≡ p
+  pub known : (o q : ℕ) → f o ≡ Some q → o < length m
+
+-- one name more
+abbrev pub with_name : Names → (o q : ℕ) → Names
+with_name f o q = λ p. if p == o then Some q else f p
+
+-- no live object has this name
+abbrev pub IsFreeName : Names → Memory → (q : ℕ) → Type 0
+IsFreeName f m q = (o : ℕ) → (object_at m o).live ≡ true → f o ≢ Some q
+
+-- a live object that may be written, of a size
+pub record IsLocal (n : Memory) (q size : ℕ) : Type 0 where
+  pub lives : (object_at n q).live ≡ true
+  pub writable : (object_at n q).writable ≡ true
+  pub size_is : length (object_at n q).cells ≡ size

@@ -5,6 +5,7 @@ ghost use Rattle.mem_model.specs.Memory.{Memory};
 ghost use Rattle.mem_model.specs.Laws.{PutChangesCells, PutGivesRow, PutKeepsRows, PutKeepsLoads, StorePuts, CopyPuts, InitPuts, ChangesKeepFaults, LoadTells, LoadsNumber, LoadsPointer, LoadsNull, PartsAreNoNumber, CopyGivesCells, CopyGivesLoads, NoObjectPast, EndChanges, BeginChanges, BeginsChange, EndsChange};
 ghost use Rattle.mem_model.specs.PointerLaws.{PlusTwice, MinusUndoesPlus, PlusUndoesMinus, ChangesKeepPointers};
 ghost use Rattle.mem_model.specs.RelatedLaws.{RowsAreAsLong, RowsHaveParts, RowsAreRead, ValuesHaveRows, RowsAreWritten, FreshRows, NamesGrow, ValuesStay};
+ghost use Rattle.mem_model.specs.RelatedMemoryLaws.{LoadsCorrespond, StoresCorrespond, CopiesCorrespond, FirstBegins, FirstEnds, SecondBegins, SecondEnds, MovesCorrespond, AnswersCorrespond};
 ghost use Rattle.mem_model.specs.WorldLaws.{EndsAsItself, EndsAsThrough, TurnsAreTaken, CallsAreMetered};
 ghost use Rattle.mem_model.specs.Ending.{Evaluation, GivesAs};
 
@@ -75,6 +76,19 @@ pub fn rows_correspond()
     ensures fresh { FreshRows }
     ensures names { NamesGrow }
     ensures more { ValuesStay }
+{}
+
+/// What a memory does, one that stands for it can do, and stands for it again.
+pub fn memories_correspond()
+    ensures loads { LoadsCorrespond }
+    ensures stores { StoresCorrespond }
+    ensures copies { CopiesCorrespond }
+    ensures first_begins { FirstBegins }
+    ensures first_ends { FirstEnds }
+    ensures second_begins { SecondBegins }
+    ensures second_ends { SecondEnds }
+    ensures moves { MovesCorrespond }
+    ensures answers { AnswersCorrespond }
 {}
 
 /// Each ending is its own, and that an ending is another's goes through a third.
