@@ -1,4 +1,5 @@
 pub mod Outputs
 pub mod Peaks
 pub mod Runs
+pub mod Simulation
 pub mod Turns

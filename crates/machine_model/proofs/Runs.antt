@@ -1,11 +1,21 @@
 -- Runs by their numbers of steps.
-use Rattle.std.proofs.Common.{◌≡◌, ℕ, zero, suc, ◌+◌, ap, ◌∙◌, arith}
+use Rattle.std.proofs.Common.{refl, ◌≡◌, ℕ, zero, suc, ◌+◌, ap, ◌∙◌, arith}
 use Rattle.mem_model.specs.World.{Rooms}
 use Rattle.mem_model.specs.Ending.{Ending}
 use Rattle.machine_model.specs.Code.{Code}
 use Rattle.machine_model.specs.Machine.{Config, Next, Goes, Over, step, go_on, exec}
 
 module _ (V S : Type 0) (rooms : Rooms) (c : Code V S) where
+  add_on : (n m : ℕ) (x : Next S) → ((k : Config S) → exec V S rooms c (n + m) k ≡ go_on (exec V S rooms c n k) (exec V S rooms c m)) → go_on x (exec V S rooms c (n + m)) ≡ go_on (go_on x (exec V S rooms c n)) (exec V S rooms c m)
+  add_on n m (Goes k) h = h k
+  add_on n m (Over e) h = refl
+
+  pub steps_add_up : (n m : ℕ) (k : Config S) → exec V S rooms c (n + m) k ≡ go_on (exec V S rooms c n k) (exec V S rooms c m)
+  steps_add_up zero m k = let sum : zero + m ≡ m = omega arith in ap (λ j. exec V S rooms c j k) sum
+  steps_add_up (suc n) m k =
+      let sum : suc n + m ≡ suc (n + m) = omega arith in
+      ap (λ j. exec V S rooms c j k) sum ∙ add_on n m (step V S rooms c k) (steps_add_up n m)
+
   keep : (more n : ℕ) (x : Next S) (e : Ending) → ((k : Config S) → exec V S rooms c n k ≡ Over e → exec V S rooms c (n + more) k ≡ Over e) → go_on x (exec V S rooms c n) ≡ Over e → go_on x (exec V S rooms c (n + more)) ≡ Over e
   keep more n (Goes k) e h is = h k is
   keep more n (Over f) e h is = is

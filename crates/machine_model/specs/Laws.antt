@@ -3,7 +3,7 @@ use Rattle.std.specs.Prelude.{◌≡◌, ℕ, ◌+◌, ◌≤◌, List, ◌++◌
 use Rattle.mem_model.specs.World.{Outer, World, Rooms, with_meter, with_turns}
 use Rattle.mem_model.specs.Ending.{Ending, Done, Trap, Undefined, More, ending_output, ending_world}
 use Rattle.machine_model.specs.Code.{Act, Writes, Jumps, Calls, Returns, Stops, Site, Point, Code}
-use Rattle.machine_model.specs.Machine.{Config, Next, Goes, Over, exec}
+use Rattle.machine_model.specs.Machine.{Config, Next, Goes, Over, go_on, exec}
 
 -- a list begins with another one
 abbrev pub IsPrefix : (front bytes : List ℕ) → Type 0
@@ -47,6 +47,12 @@ abbrev pub KeepsOutput : (V S : Type 0) → Code V S → Type 0
 KeepsOutput V S c =
     (p : Point) (s : Site V S) → c.site p ≡ Some s → (own : ℕ) (vs : List V) (o : Outer) →
     IsPrefix o.output (act_outer (s.does own vs o)).output
+
+-- steps add up
+abbrev pub StepsAddUp : (V S : Type 0) → Type 0
+StepsAddUp V S =
+    (rooms : Rooms) (c : Code V S) (n m : ℕ) (k : Config S) →
+    exec V S rooms c (n + m) k ≡ go_on (exec V S rooms c n k) (exec V S rooms c m)
 
 -- an ending stays with more steps, so there is one at most
 abbrev pub StepsKeepEndings : (V S : Type 0) → Type 0

@@ -5,10 +5,11 @@ ghost use Rattle.std.specs.Prelude.{◌≡◌};
 ghost use Rattle.mem_model.specs.Ending.{Done};
 ghost use Rattle.machine_model.specs.Machine.{Over};
 ghost use Rattle.machine_model.specs.Example.{run, last_world};
-ghost use Rattle.machine_model.specs.Laws.{StepsKeepEndings, OneEnding, TurnsKeepEndings, PeakRises, OutputGrows, TurnsExtendOutput};
+ghost use Rattle.machine_model.specs.Laws.{StepsAddUp, StepsKeepEndings, OneEnding, TurnsKeepEndings, PeakRises, OutputGrows, TurnsExtendOutput};
 
-/// An ending stays with more steps, so a run has one at most.
+/// Steps add up, and an ending stays with more steps, so a run has one at most.
 pub fn one_ending<V, S>()
+    ensures sum { StepsAddUp V S }
     ensures steps { StepsKeepEndings V S }
     ensures one { OneEnding V S }
 {}
