@@ -2,6 +2,7 @@ pub mod Accesses
 pub mod Changes
 pub mod Endings
 pub mod Faults
+pub mod FullRows
 pub mod LoadsBack
 pub mod Objects
 pub mod Places

@@ -32,7 +32,7 @@ store_back m new p width v pointer fit e =
     ap (λ n. load_at n p width pointer) (sym f.is) ∙ back
     ∙ ap (λ n. value_or_fault pointer (row_at (put_row m p (cells_of width v)) p n)) (sym len) ∙ ap (value_or_fault pointer) (row_at-here m p (cells_of width v) f.first stands)
 
-bytes-full : (width n : ℕ) → list_any is_empty (bytes_of width n) ≡ false
+pub bytes-full : (width n : ℕ) → list_any is_empty (bytes_of width n) ≡ false
 unfolding bytes_of
 bytes-full zero n = refl
 bytes-full (suc width) n = bytes-full width (n / 256)

@@ -145,11 +145,11 @@ number-same f (Byte b ∷ cs) (d ∷ ds) n r e =
     ]) refl e
 
 -- reading as a pointer: zeros, or the parts of one
-data PointerIs (cs : List Cell) (v : Value) : Type 0 where
+pub data PointerIs (cs : List Cell) (v : Value) : Type 0 where
   IsNull : cs ≡ bytes_of 8 0 → v ≡ Word 0 → PointerIs cs v
   IsParts : (p : Ptr) → cs ≡ parts_of p → v ≡ Address p → PointerIs cs v
 
-pointer_is : (cs : List Cell) (v : Value) → pointer_of cs ≡ Some v → PointerIs cs v
+pub pointer_is : (cs : List Cell) (v : Value) → pointer_of cs ≡ Some v → PointerIs cs v
 pointer_is cs v e = null (cells_eq cs (bytes_of 8 0)) refl
   where
     whole : cells_eq cs (bytes_of 8 0) ≡ false → (p : Ptr) → first_pointer cs ≡ Some p → (b : Bool) → cells_eq cs (parts_of p) ≡ b → PointerIs cs v

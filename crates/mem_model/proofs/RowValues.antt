@@ -228,3 +228,7 @@ cells_of-word width v n is = ap (cells_of width) is
 pub cells_of-address : (width : ℕ) (v : Value) (p : Ptr) → v ≡ Address p → cells_of width v ≡ parts_of p
 unfolding cells_of
 cells_of-address width v p is = ap (cells_of width) is
+
+pub length-parts_of : (p : Ptr) → length (parts_of p) ≡ 8
+unfolding parts_of
+length-parts_of p = refl

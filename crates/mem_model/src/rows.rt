@@ -1,10 +1,11 @@
 //! Rows of cells: what they stand for, and how they are written and copied.
 
-ghost use Rattle.std.specs.Prelude.{◌≡◌, ℕ, ◌+◌, ◌<◌, ◌≤◌, ◌⊎◌, length, take, drop, replicate, map, All, IfSome, true, ◌^◌, ◌*◌};
+ghost use Rattle.std.specs.Prelude.{◌≡◌, ℕ, ◌+◌, ◌<◌, ◌≤◌, ◌⊎◌, length, take, drop, replicate, map, All, IfSome, true, ◌^◌, ◌*◌, if◌then◌else◌};
 ghost use Rattle.std.specs.List.{list_any};
 ghost use Rattle.mem_model.specs.Cells.{bytes_of, cells_of, parts_of, number_of, cell_eq, cells_eq, pointer_of, value_of, is_empty, value_or_fault, with_row};
 ghost use Rattle.mem_model.specs.Memory.{byte_of, IsByte, IsStorable};
 ghost use Rattle.mem_model.specs.declared.value.Cell.TheVariants.{Empty};
+ghost use Rattle.mem_model.specs.declared.value.MemFault.TheVariants.{Never, PartPointer};
 
 use crate::cells::Cells;
 use crate::value::{Cell, MemFault, Ptr, Value};
@@ -134,6 +135,19 @@ fn value_at(cells: &Cells, at: usize, width: usize, pointer: bool) -> Option<Val
     }
 }
 
+/// Why so many cells stand for no value.
+fn fault_of_cells(cells: &Cells, at: usize, width: usize) -> MemFault
+    requires within { at + width ≤ length cells.now }
+    requires fits { at + width < 2 ^ 64 }
+    ensures { result ≡ (if list_any is_empty (take width (drop at cells.now)) then Never else PartPointer) }
+{
+    if has_empty(cells, at, width) {
+        MemFault::Never
+    } else {
+        MemFault::PartPointer
+    }
+}
+
 /// What a load of so many cells answers.
 pub fn load_value(cells: &Cells, at: usize, width: usize, pointer: bool) -> Result<Value, MemFault>
     requires within { at + width ≤ length cells.now }
@@ -142,10 +156,10 @@ pub fn load_value(cells: &Cells, at: usize, width: usize, pointer: bool) -> Resu
     requires fits { at + width < 2 ^ 64 }
     ensures { result ≡ value_or_fault pointer (take width (drop at cells.now)) }
 {
-    if has_empty(cells, at, width) {
-        return Err(MemFault::Never);
+    match value_at(cells, at, width, pointer) {
+        Some(value) => Ok(value),
+        None => Err(fault_of_cells(cells, at, width)),
     }
-    value_at(cells, at, width, pointer).ok_or(MemFault::PartPointer)
 }
 
 /// Unwrites so many cells.
@@ -165,10 +179,19 @@ fn write_row(cells: &mut Cells, at: usize, row: &[Cell])
     requires fits { at + length row.now < 2 ^ 64 }
     ensures { cells.new ≡ with_row cells.old at row.now }
 {
-    wipe(cells, at, row.len());
     for (k, cell) in row.iter().enumerate() {
         cells.set(at + k, *cell);
     }
+}
+
+/// Writes the parts of a pointer, into cells that are wiped before, so that the parts find their home free.
+fn write_pointer(cells: &mut Cells, at: usize, pointer: Ptr)
+    requires within { at + 8 ≤ length cells.old }
+    requires fits { at + 8 < 2 ^ 64 }
+    ensures { cells.new ≡ with_row cells.old at (parts_of pointer) }
+{
+    wipe(cells, at, 8);
+    write_row(cells, at, &parts(pointer));
 }
 
 /// Writes a value, at the width of a number.
@@ -181,7 +204,7 @@ pub fn write_value(cells: &mut Cells, at: usize, width: usize, value: Value)
 {
     match value {
         Value::Word(number) => write_row(cells, at, &bytes(number)[..width]),
-        Value::Address(pointer) => write_row(cells, at, &parts(pointer)),
+        Value::Address(pointer) => write_pointer(cells, at, pointer),
         Value::Unset => (),
     }
 }

@@ -7,4 +7,4 @@ pub returns-in-Word : goal.returns-in-Word
 returns-in-Word c = c.write_row.ensures ∙ ap (with_row c.args.cells.now c.args.at) (ap (take c.args.width) c.bytes.ensures ∙ take-bytes_of c.args.width 8 c.in-Word.number c.requires.narrow ∙ sym (cells_of-word c.args.width c.args.value c.in-Word.number c.in-Word.is))
 
 pub returns-in-Address : goal.returns-in-Address
-returns-in-Address c = c.write_row-in-Address.ensures ∙ ap (with_row c.args.cells.now c.args.at) (c.parts.ensures ∙ sym (cells_of-address c.args.width c.args.value c.in-Address.pointer c.in-Address.is))
+returns-in-Address c = c.write_pointer.ensures ∙ ap (with_row c.args.cells.now c.args.at) (sym (cells_of-address c.args.width c.args.value c.in-Address.pointer c.in-Address.is))
