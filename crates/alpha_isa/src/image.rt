@@ -1,5 +1,8 @@
 //! Images: the words of a program with its data.
 
+ghost use Rattle.std.specs.Prelude.{◌≡◌, ◌≤◌, ◌<◌, length};
+ghost use Rattle.alpha_isa.specs.Program.{IsLawful, most_words, most_bytes};
+
 use std::marker::Model;
 
 /// A program for the machine, whose limits hold: 1 to 2^28 words of text, at most 67,108,864 bytes of
@@ -22,4 +25,22 @@ impl Model for Image {
     ghost view = { λ i. record { words = i.words.items; bytes = i.bytes.items; entry = i.entry } };
 
     ghost invariant = { λ i. IsLawful (record { words = i.words.items; bytes = i.bytes.items; entry = i.entry }) };
+}
+
+impl Image {
+    /// The image of these words and bytes, at whose entry a run begins.
+    pub fn new(words: Vec<u32>, bytes: Vec<u8>, entry: u32) -> Image
+        requires some { 1 ≤ length words.items }
+        requires words { length words.items ≤ most_words }
+        requires bytes { length bytes.items ≤ most_bytes }
+        requires entry { entry < length words.items }
+        ensures image { result ≡ record { words = words.items; bytes = bytes.items; entry = entry } }
+        ensures lawful { IsLawful result }
+    {
+        Image {
+            words,
+            bytes,
+            entry,
+        }
+    }
 }

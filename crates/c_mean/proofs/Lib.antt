@@ -5,3 +5,4 @@ pub mod SmallSound
 pub mod SmallComplete
 pub mod SmallUnits
 pub mod SmallLaws
+pub mod SmallGood

@@ -1,6 +1,6 @@
 -- Chains of operators and operands: one step, and what they read.
 use Rattle.std.proofs.Common.{◌≡◌, ℕ, zero, suc, ◌≤◌, List, [], ◌∷◌, ◌++◌, length, Option, Some, None, refl, sym, ap, ◌∙◌, subst, append-nil, append_assoc, arith}
-use Rattle.c_mean.specs.SmallModel.{ScanOutcome, and_then, go_on, chain_by, chain}
+use Rattle.c_mean.specs.model.SmallModel.{ScanOutcome, and_then, go_on, chain_by, chain}
 use Rattle.c_mean.proofs.SmallTools.{same_some, bind_some}
 
 -- the text is a front of this kind, and the rest

@@ -2,7 +2,7 @@
 use Rattle.std.proofs.Common.{◌≡◌, ℕ, zero, suc, ◌≤◌, true, false, List, [], ◌∷◌, ◌++◌, Some, None, refl, ap, ◌∙◌, append_assoc}
 use Rattle.std.specs.Prelude.{decimal}
 use Rattle.c_mean.specs.Small.{Expression, Number, Complement, Sum, Difference, Product, IsExpression, IsTerm, IsFactor, most_number}
-use Rattle.c_mean.specs.SmallModel.{Making, and_then, begins, behind, digit, product_by, sum_by, products, term, sums, expression, brackets, factor}
+use Rattle.c_mean.specs.model.SmallModel.{Making, and_then, begins, behind, digit, product_by, sum_by, products, term, sums, expression, brackets, factor}
 use Rattle.c_mean.proofs.SmallNumbers.{number_complete, digit_leads}
 use Rattle.c_mean.proofs.SmallChains.{chain_step, chain_end}
 use Rattle.c_mean.proofs.SmallSound.{made, factor_shrinks, term_shrinks}
@@ -81,7 +81,7 @@ module _ {V B : Type 0} (making : Making V B) where
   mutual
     pub factor_complete : {d : ℕ} {a : List ℕ} {x : Expression} → IsFactor d a x → ReadsFactor d a x
     factor_complete (IsFactor.number n low) = number_rule _ n low
-    factor_complete (IsFactor.turned a x h) = turned_rule _ a x (factor_complete h)
+    factor_complete (IsFactor.tilde a x h) = turned_rule _ a x (factor_complete h)
     factor_complete (IsFactor.brackets a x h) = brackets_rule _ a x (expression_reach h)
 
     term_reach : {d : ℕ} {a : List ℕ} {x : Expression} → IsTerm d a x → ReachesTerm d a x

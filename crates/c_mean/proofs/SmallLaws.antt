@@ -5,7 +5,7 @@ use Rattle.std.proofs.lemmas.List.{take-append-drop}
 use Rattle.std.proofs.lemmas.Bool.{ltb-false}
 use Rattle.c_mean.specs.Behaviour.{Behaviour, Done, More, output_of}
 use Rattle.c_mean.specs.Small.{Expression, Number, Complement, Sum, Difference, Product, complement, value, low_byte, SmallUnit, IsSmall, written_by, status_of, behave_c, most_text}
-use Rattle.c_mean.specs.SmallModel.{trees, values, body}
+use Rattle.c_mean.specs.model.SmallModel.{trees, values, body}
 use Rattle.c_mean.proofs.SmallTools.{same_some}
 use Rattle.c_mean.proofs.SmallSound.{made}
 use Rattle.c_mean.proofs.SmallUnits.{whole_of, body_sound, body_complete}

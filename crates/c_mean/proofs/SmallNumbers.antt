@@ -8,7 +8,7 @@ use Rattle.std.proofs.lemmas.Str.Parse.{IsNumeralModel, numerals_by_fold}
 use Rattle.std.proofs.lemmas.Fmt.{digits_decimal, digits_value-decimal, decimal-digits_value, decimal_nonempty, decimal_digit, first_decimal}
 use Rattle.std.proofs.lemmas.Bool.Decides.{nat_tests}
 use Rattle.c_mean.specs.Small.{most_number}
-use Rattle.c_mean.specs.SmallModel.{begins, digit, digits, number}
+use Rattle.c_mean.specs.model.SmallModel.{begins, digit, digits, number}
 use Rattle.c_mean.proofs.SmallTools.{no_some, same_some, bind_some, pick}
 
 -- the number that digits spell, behind a number

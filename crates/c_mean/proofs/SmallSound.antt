@@ -3,7 +3,7 @@ use Rattle.std.proofs.Common.{◌≡◌, ℕ, zero, suc, true, cond, eqb, List, 
 use Rattle.std.specs.Prelude.{decimal}
 use Rattle.std.proofs.lemmas.Bool.{eqb-true, false≢true}
 use Rattle.c_mean.specs.Small.{Expression, Number, Complement, Sum, Difference, Product, IsExpression, IsTerm, IsFactor}
-use Rattle.c_mean.specs.SmallModel.{Making, ScanOutcome, begins, behind, number, product_by, sum_by, products, term, sums, expression, make_number, brackets, factor}
+use Rattle.c_mean.specs.model.SmallModel.{Making, ScanOutcome, begins, behind, number, product_by, sum_by, products, term, sums, expression, make_number, brackets, factor}
 use Rattle.c_mean.proofs.SmallTools.{no_some, same_some, bind_some, pick}
 use Rattle.c_mean.proofs.SmallNumbers.{number_sound}
 use Rattle.c_mean.proofs.SmallChains.{Takes, Shrinks, chain_sound}
@@ -16,7 +16,7 @@ module _ {V B : Type 0} (making : Making V B) where
   -- what is made of an expression
   abbrev pub made : Expression → V
   made (Number n) = making.number n
-  made (Complement x) = making.turned (made x)
+  made (Complement x) = making.tilde (made x)
   made (Sum x y) = making.sum (made x) (made y)
   made (Difference x y) = making.difference (made x) (made y)
   made (Product x y) = making.product (made x) (made y)
@@ -98,10 +98,10 @@ module _ {V B : Type 0} (making : Making V B) where
   factor_sound zero ts p q = number_made 0 ts p q
   factor_sound (suc d) ts p q = pick (begins 126 ts) _ _ (Some p) q
       (λ yes w.
-      let s = bind_some (factor making d (behind ts)) (λ x r. Some (making.turned x, r)) p w in
+      let s = bind_some (factor making d (behind ts)) (λ x r. Some (making.tilde x, r)) p w in
       let a = factor_sound d (behind ts) s.0 s.1 in
       subst (λ (p : V × List ℕ). Takes ts p.1 (λ a. MakesFactor (suc d) a p.0)) (same_some s.2)
-      (126 ∷ a.0, begins_is 126 ts yes ∙ ap (λ r. 126 ∷ r) a.1, (Complement a.2.0, IsFactor.turned a.0 a.2.0 a.2.1, ap (making.turned) a.2.2)))
+      (126 ∷ a.0, begins_is 126 ts yes ∙ ap (λ r. 126 ∷ r) a.1, (Complement a.2.0, IsFactor.tilde a.0 a.2.0 a.2.1, ap (making.tilde) a.2.2)))
       (λ no w. pick (begins 40 ts) _ _ (Some p) w
       (λ yes v. subst (λ us. Takes us p.1 (λ a. MakesFactor (suc d) a p.0)) (sym (begins_is 40 ts yes)) (brackets_sound d (factor making d) (factor_sound d) (behind ts) p v))
       (λ other v. number_made (suc d) ts p v))

@@ -1,6 +1,6 @@
 -- What an outcome says.
 use Rattle.std.proofs.Common.{◌≡◌, ℕ, Bool, true, false, cond, List, Option, Some, None, refl}
-use Rattle.c_mean.specs.SmallModel.{ScanOutcome, and_then}
+use Rattle.c_mean.specs.model.SmallModel.{ScanOutcome, and_then}
 
 IsSome : {A : Type 0} → Option A → Type 0
 IsSome (Some x) = Unit {0}

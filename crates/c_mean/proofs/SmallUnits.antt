@@ -7,7 +7,7 @@ use Rattle.std.proofs.lemmas.Bool.Decides.{Decides-eqb}
 use Rattle.std.proofs.lemmas.Slice.Eq.{starts_is}
 use Rattle.std.proofs.lemmas.List.Prefix.{front_rest}
 use Rattle.c_mean.specs.Small.{Expression, IsExpression, SmallUnit, ArePuts, IsSmall, most_nesting, most_text}
-use Rattle.c_mean.specs.SmallModel.{Making, ScanOutcome, and_then, begins, digit, word, expression, factor, whole_expression, puts_by, puts, is_end, body}
+use Rattle.c_mean.specs.model.SmallModel.{Making, ScanOutcome, and_then, begins, digit, word, expression, factor, whole_expression, puts_by, puts, is_end, body}
 use Rattle.c_mean.proofs.SmallTools.{no_some, same_some, bind_some, pick}
 use Rattle.c_mean.proofs.SmallSound.{made, expression_sound}
 use Rattle.c_mean.proofs.SmallComplete.{expression_complete}

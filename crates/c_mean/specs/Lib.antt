@@ -1,3 +1,3 @@
 pub mod Behaviour
 pub mod Small
-pub mod SmallModel
+pub mod model

@@ -56,7 +56,7 @@ mutual
 
   pub data IsFactor : ℕ → List ℕ → Expression → Type 0 where
     number : {d : ℕ} (n : ℕ) → n ≤ most_number → IsFactor d (decimal n) (Number n)
-    turned : {d : ℕ} (a : List ℕ) (x : Expression) → IsFactor d a x → IsFactor (suc d) (126 ∷ a) (Complement x)
+    tilde : {d : ℕ} (a : List ℕ) (x : Expression) → IsFactor d a x → IsFactor (suc d) (126 ∷ a) (Complement x)
     brackets : {d : ℕ} (a : List ℕ) (x : Expression) → IsExpression d a x → IsFactor (suc d) (40 ∷ (a ++ 41 ∷ [])) x
 
 -- what a program puts, in order, and what it returns

@@ -2,8 +2,8 @@
 //! over decimal numbers.
 
 ghost use Rattle.std.specs.Prelude.{◌≡◌, ◌≢◌, ◌+◌, ◌++◌, ℕ, List};
-ghost use Rattle.c_mean.specs.Behaviour.{More, output_of};
-ghost use Rattle.c_mean.specs.Small.{SmallUnit, IsSmall, behave_c};
+ghost use Rattle.c_mean.specs.Behaviour.{More, Good, output_of};
+ghost use Rattle.c_mean.specs.Small.{SmallUnit, IsSmall, behave_c, meaning};
 
 /// An ending is the same ending with more turns.
 pub fn endings_stay()
@@ -18,4 +18,10 @@ pub fn output_grows()
 /// A text is of the small form with one program at most.
 pub fn one_reading()
     ensures { (text : List ℕ) (u v : SmallUnit) → IsSmall text u → IsSmall text v → u ≡ v }
+{}
+
+/// Every input is good for a program, with every stack: it does nothing undefined, and needs no room.
+#[tactic(auto, using(crate::proofs::SmallGood::good))]
+pub fn every_input_is_good()
+    ensures { (u : SmallUnit) (input : List ℕ) (stack : ℕ) → Good (meaning u) input stack }
 {}

@@ -4,6 +4,7 @@
 use bk_io::host::{HostFiles, HostSink, HostSource};
 use msc_cli::outcome::exit_code;
 use msc_cli::top::msc_main;
+use std::io::ErrorKind;
 use std::process::ExitCode;
 use std::{env, io};
 
@@ -20,7 +21,7 @@ fn main(rt: HostRuntime) -> ExitCode {
 /// Makes the adapters, and hands the words to the top call.
 fn run(rt: &HostRuntime) -> io::Result<u8> {
     let alloc = rt.alloc();
-    let words: Vec<String> = env::args(rt)?.collect(alloc)?;
+    let words = words(rt)?;
     let mut files = HostFiles::new(alloc, rt.clone()?)?;
     let mut input = HostSource::new(alloc, rt.reader())?;
     let mut out = HostSink::new(alloc, rt.stdout())?;
@@ -34,4 +35,14 @@ fn run(rt: &HostRuntime) -> io::Result<u8> {
         &mut err,
     );
     Ok(exit_code(&outcome))
+}
+
+/// The words of the command line, none where one is not UTF-8: such words are none that the compiler takes.
+fn words(rt: &HostRuntime) -> io::Result<Vec<String>> {
+    let alloc = rt.alloc();
+    match env::args(rt) {
+        Ok(words) => Ok(words.collect(alloc)?),
+        Err(error) if error.kind() == ErrorKind::InvalidData => Ok(Vec::new(alloc)),
+        Err(error) => Err(error),
+    }
 }

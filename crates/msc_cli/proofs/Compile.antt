@@ -1,5 +1,5 @@
 -- What is compiled behaves as its text.
-use Rattle.std.proofs.Common.{◌≡◌, ℕ, ◌≤◌, List, ◌∷◌, ◌++◌, inl, inr, length, sym, ◌∙◌, ap, subst, arith, length-append, length-take, Option, Some, None, IfSome}
+use Rattle.std.proofs.Common.{◌≡◌, ℕ, ◌≤◌, List, ◌∷◌, ◌++◌, inl, inr, length, refl, sym, ◌∙◌, ap, subst, arith, length-append, length-take, Option, Some, None, IfSome}
 use Rattle.std.proofs.lemmas.List.{length-map}
 use Rattle.std.specs.Prelude.{codes}
 use Rattle.c_mean.specs.Small.{Expression, SmallUnit, IsSmall, ArePuts, written_by, status_of, meaning}
@@ -8,8 +8,12 @@ use Rattle.msc_cli.specs.SmallImage.{small_program}
 use Rattle.msc_cli.specs.Same.{Same}
 use Rattle.bk_io.specs.Shelf.{Shelf, file_of}
 use Rattle.msc_cli.specs.declared.outcome.Outcome.{Outcome}
-use Rattle.msc_cli.specs.declared.outcome.Outcome.TheVariants.{Built, WriteFault, NoMemory}
-use Rattle.msc_cli.specs.TopCall.{IsCompiled, IsRefused, IsFront, text_of, Writes, Builds}
+use Rattle.msc_cli.specs.declared.outcome.Outcome.TheVariants.{FileFault, NoMemory}
+use Rattle.msc_cli.specs.declared.read_small.ReadFault.{ReadFault}
+use Rattle.msc_cli.specs.declared.read_small.ReadFault.TheVariants as read
+use Rattle.msc_cli.specs.FromFile.{IsFront, text_of, IsCause, outcome_of_read_fault}
+use Rattle.msc_cli.specs.BuildImage.{IsCompiled, IsRefused, RefusesText, Compiles}
+use Rattle.msc_cli.specs.Output.{file_faults_after}
 use Rattle.msc_cli.proofs.SmallSame.{same}
 
 -- a program puts no more bytes than its text has
@@ -22,13 +26,11 @@ few_puts text u puts small e =
     let behind : List ℕ = codes "return " ++ (small.result ++ (codes ";}" ++ small.end)) in
     omega (arith, puts-le small.puts u.puts small.are_puts, small.within, ap length small.whole, length-append small.puts behind, simp length-map at (ap length e))
 
--- the image of what was read behaves as the program
+-- the image of what was read is the one of the program, and behaves as it
 pub compiled : (text : List ℕ) (u : SmallUnit) (puts : List ℕ) (status : ℕ) (p : Program) → IsSmall text u → puts ≡ written_by u → status ≡ status_of u → p ≡ small_program puts status → IsCompiled text p
-compiled text u puts status p small e f g = record {
-  unit = u;
-  reads = small;
-  same = λ stack _. subst (λ q. Same (meaning u) q stack) (sym (g ∙ ap (λ bytes. small_program bytes status) e ∙ ap (small_program (written_by u)) f)) (same u stack);
-}
+compiled text u puts status p small e f g =
+    let image : p ≡ small_program (written_by u) (status_of u) = g ∙ ap (λ bytes. small_program bytes status) e ∙ ap (small_program (written_by u)) f in
+    record { unit = u; reads = small; image = image; same = λ stack _. subst (λ q. Same (meaning u) q stack) (sym image) (same u stack) }
 
 -- a front that is a program is the whole file, and where a front is none the file is none
 pub whole_file : (file text : List ℕ) (p : Program) → IsFront 4097 file text → IsCompiled text p → IsCompiled file p
@@ -44,7 +46,7 @@ no_file file text front none u small = elim front [
 ]
 
 -- the same of a file that may be told
-pub compiled_told : (told : Option Shelf) (name text : List ℕ) (p : Program) → IfSome told (λ shelf. IsFront 4097 (file_of shelf name) text) → IsCompiled text p → IfSome (text_of told name) (λ t. IsCompiled t p)
+pub compiled_told : (told : Option Shelf) (name text : List ℕ) (p : Program) → IfSome told (λ shelf. IsFront 4097 (file_of shelf name) text) → IsCompiled text p → Compiles (text_of told name) p
 compiled_told None name text p front is = tt
 compiled_told (Some shelf) name text p front is = whole_file (file_of shelf name) text p front is
 
@@ -52,9 +54,21 @@ pub refused_told : (told : Option Shelf) (name text : List ℕ) → IfSome told 
 refused_told None name text front none = tt
 refused_told (Some shelf) name text front none = no_file (file_of shelf name) text front none
 
--- what is written of an image that was compiled is what is built
-pub builds : (text : Option (List ℕ)) (p : Program) (answer : Outcome) (old new : Option (List ℕ)) → IfSome text (λ t. IsCompiled t p) → Writes p answer old new → Builds text answer old new
-builds text p Built old new is writes = (p, is, writes)
-builds text p WriteFault old new is writes = (p, is, writes)
-builds text p NoMemory old new is writes = writes
-builds text p _ old new is writes = absurd writes
+-- why there is no image of a text
+pub text_cause : (told : Option Shelf) (name text : List ℕ) (f : ReadFault) → IfSome told (λ shelf. IsFront 4097 (file_of shelf name) text) → (f ≡ read.Form → IsRefused text) → IsCause (RefusesText (text_of told name)) (outcome_of_read_fault f)
+text_cause told name text read.Form front none = refused_told told name text front (none refl)
+text_cause told name text read.NoMemory front none = tt
+
+pub no_file_fault : (f : ReadFault) → outcome_of_read_fault f ≡ FileFault → ⊥
+no_file_fault read.Form e = cc
+no_file_fault read.NoMemory e = cc
+
+pub same_count : (f : ReadFault) (n : ℕ) → file_faults_after (outcome_of_read_fault f) n ≡ n
+same_count read.Form n = refl
+same_count read.NoMemory n = refl
+
+-- a cause that is none of what the file holds is one whatever is refused
+pub any_cause : (refuses : Outcome → Type 0) (o : Outcome) → IsCause (λ _. ⊥) o → IsCause refuses o
+any_cause refuses FileFault h = tt
+any_cause refuses NoMemory h = tt
+any_cause refuses _ h = absurd h

@@ -6,7 +6,7 @@ use Rattle.std.proofs.lemmas.Nat.{le_bytes_4}
 use Rattle.std.proofs.lemmas.Bool.{ltb-false, eqb-true}
 use Rattle.std.proofs.Math.Seq.{take-add}
 use Rattle.std.specs.Prelude.{flat_map}
-use Rattle.alpha_isa.specs.Program.{Program, most_words, most_bytes}
+use Rattle.alpha_isa.specs.Program.{Program, IsLawful, most_words, most_bytes}
 use Rattle.alpha_isa.specs.ImageFormat.{mark, number, image_spelling, IsImage}
 use Rattle.std.specs.Option.{option_eq}
 use Rattle.msc_cli.specs.ImageFault.{number_at, version_of, word_count, byte_count, entry_of, due_length, first_of, differs_at, field_fault, mark_fault, version_fault, words_fault, bytes_fault, entry_fault, length_fault, header_fault, image_fault}
@@ -143,14 +143,13 @@ unfolding image_fault
 image_fault-length bytes fault header e = ap (λ h. first_of h (length_fault bytes)) header ∙ e
 
 -- what was read is the image of the bytes
-pub found : (bytes words rest : List ℕ) (w n entry : ℕ) → AreBytes bytes → header_fault bytes ≡ None → w ≡ word_count bytes → n ≡ byte_count bytes → entry ≡ entry_of bytes
+pub found : (bytes words rest : List ℕ) (w n entry : ℕ) (p : Program) → AreBytes bytes → header_fault bytes ≡ None → w ≡ word_count bytes → n ≡ byte_count bytes → entry ≡ entry_of bytes
     → length bytes ≡ 20 + 4 * w + n → flat_map number words ≡ take (4 * w) (drop 20 bytes) → length words ≡ w → rest ≡ drop (20 + 4 * w) bytes
-    → (1 ≤ w) × (w ≤ most_words) × (n ≤ most_bytes) × (entry < w) → IsImage bytes (record { words = words; bytes = rest; entry = entry })
-found bytes words rest w n entry h e w_is n_is entry_is due spelled_words count rest_is bounds =
-    let rest_count : length rest ≡ n = ap length rest_is ∙ simp length-drop (omega arith) in
-    record {
-      lawful = record { some_words = omega (arith, bounds.0); words = omega (arith, bounds.1); bytes = omega (arith, bounds.2); entry = omega (arith, bounds.3) };
-      bytes_are = image_is bytes (record { words = words; bytes = rest; entry = entry }) h e
-          (due ∙ ap (λ k. 20 + 4 * k + n) w_is ∙ ap (λ k. 20 + 4 * word_count bytes + k) n_is)
-          (spelled_words ∙ ap (λ k. take (4 * k) (drop 20 bytes)) w_is) (count ∙ w_is) (rest_is ∙ ap (λ k. drop (20 + 4 * k) bytes) w_is) entry_is;
-    }
+    → p ≡ record { words = words; bytes = rest; entry = entry } → IsLawful p → IsImage bytes p
+found bytes words rest w n entry p h e w_is n_is entry_is due spelled_words count rest_is p_is lawful = record {
+  lawful = lawful;
+  bytes_are = image_is bytes (record { words = words; bytes = rest; entry = entry }) h e
+      (due ∙ ap (λ k. 20 + 4 * k + n) w_is ∙ ap (λ k. 20 + 4 * word_count bytes + k) n_is)
+      (spelled_words ∙ ap (λ k. take (4 * k) (drop 20 bytes)) w_is) (count ∙ w_is) (rest_is ∙ ap (λ k. drop (20 + 4 * k) bytes) w_is) entry_is
+      ∙ ap image_spelling (sym p_is);
+}

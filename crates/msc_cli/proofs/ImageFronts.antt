@@ -11,8 +11,10 @@ use Rattle.msc_cli.specs.ImageFault.{number_at, word_count, byte_count, entry_of
 use Rattle.msc_cli.specs.declared.read_image.ImageFault.{ImageFault}
 use Rattle.msc_cli.specs.declared.read_image.ImageFault.TheVariants as fault
 use Rattle.msc_cli.specs.ReadImage.{IsFault}
-use Rattle.msc_cli.specs.RunImage.{told_by_fault, Executes}
-use Rattle.msc_cli.specs.TopCall.{IsFront, text_of}
+use Rattle.msc_cli.specs.RunImage.{outcome_of_image_fault, RefusesBytes, Holds}
+use Rattle.msc_cli.specs.FromFile.{IsFront, IsCause, text_of}
+use Rattle.msc_cli.specs.Output.{file_faults_after}
+use Rattle.msc_cli.specs.declared.outcome.Outcome.TheVariants.{FileFault}
 use Rattle.msc_cli.proofs.ImageFaults.{field_is, none_first}
 use Rattle.msc_cli.proofs.ImageLaws.{length-spelled}
 
@@ -116,11 +118,19 @@ fault_told : (told : Option Shelf) (name bytes : List ℕ) (at : ℕ) → IfSome
 fault_told None name bytes at front e = tt
 fault_told (Some shelf) name bytes at front e = fault_is (file_of shelf name) bytes at front e
 
-pub image_told : (told : Option Shelf) (name bytes : List ℕ) (p : Program) → IfSome told (λ shelf. IsFront limit (file_of shelf name) bytes) → IsImage bytes p → IfSome (text_of told name) (λ b. IsImage b p)
+pub image_told : (told : Option Shelf) (name bytes : List ℕ) (p : Program) → IfSome told (λ shelf. IsFront limit (file_of shelf name) bytes) → IsImage bytes p → Holds (text_of told name) p
 image_told None name bytes p front is = tt
 image_told (Some shelf) name bytes p front is = image_is (file_of shelf name) bytes p front is
 
--- what is answered where bytes are refused
-pub refused : (told : Option Shelf) (name bytes : List ℕ) (input : Option (List ℕ)) (f : ImageFault) (taken : Option (List ℕ)) → IfSome told (λ shelf. IsFront limit (file_of shelf name) bytes) → IsFault f bytes → Executes (text_of told name) input (told_by_fault f) taken taken
-refused told name bytes input (fault.BadImage at) taken front e = (fault_told told name bytes at front e, refl)
-refused told name bytes input fault.NoMemory taken front e = refl
+-- why there is no image in a file
+pub bytes_cause : (told : Option Shelf) (name bytes : List ℕ) (f : ImageFault) → IfSome told (λ shelf. IsFront limit (file_of shelf name) bytes) → IsFault f bytes → IsCause (RefusesBytes (text_of told name)) (outcome_of_image_fault f)
+bytes_cause told name bytes (fault.BadImage at) front e = fault_told told name bytes at front e
+bytes_cause told name bytes fault.NoMemory front e = tt
+
+pub no_file_fault : (f : ImageFault) → outcome_of_image_fault f ≡ FileFault → ⊥
+no_file_fault (fault.BadImage at) e = cc
+no_file_fault fault.NoMemory e = cc
+
+pub same_count : (f : ImageFault) (n : ℕ) → file_faults_after (outcome_of_image_fault f) n ≡ n
+same_count (fault.BadImage at) n = refl
+same_count fault.NoMemory n = refl

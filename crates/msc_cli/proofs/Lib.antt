@@ -12,3 +12,4 @@ pub mod SmallSteps
 pub mod Steps
 pub mod Units
 pub mod Whole
+pub mod SmallEnds

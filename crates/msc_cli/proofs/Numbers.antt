@@ -4,7 +4,7 @@ use Rattle.std.specs.Prelude.{is_some}
 use Rattle.std.proofs.lemmas.Bool.{le-leb, lt-leb, eq-eqb}
 use Rattle.std.proofs.lemmas.Bool.Decides.{nat_tests}
 use Rattle.c_mean.specs.Small.{most_number}
-use Rattle.c_mean.specs.SmallModel.{digit, digits, number}
+use Rattle.c_mean.specs.model.SmallModel.{digit, digits, number}
 use Rattle.c_mean.proofs.SmallNumbers.{digit_some, digit_low, digits_more}
 
 pub number_none : (ts : List ℕ) → digit ts ≡ None → number ts ≡ None

@@ -5,11 +5,11 @@ use Rattle.c_tree.specs.declared.declarations.TranslationUnit.{TranslationUnit}
 use Rattle.c_parser.specs.declared.fault.ParseFault.TheVariants as fault
 use Rattle.c_parser.proofs.OneAnswer.{read_or_refused}
 use Rattle.msc_cli.specs.declared.outcome.Outcome.{Outcome}
-use Rattle.msc_cli.specs.declared.outcome.Outcome.TheVariants.{Printed, FileFault, WriteFault, Refused, Limit, NoMemory}
+use Rattle.msc_cli.specs.declared.outcome.Outcome.TheVariants.{FileFault, Refused, Limit, NoMemory}
 use Rattle.msc_cli.specs.declared.outcome.SourceFault.TheVariants.{Lex, Syntax}
 use Rattle.msc_cli.specs.declared.outcome.Which.TheVariants.{Text, Nesting}
-use Rattle.msc_cli.specs.TopCall.{IsFront, text_of}
-use Rattle.msc_cli.specs.PrintTree.{Spells, SpellsNone, Prints}
+use Rattle.msc_cli.specs.FromFile.{IsFront, IsCause, text_of}
+use Rattle.msc_cli.specs.PrintTree.{Spells, SpellsNone, RefusesTree, Prints}
 
 -- a front within the limit is the whole file
 short : (file text : List ℕ) → text ≡ take 4194305 file → 4194305 ≤ length file → length text ≤ 4194304 → ⊥
@@ -43,15 +43,19 @@ none_told : (told : Option Shelf) (name text : List ℕ) (answer : Outcome) → 
 none_told None name text answer front n = tt
 none_told (Some shelf) name text answer front n = none_file (file_of shelf name) text answer front n
 
+cause_told : (told : Option Shelf) (name text : List ℕ) (answer : Outcome) → IfSome told (λ shelf. IsFront 4194305 (file_of shelf name) text) → IsCause (RefusesTree (Some text)) answer → IsCause (RefusesTree (text_of told name)) answer
+cause_told told name text FileFault front c = tt
+cause_told told name text NoMemory front c = tt
+cause_told told name text (Refused source) front c = none_told told name text (Refused source) front c
+cause_told told name text (Limit which counted) front c = none_told told name text (Limit which counted) front c
+cause_told told name text _ front c = absurd c
+
 pub prints_told : (told : Option Shelf) (name text : List ℕ) (answer : Outcome) (old new : Option (List ℕ)) → IfSome told (λ shelf. IsFront 4194305 (file_of shelf name) text)
     → Prints (Some text) answer old new → Prints (text_of told name) answer old new
-prints_told told name text Printed old new front p = (p.0, spells_told told name text p.0 front p.1, p.2)
-prints_told told name text WriteFault old new front p = (p.0, spells_told told name text p.0 front p.1, p.2)
-prints_told told name text (Refused source) old new front p = (none_told told name text (Refused source) front p.0, p.1)
-prints_told told name text (Limit which counted) old new front p = (none_told told name text (Limit which counted) front p.0, p.1)
-prints_told told name text FileFault old new front p = p
-prints_told told name text NoMemory old new front p = p
-prints_told told name text _ old new front p = absurd p
+prints_told told name text answer old new front p = elim p [
+  | inl c ↦ inl (cause_told told name text answer front c.0, c.1)
+  | inr m ↦ inr (m.0, spells_told told name text m.0 front m.1, m.2)
+]
 
 -- a text that spells a tree is not refused
 pub not_refused : (text : List ℕ) (tree : TranslationUnit) (answer : Outcome) → Spells text tree → SpellsNone text answer → ⊥

@@ -1,5 +1,5 @@
 -- A small image behaves as its program does.
-use Rattle.std.proofs.Common.{◌≡◌, ℕ, zero, suc, ◌<◌, List, [], ◌∷◌, ◌++◌, Bool, true, false, nat_lt, length, take, drop, map, refl, sym, ◌∙◌, ap, subst, arith, append_assoc, append-nil, if◌then◌else◌, take-append-drop}
+use Rattle.std.proofs.Common.{◌≡◌, ℕ, zero, suc, ◌+◌, ◌*◌, ◌<◌, ◌≤◌, List, [], ◌∷◌, ◌++◌, Bool, true, false, nat_lt, length, take, drop, map, refl, sym, ◌∙◌, ap, subst, arith, append_assoc, append-nil, if◌then◌else◌, take-append-drop}
 use Rattle.std.proofs.lemmas.Bool.{le-ltb}
 use Rattle.c_mean.specs.Behaviour.{Good}
 use Rattle.c_mean.specs.Behaviour as c
@@ -31,6 +31,21 @@ all_steps (byte ∷ puts) = suc (suc (suc (all_steps puts)))
 at_end : (puts : List ℕ) (status : ℕ) (out : List ℕ) → small_run puts status out (all_steps puts) ≡ alpha.Done (out ++ puts) status
 at_end [] status out = ap (λ o. alpha.Done o status) (sym (append-nil out))
 at_end (byte ∷ puts) status out = at_end puts status (out ++ byte ∷ []) ∙ ap (λ o. alpha.Done o status) (append_assoc out (byte ∷ []) puts)
+
+-- with as many steps as a whole run takes, or more
+ends_later : (puts : List ℕ) (status : ℕ) (out : List ℕ) (m : ℕ) → all_steps puts ≤ m → small_run puts status out m ≡ alpha.Done (out ++ puts) status
+ends_later [] status out zero h = absurd (omega arith)
+ends_later [] status out (suc zero) h = absurd (omega arith)
+ends_later [] status out (suc (suc zero)) h = absurd (omega arith)
+ends_later [] status out (suc (suc (suc m))) h = ap (λ o. alpha.Done o status) (sym (append-nil out))
+ends_later (byte ∷ puts) status out zero h = absurd (omega arith)
+ends_later (byte ∷ puts) status out (suc zero) h = absurd (omega arith)
+ends_later (byte ∷ puts) status out (suc (suc zero)) h = absurd (omega arith)
+ends_later (byte ∷ puts) status out (suc (suc (suc m))) h = ends_later puts status (out ++ byte ∷ []) m (omega arith) ∙ ap (λ o. alpha.Done o status) (append_assoc out (byte ∷ []) puts)
+
+pub steps_count : (puts : List ℕ) → all_steps puts ≡ 3 * length puts + 3
+steps_count [] = refl
+steps_count (byte ∷ puts) = omega (arith, steps_count puts)
 
 low_byte-lt : (x : Expression) → low_byte x < 256
 low_byte-lt x = omega arith
@@ -87,6 +102,9 @@ module _ (u : SmallUnit) (stack : ℕ) (input : List ℕ) where
 
   machine_ends : behave_a (image_of u) stack input (all_steps (written_by u)) ≡ alpha.Done (written_by u) (status_of u)
   machine_ends = machine_runs (all_steps (written_by u)) ∙ at_end (written_by u) (status_of u) []
+
+  pub machine_ends_later : (k : ℕ) → all_steps (written_by u) ≤ k → behave_a (image_of u) stack input k ≡ alpha.Done (written_by u) (status_of u)
+  machine_ends_later k enough = machine_runs k ∙ ends_later (written_by u) (status_of u) [] k enough
 
   machine_shape : (k : ℕ) → Shape (written_by u) (status_of u) (behave_a (image_of u) stack input k)
   machine_shape k = subst (Shape (written_by u) (status_of u)) (sym (machine_runs k)) (shape (written_by u) (status_of u) [] k (written_by u) refl)

@@ -4,8 +4,8 @@ use Rattle.std.specs.Int.{w32, int_wrap}
 use Rattle.std.proofs.lemmas.Bool.{le-ltb}
 use Rattle.std.proofs.lemmas.Int.{to_z_pos}
 use Rattle.c_mean.specs.Small.{complement}
-use Rattle.c_mean.specs.SmallModel.{ScanOutcome, begins, behind, values, factor, term, expression, products, sums, brackets, number, make_number}
-use Rattle.msc_cli.specs.Answers.{Answers, AnswersNumber}
+use Rattle.c_mean.specs.model.SmallModel.{ScanOutcome, begins, behind, values, factor, term, expression, products, sums, brackets, number, make_number}
+use Rattle.msc_cli.specs.model.AnswersScan.{AnswersScan, AnswersNumber}
 use Rattle.c_mean.proofs.SmallComplete.{products_times, sums_plus, sums_minus}
 use Rattle.c_mean.proofs.SmallSound.{factor_shrinks, term_shrinks}
 
@@ -67,16 +67,16 @@ turned_is (negsuc n) f = to_z_pos w32 (4294967295 - (4294967296 - suc n)) (omega
 -- ---- factors
 
 -- the code's answer is the value of the model's number
-number_by : (o : ScanOutcome ℕ) (r : Option ℤ) (new : List ℕ) → AnswersNumber o r new → Answers (make_number values o) r new
+number_by : (o : ScanOutcome ℕ) (r : Option ℤ) (new : List ℕ) → AnswersNumber o r new → AnswersScan (make_number values o) r new
 number_by o (Some z) new h = rw h.2 (ap (λ v. Some (v, new)) (sym h.1))
 number_by o None new h = rw h refl
 
 deeper : (d : ℕ) → 0 < d → suc (d - 1) ≡ d
 deeper d some = omega arith
 
-pub factor_bottom : (d : ℕ) (ts : List ℕ) (r : Option ℤ) (new : List ℕ) → d ≡ 0 → AnswersNumber (number ts) r new → Answers (factor values d ts) r new
+pub factor_bottom : (d : ℕ) (ts : List ℕ) (r : Option ℤ) (new : List ℕ) → d ≡ 0 → AnswersNumber (number ts) r new → AnswersScan (factor values d ts) r new
 unfolding factor
-factor_bottom d ts r new zero h = subst (λ n. Answers (factor values n ts) r new) (sym zero) (number_by (number ts) r new h)
+factor_bottom d ts r new zero h = subst (λ n. AnswersScan (factor values n ts) r new) (sym zero) (number_by (number ts) r new h)
 
 pub turned_read : (d : ℕ) (ts us : List ℕ) (x : ℤ) (r : List ℕ) → 0 < d → true ≡ begins 126 ts → us ≡ behind ts → factor values (d - 1) us ≡ Some (x, r) → factor values d ts ≡ Some (complement x, r)
 unfolding factor
@@ -100,6 +100,6 @@ pub brackets_open : (d : ℕ) (ts us : List ℕ) (x : ℤ) (r : List ℕ) → 0 
 unfolding factor brackets
 brackets_open d ts us x r some n e f g h = subst (λ n. factor values n ts ≡ None) (deeper d some) (rw (sym n, sym e, sym f, g, sym h) refl)
 
-pub number_read : (d : ℕ) (ts : List ℕ) (r : Option ℤ) (new : List ℕ) → 0 < d → false ≡ begins 126 ts → false ≡ begins 40 ts → AnswersNumber (number ts) r new → Answers (factor values d ts) r new
+pub number_read : (d : ℕ) (ts : List ℕ) (r : Option ℤ) (new : List ℕ) → 0 < d → false ≡ begins 126 ts → false ≡ begins 40 ts → AnswersNumber (number ts) r new → AnswersScan (factor values d ts) r new
 unfolding factor
-number_read d ts r new some n e h = subst (λ n. Answers (factor values n ts) r new) (deeper d some) (rw (sym n, sym e) (number_by (number ts) r new h))
+number_read d ts r new some n e h = subst (λ n. AnswersScan (factor values n ts) r new) (deeper d some) (rw (sym n, sym e) (number_by (number ts) r new h))

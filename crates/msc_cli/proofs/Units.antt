@@ -2,7 +2,7 @@
 use Rattle.std.proofs.Common.{◌≡◌, ℕ, ◌<◌, true, List, [], ◌∷◌, ◌++◌, length, drop, Some, None, refl, sym, ap, ◌∙◌, length-append, arith}
 use Rattle.std.specs.Prelude.{nat_eq, codes}
 use Rattle.std.specs.List.{starts_with}
-use Rattle.c_mean.specs.SmallModel.{values, word, whole_expression, puts}
+use Rattle.c_mean.specs.model.SmallModel.{values, word, whole_expression, puts}
 use Rattle.c_mean.proofs.SmallUnits.{puts_more, whole_shrinks, word_shrinks, starts_sound}
 
 pub put_refused : (found ts us : List ℕ) → true ≡ starts_with nat_eq ts (codes "putchar(") → us ≡ drop 8 ts → whole_expression values us ≡ None → puts values found ts ≡ None

@@ -2,7 +2,7 @@
 use Rattle.std.proofs.Common.{◌≡◌, ℕ, ◌≤◌, List, length, Result, Ok, Err, subst}
 use Rattle.std.specs.Prelude.{IfOk, IsErrOf, Some, None}
 use Rattle.c_mean.specs.Small.{SmallUnit, IsSmall, written_by, status_of}
-use Rattle.c_mean.specs.SmallModel.{values, body}
+use Rattle.c_mean.specs.model.SmallModel.{values, body}
 use Rattle.c_mean.proofs.SmallLaws.{read_sound, read_complete}
 use Rattle.msc_cli.specs.declared.read_small.Small.{Small}
 use Rattle.msc_cli.specs.declared.read_small.ReadFault.{ReadFault}

@@ -1,12 +1,14 @@
+pub mod Limits
 pub mod Same
 pub mod SmallImage
 pub mod Output
 pub mod Outcome
 pub mod Request
-pub mod TopCall
+pub mod FromFile
+pub mod BuildImage
 pub mod ImageFault
 pub mod ReadImage
-pub mod Answers
 pub mod RunImage
 pub mod PrintTree
 pub mod Call
+pub mod model

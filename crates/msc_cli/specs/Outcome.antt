@@ -36,12 +36,12 @@ number_of (Trapped code) = Some code
 number_of (Stuck pc) = Some pc
 number_of _ = None
 
-abbrev pub numbered : List ℕ → ℕ → List ℕ
-numbered words n = words ++ (decimal n ++ 10 ∷ [])
+abbrev pub line_with : List ℕ → ℕ → List ℕ
+line_with words n = words ++ (decimal n ++ 10 ∷ [])
 
 abbrev pub with_number : List ℕ → Option ℕ → List ℕ
 with_number words None = words
-with_number words (Some n) = numbered words n
+with_number words (Some n) = line_with words n
 
 -- the bytes of the line
 abbrev pub line_of : Outcome → List ℕ

@@ -1,5 +1,5 @@
 -- What a refusal of bytes as an image says.
-use Rattle.std.specs.Prelude.{◌≡◌, ℕ, ◌<◌, ◌^◌, List, Some, get_or}
+use Rattle.std.specs.Prelude.{◌≡◌, ℕ, List, Some}
 use Rattle.msc_cli.specs.declared.read_image.ImageFault.{ImageFault}
 use Rattle.msc_cli.specs.declared.read_image.ImageFault.TheVariants.{BadImage, NoMemory}
 use Rattle.msc_cli.specs.ImageFault.{image_fault}
@@ -8,7 +8,3 @@ use Rattle.msc_cli.specs.ImageFault.{image_fault}
 abbrev pub IsFault : ImageFault → List ℕ → Type 0
 IsFault (BadImage at) bytes = image_fault bytes ≡ Some at
 IsFault NoMemory bytes = Unit {0}
-
--- each is a word of 32 bits
-abbrev pub AreWords : List ℕ → Type 0
-AreWords words = (i : ℕ) → get_or words i 0 < 2 ^ 32

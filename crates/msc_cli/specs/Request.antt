@@ -25,7 +25,7 @@ with_file file command = if is_option file then None else option_map (λ c. (c, 
 
 -- The command and its file: the words are the program's name, a command and a file that is no option, and
 -- perhaps an option with its value.
-abbrev pub requested : List (List ℕ) → Option (Command × List ℕ)
-requested (program ∷ command ∷ file ∷ []) = with_file file (command_at command)
-requested (program ∷ command ∷ file ∷ option ∷ pass ∷ []) = with_file file (command_with command option pass)
-requested words = None
+abbrev pub request_of : List (List ℕ) → Option (Command × List ℕ)
+request_of (program ∷ command ∷ file ∷ []) = with_file file (command_at command)
+request_of (program ∷ command ∷ file ∷ option ∷ pass ∷ []) = with_file file (command_with command option pass)
+request_of words = None

@@ -1,84 +1,62 @@
--- What is answered where an image is run, and what the output took.
-use Rattle.std.specs.Prelude.{◌≡◌, ℕ, ◌<◌, List, Option, Some, None, IfSome}
+-- What is answered where an image is run, and what that did to the input and the output.
+use Rattle.std.specs.Prelude.{◌≡◌, ℕ, ◌⊎◌, List, Option, Some, IfSome}
 use Rattle.alpha_isa.specs.Program.{Program}
-use Rattle.alpha_isa.specs.Behave.{behave_a}
-use Rattle.alpha_isa.specs.Behave as alpha
 use Rattle.alpha_isa.specs.ImageFormat.{IsImage}
 use Rattle.alpha_run.specs.declared.ending.Ending.{Ending}
 use Rattle.alpha_run.specs.declared.ending.Ending.TheVariants as ending
+use Rattle.alpha_run.specs.Run.{Traffic, Behaves}
 use Rattle.msc_cli.specs.declared.read_image.ImageFault.{ImageFault}
 use Rattle.msc_cli.specs.declared.read_image.ImageFault.TheVariants as fault
-use Rattle.msc_cli.specs.declared.run.TheConstants.{STACK, BUDGET}
 use Rattle.msc_cli.specs.declared.outcome.Outcome.{Outcome}
-use Rattle.msc_cli.specs.declared.outcome.Outcome.TheVariants.{Built, Printed, Ran, Trapped, Stuck, Budget, Usage, FileFault, InputFault, WriteFault, Refused, Limit, BadImage, NoMemory}
-use Rattle.msc_cli.specs.declared.outcome.SourceFault.TheVariants.{Form}
-use Rattle.msc_cli.specs.Output.{appended}
+use Rattle.msc_cli.specs.declared.outcome.Outcome.TheVariants.{Ran, Trapped, Stuck, Budget, InputFault, WriteFault, BadImage, NoMemory}
+use Rattle.msc_cli.specs.FromFile.{Does}
 use Rattle.msc_cli.specs.ImageFault.{image_fault}
-use Rattle.msc_cli.specs.TopCall.{IsCompiled, IsRefused}
+use Rattle.msc_cli.specs.BuildImage.{RefusesText, Compiles}
+use Rattle.msc_cli.specs.Limits.{default_stack, default_budget}
 
 -- the outcome of a run's ending
-abbrev pub told_by : Ending → Outcome
-told_by (ending.Done status) = Ran status
-told_by (ending.Trap code) = Trapped code
-told_by (ending.Stuck pc) = Stuck pc
-told_by ending.Budget = Budget BUDGET
-told_by ending.InputFault = InputFault
-told_by ending.WriteFault = WriteFault
+abbrev pub outcome_of_ending : Ending → Outcome
+outcome_of_ending (ending.Done status) = Ran status
+outcome_of_ending (ending.Trap code) = Trapped code
+outcome_of_ending (ending.Stuck pc) = Stuck pc
+outcome_of_ending ending.Budget = Budget default_budget
+outcome_of_ending ending.InputFault = InputFault
+outcome_of_ending ending.WriteFault = WriteFault
 
--- the outcome of a refusal of bytes as an image
-abbrev pub told_by_fault : ImageFault → Outcome
-told_by_fault (fault.BadImage at) = BadImage at
-told_by_fault fault.NoMemory = NoMemory
+-- the outcome where bytes are not read as an image
+abbrev pub outcome_of_image_fault : ImageFault → Outcome
+outcome_of_image_fault (fault.BadImage at) = BadImage at
+outcome_of_image_fault fault.NoMemory = NoMemory
 
--- The run of an image on an input, by the outcome: what it is at the budget, and after a fault of the outside
--- what it was after fewer steps. The output is what was put.
-abbrev pub IsRun : Program → List ℕ → Outcome → List ℕ → Type 0
-IsRun p input (Ran status) put = behave_a p STACK input BUDGET ≡ alpha.Done put status
-IsRun p input (Trapped code) put = behave_a p STACK input BUDGET ≡ alpha.Trap put code
-IsRun p input (Stuck pc) put = behave_a p STACK input BUDGET ≡ alpha.Stuck put pc
-IsRun p input (Budget steps) put = (steps ≡ BUDGET) × (behave_a p STACK input BUDGET ≡ alpha.More put)
-IsRun p input InputFault put = (k : ℕ) × (k < BUDGET) × (behave_a p STACK input k ≡ alpha.More put)
-IsRun p input WriteFault put = (k : ℕ) × (k < BUDGET) × (behave_a p STACK input k ≡ alpha.More put)
-IsRun p input _ put = ⊥
+-- the run of an image at the default stack and budget, on the input that is left, where it is told
+abbrev pub RunsBy : Program → Ending → Traffic → Traffic → Type 0
+RunsBy p e before after = (input : List ℕ) → before.left ≡ Some input → Behaves p default_stack input default_budget e before after
 
--- the same of an input that may be told, with what the output took
-abbrev pub IsRunOn : Program → Option (List ℕ) → Outcome → Option (List ℕ) → Option (List ℕ) → Type 0
-IsRunOn p None outcome old new = Unit {0}
-IsRunOn p (Some input) outcome old new = (put : List ℕ) × IsRun p input outcome put × (new ≡ appended put old)
+-- what is answered for an image: how its run ends, or want of memory, before anything is read or put
+abbrev pub RunsImage : Program → Outcome → Traffic → Traffic → Type 0
+RunsImage p answer before after =
+    ((answer ≡ NoMemory) × (after ≡ before)) ⊎ ((e : Ending) × (answer ≡ outcome_of_ending e) × RunsBy p e before after)
 
--- what is answered for an image: how its run ends, or want of memory, with nothing put
-abbrev pub RunsImage : Program → Option (List ℕ) → Outcome → Option (List ℕ) → Option (List ℕ) → Type 0
-RunsImage p input NoMemory old new = new ≡ old
-RunsImage p input Built old new = ⊥
-RunsImage p input Printed old new = ⊥
-RunsImage p input Usage old new = ⊥
-RunsImage p input FileFault old new = ⊥
-RunsImage p input (Refused fault) old new = ⊥
-RunsImage p input (Limit which counted) old new = ⊥
-RunsImage p input (BadImage at) old new = ⊥
-RunsImage p input outcome old new = IsRunOn p input outcome old new
+-- What `run` answers for a text, where it is told.
+abbrev pub Runs : Option (List ℕ) → Outcome → Traffic → Traffic → Type 0
+Runs text = Does (RefusesText text) (Compiles text) RunsImage
 
--- What `run` answers for a text, where it is told: it is compiled and its image runs, or it is no program.
-abbrev pub Runs : Option (List ℕ) → Option (List ℕ) → Outcome → Option (List ℕ) → Option (List ℕ) → Type 0
-Runs text input (Refused Form) old new = IfSome text IsRefused × (new ≡ old)
-Runs text input (Refused fault) old new = ⊥
-Runs text input FileFault old new = new ≡ old
-Runs text input NoMemory old new = new ≡ old
-Runs text input Built old new = ⊥
-Runs text input Printed old new = ⊥
-Runs text input Usage old new = ⊥
-Runs text input (Limit which counted) old new = ⊥
-Runs text input (BadImage at) old new = ⊥
-Runs text input outcome old new = (p : Program) × IfSome text (λ t. IsCompiled t p) × IsRunOn p input outcome old new
+-- why bytes are no image, where they are told
+abbrev pub RefusesBytes : Option (List ℕ) → Outcome → Type 0
+RefusesBytes bytes (BadImage at) = IfSome bytes (λ b. image_fault b ≡ Some at)
+RefusesBytes bytes _ = ⊥
 
--- What `exec` answers for bytes, where they are told: they are an image and it runs, or they stop being one.
-abbrev pub Executes : Option (List ℕ) → Option (List ℕ) → Outcome → Option (List ℕ) → Option (List ℕ) → Type 0
-Executes bytes input (BadImage at) old new = IfSome bytes (λ b. image_fault b ≡ Some at) × (new ≡ old)
-Executes bytes input FileFault old new = new ≡ old
-Executes bytes input NoMemory old new = new ≡ old
-Executes bytes input Built old new = ⊥
-Executes bytes input Printed old new = ⊥
-Executes bytes input Usage old new = ⊥
-Executes bytes input (Refused fault) old new = ⊥
-Executes bytes input (Limit which counted) old new = ⊥
-Executes bytes input outcome old new = (p : Program) × IfSome bytes (λ b. IsImage b p) × IsRunOn p input outcome old new
+-- the image of the bytes, where they are told
+abbrev pub Holds : Option (List ℕ) → Program → Type 0
+Holds bytes p = IfSome bytes (λ b. IsImage b p)
+
+-- What `exec` answers for bytes, where they are told.
+abbrev pub Executes : Option (List ℕ) → Outcome → Traffic → Traffic → Type 0
+Executes bytes = Does (RefusesBytes bytes) (Holds bytes) RunsImage
+
+-- what a run of a small program may answer: its status, unless the outside fails or memory is short
+pub data EndsWith (status : ℕ) : Outcome → Type 0 where
+  ran : EndsWith status (Ran status)
+  input_fault : EndsWith status InputFault
+  write_fault : EndsWith status WriteFault
+  no_memory : EndsWith status NoMemory

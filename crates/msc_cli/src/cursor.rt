@@ -2,8 +2,8 @@
 
 ghost use Rattle.std.specs.Prelude.{◌≡◌, length, drop, nat_eq, if◌then◌else◌, is_some, IfNone};
 ghost use Rattle.std.specs.List.{starts_with};
-ghost use Rattle.c_mean.specs.SmallModel as model;
-ghost use Rattle.msc_cli.specs.Answers.{Answers, AnswersNumber};
+ghost use Rattle.c_mean.specs.model.SmallModel as model;
+ghost use Rattle.msc_cli.specs.model.AnswersScan.{AnswersScan, AnswersNumber};
 
 use std::marker::Model;
 
@@ -67,7 +67,7 @@ impl<'a> Cursor<'a> {
 
     /// Goes over a decimal digit, if one is next, and gives its value.
     fn digit(&mut self) -> Option<u8>
-        ensures found { Answers (model.digit self.old) result self.new }
+        ensures found { AnswersScan (model.digit self.old) result self.new }
         ensures none { IfNone result (self.new ≡ self.old) }
     {
         match self.rest {

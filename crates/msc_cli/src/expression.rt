@@ -3,16 +3,16 @@
 //! Operators group to the left, so a chain of them is a loop. Only `(` and `~` recurse.
 
 ghost use Rattle.std.specs.Prelude.{◌≡◌};
-ghost use Rattle.c_mean.specs.SmallModel.{values};
-ghost use Rattle.c_mean.specs.SmallModel as model;
-ghost use Rattle.msc_cli.specs.Answers.{Answers};
+ghost use Rattle.c_mean.specs.model.SmallModel.{values};
+ghost use Rattle.c_mean.specs.model.SmallModel as model;
+ghost use Rattle.msc_cli.specs.model.AnswersScan.{AnswersScan};
 
 use crate::cursor::Cursor;
 
 /// Reads an expression in which `(` and `~` nest so deep at most (C99 6.5.6).
 #[cycle(expression)]
 pub fn expression(text: &mut Cursor<'_>, nesting: usize) -> Option<i32>
-    ensures { Answers (model.expression values (model.factor values nesting) text.old) result text.new }
+    ensures { AnswersScan (model.expression values (model.factor values nesting) text.old) result text.new }
 {
     let mut sum = term(text, nesting)?;
     loop {
@@ -31,7 +31,7 @@ pub fn expression(text: &mut Cursor<'_>, nesting: usize) -> Option<i32>
 /// Reads factors with `*` between them (C99 6.5.5).
 #[cycle(expression)]
 fn term(text: &mut Cursor<'_>, nesting: usize) -> Option<i32>
-    ensures { Answers (model.term values (model.factor values nesting) text.old) result text.new }
+    ensures { AnswersScan (model.term values (model.factor values nesting) text.old) result text.new }
 {
     let mut product = factor(text, nesting)?;
     while text.eat(b'*') {
@@ -44,7 +44,7 @@ fn term(text: &mut Cursor<'_>, nesting: usize) -> Option<i32>
 /// Reads a number, brackets, or `~` and a factor (C99 6.5.1, 6.5.3.3).
 #[cycle(expression)]
 fn factor(text: &mut Cursor<'_>, nesting: usize) -> Option<i32>
-    ensures { Answers (model.factor values nesting text.old) result text.new }
+    ensures { AnswersScan (model.factor values nesting text.old) result text.new }
 {
     if nesting == 0 {
         return text.number();

@@ -4,6 +4,7 @@
 pub mod build;
 mod cursor;
 mod expression;
+mod from_file;
 pub mod image_format;
 pub mod laws;
 pub mod outcome;

@@ -1,11 +1,11 @@
 //! How a call of the compiler ends: its outcome, the line that it writes, and the status of the process.
 
-ghost use Rattle.std.specs.Prelude.{◌≡◌, ◌≤◌, OnOk, OnErr};
-ghost use Rattle.bk_io.specs.Outside.{Rose};
-ghost use Rattle.msc_cli.specs.Outcome.{line_of, words_of, number_of, numbered, status_of};
-ghost use Rattle.msc_cli.specs.Output.{appended, TookFront, TookUnlessFault};
+ghost use Rattle.std.specs.Prelude.{◌≡◌};
+ghost use Rattle.bk_io.specs.Outside.{faults_after, TakesSlice};
+ghost use Rattle.msc_cli.specs.Outcome.{line_of, words_of, number_of, line_with, status_of};
+ghost use Rattle.msc_cli.specs.Output.{TookUnlessFault};
 
-use crate::output::{put_all, put_three};
+use crate::output::put_three;
 use bk_io::outside::{Failed, Sink};
 use itoa::Buffer;
 use thiserror::Error;
@@ -19,8 +19,8 @@ pub enum SourceFault {
     /// No token begins at this offset, in bytes (C99 6.4).
     #[error("no token begins at offset {at}")]
     Lex { at: u32 },
-    /// The token at this offset, in bytes, stands where the grammar has none such (C99 6.9).
-    #[error("no construct goes on at offset {at}")]
+    /// The tokens are refused from the one at this offset on, in bytes, or at the text's end (C99 6.9).
+    #[error("the token at offset {at} is refused")]
     Syntax { at: u32 },
 }
 
@@ -89,22 +89,19 @@ pub fn exit_code(outcome: &Outcome) -> u8
 
 /// Puts the line of an outcome, which takes no memory. A failed put ends the line there.
 pub fn put_line<S: Sink>(sink: &mut S, outcome: &Outcome)
-    ensures line { TookUnlessFault (line_of outcome.now) (S.taken sink.old) (S.taken sink.new) (S.faults sink.old) (S.faults sink.new) }
-    ensures kept { S.faults sink.old ≤ S.faults sink.new }
+    ensures { TookUnlessFault (line_of outcome.now) (S.taken sink.old) (S.taken sink.new) (S.faults sink.old) (S.faults sink.new) }
 {
     let said = said(outcome).as_bytes();
     let _ended = match number(outcome) {
-        None => put_all(sink, said),
-        Some(n) => put_numbered(sink, said, n),
+        None => sink.put_slice(said),
+        Some(n) => put_with_number(sink, said, n),
     };
 }
 
 /// Puts words, a number and a line feed.
-fn put_numbered<S: Sink>(sink: &mut S, said: &[u8], n: u64) -> Result<(), Failed>
-    ensures ok { OnOk result (S.taken sink.new ≡ appended (numbered said.now n) (S.taken sink.old)) }
-    ensures err { OnErr result (TookFront (numbered said.now n) (S.taken sink.old) (S.taken sink.new)) }
-    ensures failed { OnErr result (Rose (S.faults sink.old) (S.faults sink.new)) }
-    ensures kept { S.faults sink.old ≤ S.faults sink.new }
+fn put_with_number<S: Sink>(sink: &mut S, said: &[u8], n: u64) -> Result<(), Failed>
+    ensures taken { TakesSlice result (line_with said.now n) (S.taken sink.old) (S.taken sink.new) }
+    ensures count { S.faults sink.new ≡ faults_after result (S.faults sink.old) }
 {
     let mut buffer = Buffer::new();
     put_three(sink, said, buffer.format(n).as_bytes(), b"\n")

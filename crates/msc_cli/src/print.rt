@@ -1,15 +1,15 @@
 //! The command `print`: a C file in, the text of its syntax tree out.
 
-ghost use Rattle.std.specs.Prelude.{◌≡◌, ◌≢◌, ◌↔◌, IfSome, Some, IsTrue, option_map};
-ghost use Rattle.bk_io.specs.Outside.{Rose};
+ghost use Rattle.std.specs.Prelude.{◌≡◌, ◌≢◌, ◌↔◌, IfSome, IfErr, IfOk, Some, IsTrue, option_map};
 ghost use Rattle.bk_io.specs.Shelf.{is_due, after_call};
-ghost use Rattle.msc_cli.specs.PrintTree.{told_by_fault, WritesTree, Prints};
-ghost use Rattle.msc_cli.specs.TopCall.{text_of};
+ghost use Rattle.msc_cli.specs.FromFile.{text_of};
+ghost use Rattle.msc_cli.specs.PrintTree.{outcome_of_parse_fault, WritesTree, Prints};
+ghost use Rattle.msc_cli.specs.Output.{file_faults_after, output_faults_after};
 
-use crate::build::read_file;
+use crate::build::write_bytes;
+use crate::from_file::read_file;
 use crate::outcome::{Outcome, SourceFault, Which};
-use crate::output::put_all;
-use bk_io::outside::{FileFault, Files, Sink};
+use bk_io::outside::{Files, Sink};
 use c_parser::{ParseFault, parse};
 use c_tree::{TranslationUnit, tree_text};
 use std::alloc::Global;
@@ -19,7 +19,7 @@ const SOURCE_LIMIT: u64 = 4_194_305;
 
 /// The outcome where a text is not read.
 fn outcome_of_fault(fault: ParseFault) -> Outcome
-    ensures { result ≡ told_by_fault fault }
+    ensures { result ≡ outcome_of_parse_fault fault }
 {
     match fault {
         ParseFault::Lex { at } => Outcome::Refused(SourceFault::Lex { at }),
@@ -37,22 +37,22 @@ pub fn print<F: Files, O: Sink>(alloc: Global, name: &str, files: &mut F, out: &
     ensures answer { Prints (text_of (F.told files.old) name.now) result (O.taken out.old) (O.taken out.new) }
     ensures due { IfSome (F.told files.old) (λ shelf. (result ≡ Outcome.FileFault) ↔ IsTrue (is_due shelf name.now)) }
     ensures told { F.told files.new ≡ option_map after_call (F.told files.old) }
-    ensures file { result ≡ Outcome.FileFault → Rose (F.faults files.old) (F.faults files.new) }
-    ensures write { result ≡ Outcome.WriteFault → Rose (O.faults out.old) (O.faults out.new) }
+    ensures file_count { F.faults files.new ≡ file_faults_after result (F.faults files.old) }
+    ensures output_count { O.faults out.new ≡ output_faults_after result (O.faults out.old) }
+    ensures reads_none { result ≢ Outcome.InputFault }
 {
-    let text = match read_file(alloc, files, name, SOURCE_LIMIT) {
-        Ok(text) => text,
-        Err(FileFault::Failed) => return Outcome::FileFault,
-        Err(FileFault::NoMemory) => return Outcome::NoMemory,
-    };
-    print_text(alloc, text.as_slice(), out)
+    match read_file(alloc, files, name, SOURCE_LIMIT) {
+        Ok(text) => print_text(alloc, text.as_slice(), out),
+        Err(outcome) => outcome,
+    }
 }
 
 /// Writes the text of the syntax tree that a text spells.
 fn print_text<O: Sink>(alloc: Global, text: &[u8], out: &mut O) -> Outcome
     ensures answer { Prints (Some text.now) result (O.taken out.old) (O.taken out.new) }
-    ensures named { result ≢ Outcome.FileFault }
-    ensures write { result ≡ Outcome.WriteFault → Rose (O.faults out.old) (O.faults out.new) }
+    ensures count { O.faults out.new ≡ output_faults_after result (O.faults out.old) }
+    ensures no_file { result ≢ Outcome.FileFault }
+    ensures no_input { result ≢ Outcome.InputFault }
 {
     if text.len() as u64 >= SOURCE_LIMIT {
         return Outcome::Limit {
@@ -69,13 +69,12 @@ fn print_text<O: Sink>(alloc: Global, text: &[u8], out: &mut O) -> Outcome
 /// Writes the text of a tree.
 fn write_tree<O: Sink>(alloc: Global, unit: &TranslationUnit, out: &mut O) -> Outcome
     ensures answer { WritesTree unit.now result (O.taken out.old) (O.taken out.new) }
-    ensures write { result ≡ Outcome.WriteFault → Rose (O.faults out.old) (O.faults out.new) }
+    ensures count { O.faults out.new ≡ output_faults_after result (O.faults out.old) }
+    ensures no_file { result ≢ Outcome.FileFault }
+    ensures no_input { result ≢ Outcome.InputFault }
 {
     let Ok(bytes) = tree_text(alloc, unit) else {
         return Outcome::NoMemory;
     };
-    match put_all(out, bytes.as_slice()) {
-        Ok(()) => Outcome::Printed,
-        Err(_) => Outcome::WriteFault,
-    }
+    write_bytes(out, bytes.as_slice(), Outcome::Printed)
 }

@@ -177,11 +177,7 @@ pub fn read_image(alloc: Global, bytes: &[u8]) -> Result<Image, ImageFault>
         return Err(ImageFault::NoMemory);
     };
     match Vec::from_slice(alloc, &bytes[TEXT_OFFSET + 4 * count..]) {
-        Ok(bytes) => Ok(Image {
-            words,
-            bytes,
-            entry: header.entry,
-        }),
+        Ok(bytes) => Ok(Image::new(words, bytes, header.entry)),
         Err(_) => Err(ImageFault::NoMemory),
     }
 }

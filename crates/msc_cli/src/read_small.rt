@@ -2,8 +2,8 @@
 
 ghost use Rattle.std.specs.Prelude.{◌≡◌, IfOk, IsErrOf, OnOk, OnErr, []};
 ghost use Rattle.c_mean.specs.Small.{SmallUnit, IsSmall, written_by, status_of};
-ghost use Rattle.c_mean.specs.SmallModel.{values};
-ghost use Rattle.c_mean.specs.SmallModel as model;
+ghost use Rattle.c_mean.specs.model.SmallModel.{values};
+ghost use Rattle.c_mean.specs.model.SmallModel as model;
 
 use crate::cursor::Cursor;
 use crate::expression::expression;
@@ -46,7 +46,7 @@ pub fn read_small(alloc: Global, text: &[u8]) -> Result<Small, ReadFault>
 }
 
 /// Reads a text however long it is.
-#[tactic(auto, unfolding(c_mean::specs::SmallModel::body))]
+#[tactic(auto, unfolding(c_mean::specs::model::SmallModel::body))]
 fn read_unit(alloc: Global, text: &mut Cursor<'_>) -> Result<Small, ReadFault>
     ensures found { IfOk result (λ small. model.body values text.old ≡ Some ((small.puts.items, small.status), text.new)) }
     ensures form { IsErrOf result ReadFault.Form → model.body values text.old ≡ None }
@@ -86,7 +86,7 @@ fn low_byte(text: &mut Cursor<'_>) -> Result<u8, ReadFault>
 }
 
 /// Reads the word.
-#[tactic(auto, unfolding(c_mean::specs::SmallModel::word))]
+#[tactic(auto, unfolding(c_mean::specs::model::SmallModel::word))]
 fn expect(text: &mut Cursor<'_>, word: &[u8]) -> Result<(), ReadFault>
     ensures found { OnOk result (model.word word.now text.old ≡ Some (tt, text.new)) }
     ensures form { OnErr result (model.word word.now text.old ≡ None) }

@@ -1,11 +1,10 @@
 //! The top call.
 
 ghost use Rattle.std.specs.Prelude.{◌≡◌, ◌↔◌, None, map, string_bytes};
-ghost use Rattle.bk_io.specs.Outside.{Rose};
 ghost use Rattle.msc_cli.specs.Outcome.{line_of};
-ghost use Rattle.msc_cli.specs.Output.{TookUnlessFault};
-ghost use Rattle.msc_cli.specs.Request.{requested};
-ghost use Rattle.msc_cli.specs.Call.{Answers, FailsWhereDue, told_after, IsUnread};
+ghost use Rattle.msc_cli.specs.Output.{TookUnlessFault, file_faults_after, input_faults_after, output_faults_after};
+ghost use Rattle.msc_cli.specs.Request.{request_of};
+ghost use Rattle.msc_cli.specs.Call.{AnswersCall, FailsWhereDue, told_after};
 
 use crate::build::build;
 use crate::outcome::{Outcome, put_line};
@@ -26,18 +25,22 @@ pub fn msc_main<F: Files, I: Source, O: Sink, E: Sink>(
     out: &mut O,
     err: &mut E,
 ) -> Outcome
-    // Which outcomes there are by the words, the file and the input, and what the output took.
-    ensures answer { Answers (requested (map string_bytes words.now)) (F.told files.old) (I.left input.old) result (O.taken out.old) (O.taken out.new) }
-    ensures usage { (result ≡ Outcome.Usage) ↔ (requested (map string_bytes words.now) ≡ None) }
+    // Which outcomes there are by the words, the file and the input, and what was done to the input and the output.
+    ensures answer { AnswersCall (request_of (map string_bytes words.now)) (F.told files.old) result
+        (record { left = I.left input.old; made = I.made input.old; taken = O.taken out.old })
+        (record { left = I.left input.new; made = I.made input.new; taken = O.taken out.new }) }
+    ensures usage { (result ≡ Outcome.Usage) ↔ (request_of (map string_bytes words.now) ≡ None) }
 
     // A fault of the file comes exactly where its read is due to fail, where the files tell that.
-    ensures file { FailsWhereDue (requested (map string_bytes words.now)) (F.told files.old) result }
-    ensures file_fault { result ≡ Outcome.FileFault → Rose (F.faults files.old) (F.faults files.new) }
-    ensures input_fault { result ≡ Outcome.InputFault → Rose (I.faults input.old) (I.faults input.new) }
-    ensures write_fault { result ≡ Outcome.WriteFault → Rose (O.faults out.old) (O.faults out.new) }
+    ensures file { FailsWhereDue (request_of (map string_bytes words.now)) (F.told files.old) result }
 
-    ensures told { F.told files.new ≡ told_after (requested (map string_bytes words.now)) (F.told files.old) }
-    ensures unread { IsUnread (requested (map string_bytes words.now)) (I.left input.old) (I.left input.new) (I.made input.old) (I.made input.new) }
+    // The file that is named is read once. Each count of faults rises by one where the outcome tells that fault, and else
+    // is as before.
+    ensures told { F.told files.new ≡ told_after (request_of (map string_bytes words.now)) (F.told files.old) }
+    ensures file_count { F.faults files.new ≡ file_faults_after result (F.faults files.old) }
+    ensures input_count { I.faults input.new ≡ input_faults_after result (I.faults input.old) }
+    ensures output_count { O.faults out.new ≡ output_faults_after result (O.faults out.old) }
+
     ensures line { TookUnlessFault (line_of result) (E.taken err.old) (E.taken err.new) (E.faults err.old) (E.faults err.new) }
 {
     let outcome = perform(alloc, words, files, input, out);
@@ -53,14 +56,15 @@ fn perform<F: Files, I: Source, O: Sink>(
     input: &mut I,
     out: &mut O,
 ) -> Outcome
-    ensures answer { Answers (requested (map string_bytes words.now)) (F.told files.old) (I.left input.old) result (O.taken out.old) (O.taken out.new) }
-    ensures usage { (result ≡ Outcome.Usage) ↔ (requested (map string_bytes words.now) ≡ None) }
-    ensures file { FailsWhereDue (requested (map string_bytes words.now)) (F.told files.old) result }
-    ensures file_fault { result ≡ Outcome.FileFault → Rose (F.faults files.old) (F.faults files.new) }
-    ensures input_fault { result ≡ Outcome.InputFault → Rose (I.faults input.old) (I.faults input.new) }
-    ensures write_fault { result ≡ Outcome.WriteFault → Rose (O.faults out.old) (O.faults out.new) }
-    ensures told { F.told files.new ≡ told_after (requested (map string_bytes words.now)) (F.told files.old) }
-    ensures unread { IsUnread (requested (map string_bytes words.now)) (I.left input.old) (I.left input.new) (I.made input.old) (I.made input.new) }
+    ensures answer { AnswersCall (request_of (map string_bytes words.now)) (F.told files.old) result
+        (record { left = I.left input.old; made = I.made input.old; taken = O.taken out.old })
+        (record { left = I.left input.new; made = I.made input.new; taken = O.taken out.new }) }
+    ensures usage { (result ≡ Outcome.Usage) ↔ (request_of (map string_bytes words.now) ≡ None) }
+    ensures file { FailsWhereDue (request_of (map string_bytes words.now)) (F.told files.old) result }
+    ensures told { F.told files.new ≡ told_after (request_of (map string_bytes words.now)) (F.told files.old) }
+    ensures file_count { F.faults files.new ≡ file_faults_after result (F.faults files.old) }
+    ensures input_count { I.faults input.new ≡ input_faults_after result (I.faults input.old) }
+    ensures output_count { O.faults out.new ≡ output_faults_after result (O.faults out.old) }
 {
     let Some(request) = read_words(words) else {
         return Outcome::Usage;

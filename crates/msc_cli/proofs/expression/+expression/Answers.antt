@@ -1,7 +1,7 @@
 use Rattle.std.proofs.Common.{rules, arith, ◌≡◌, ◌∙◌, ap, sym, subst, Some, w32, FitsSigned, to_z}
-use Rattle.msc_cli.specs.Answers.{AnswersNumber}
+use Rattle.msc_cli.specs.model.AnswersScan.{AnswersNumber}
 use Rattle.std.proofs.lemmas.Int.{to_z-of_z, wraps}
-use Rattle.c_mean.specs.SmallModel.{values, begins, behind, number}
+use Rattle.c_mean.specs.model.SmallModel.{values, begins, behind, number}
 use Rattle.c_mean.proofs.SmallComplete.{sums_end, products_end}
 use Rattle.msc_cli.proofs.Steps.{first_term, no_term, first_factor, no_factor, plus_on, plus_refused, minus_on, minus_refused, times_on, times_refused, term_shorter, factor_shorter, turned_is, factor_bottom, turned_refused, turned_read, brackets_empty, brackets_read, brackets_open, number_read}
 use Rattle.msc_cli.proofs.expression.+expression.Goals as goal

@@ -1,7 +1,7 @@
 -- The nesting that is left, and within it from an expression down to a factor; a loop's text gets shorter.
 use Rattle.std.proofs.Common.{◌≡◌, ◌+◌, ◌*◌, length}
-use Rattle.c_mean.specs.SmallModel.{values}
-use Rattle.c_mean.specs.SmallModel as model
+use Rattle.c_mean.specs.model.SmallModel.{values}
+use Rattle.c_mean.specs.model.SmallModel as model
 use Rattle.msc_cli.proofs.expression.+expression.Given as goal
 
 abbrev pub decreases-expression : goal.decreases-expression

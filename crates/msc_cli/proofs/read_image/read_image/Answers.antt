@@ -18,8 +18,8 @@ returns-in-Ok-from_slice-clause-found c =
     let due : length c.args.bytes.now ≡ 20 + 4 * c.in-Ok.header.words + c.in-Ok.header.bytes = c.in-None.ensures.due refl in
     let rest : c.in-Ok-from_slice.bytes.items ≡ drop (20 + 4 * c.in-Ok.header.words) c.args.bytes.now =
     c.in-Ok-from_slice.ensures.items ∙ take_all _ _ (simp length-drop (omega arith)) in
-    found c.args.bytes.now c.in-Ok-read_numbers.words.items c.in-Ok-from_slice.bytes.items c.in-Ok.header.words c.in-Ok.header.bytes c.in-Ok.header.entry
-    (λ k. omega (arith, c.type_inv.bytes k)) c.in-Ok.ensures.fault fields.0 fields.1 fields.2 due c.in-Ok-read_numbers.ensures.numbers c.in-Ok-read_numbers.ensures.count rest c.in-Ok.ensures.within
+    found c.args.bytes.now c.in-Ok-read_numbers.words.items c.in-Ok-from_slice.bytes.items c.in-Ok.header.words c.in-Ok.header.bytes c.in-Ok.header.entry _
+    (λ k. omega (arith, c.type_inv.bytes k)) c.in-Ok.ensures.fault fields.0 fields.1 fields.2 due c.in-Ok-read_numbers.ensures.numbers c.in-Ok-read_numbers.ensures.count rest c.new.ensures.image c.new.ensures.lawful
 
 pub returns-in-Ok-from_slice-clause-good : goal.returns-in-Ok-from_slice-clause-good
 returns-in-Ok-from_slice-clause-good c =

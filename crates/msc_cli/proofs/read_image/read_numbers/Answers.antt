@@ -12,6 +12,6 @@ loop-i-preserved c =
     let read : c.number.result ≡ number_at c.args.bytes.now (c.args.start + 4 * c.loop-i.i) =
     c.number.ensures ∙ ap (λ n. from_le_bytes w32 (take n (drop (c.args.start + 4 * c.loop-i.i) c.args.bytes.now))) four in
     record {
-      image_spelling = ap (flat_map number) c.in_ok-push.ensures.items ∙ more_numbers c.args.bytes.now c.loop-i.numbers.items c.args.start c.loop-i.i c.number.result (λ k. omega (arith, c.type_inv.bytes k)) (omega arith) c.loop-i.invariant.spelled read;
+      spelled = ap (flat_map number) c.in_ok-push.ensures.items ∙ more_numbers c.args.bytes.now c.loop-i.numbers.items c.args.start c.loop-i.i c.number.result (λ k. omega (arith, c.type_inv.bytes k)) (omega arith) c.loop-i.invariant.spelled read;
       count = ap length c.in_ok-push.ensures.items ∙ simp length-append (omega arith);
     }

@@ -6,6 +6,6 @@ use Rattle.msc_cli.proofs.read_image.read_numbers.Given as goal
 
 abbrev pub invariant-loop-i : goal.invariant-loop-i
 invariant-loop-i l = record {
-  image_spelling : flat_map number l.numbers.items ≡ take (4 * l.i) (drop l.start l.bytes);
+  spelled : flat_map number l.numbers.items ≡ take (4 * l.i) (drop l.start l.bytes);
   count : length l.numbers.items ≡ l.i;
 }

@@ -1,5 +1,5 @@
 use Rattle.std.proofs.Common.{rules, ◌≡◌, ◌∙◌, ap, sym, Some, ◌∷◌, ◌++◌, []}
-use Rattle.c_mean.specs.SmallModel.{values, puts}
+use Rattle.c_mean.specs.model.SmallModel.{values, puts}
 use Rattle.c_mean.proofs.SmallUnits.{puts_over}
 use Rattle.msc_cli.proofs.Units.{put_refused, close_refused, put_on, put_shorter}
 use Rattle.msc_cli.proofs.read_small.read_puts.Goals as goal

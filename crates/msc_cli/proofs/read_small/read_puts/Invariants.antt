@@ -1,7 +1,7 @@
 -- The bytes so far, and the calls that are left, make what they all make.
 use Rattle.std.proofs.Common.{◌≡◌, [], length}
-use Rattle.c_mean.specs.SmallModel.{values}
-use Rattle.c_mean.specs.SmallModel as model
+use Rattle.c_mean.specs.model.SmallModel.{values}
+use Rattle.c_mean.specs.model.SmallModel as model
 use Rattle.msc_cli.proofs.read_small.read_puts.Given as goal
 
 abbrev pub invariant-loop-text : goal.invariant-loop-text

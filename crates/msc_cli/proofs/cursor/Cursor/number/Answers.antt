@@ -1,6 +1,6 @@
 use Rattle.std.proofs.Common.{rules, arith, ◌≡◌, ◌∙◌, ap, sym, Some, ◌+◌, ◌*◌, w32}
 use Rattle.std.proofs.lemmas.Int.{to_z_pos}
-use Rattle.c_mean.specs.SmallModel.{digits, number}
+use Rattle.c_mean.specs.model.SmallModel.{digits, number}
 use Rattle.c_mean.proofs.SmallNumbers.{digits_end}
 use Rattle.msc_cli.proofs.Numbers.{number_none, number_zeros, number_alone, number_first, digit_small, digits_on, digits_large}
 use Rattle.msc_cli.proofs.cursor.Cursor.number.Goals as goal

@@ -1,6 +1,6 @@
 use Rattle.std.proofs.Common.{Err, ap}
 use Rattle.msc_cli.proofs.Compile.{few_puts, compiled}
-use Rattle.msc_cli.proofs.build.compile.Goals as goal
+use Rattle.msc_cli.proofs.from_file.compile.Goals as goal
 
 pub returns-in-Err-Form-clause-form : goal.returns-in-Err-Form-clause-form
 returns-in-Err-Form-clause-form c _ = c.in-Err-Form.ensures.form (ap Err c.in-Err-Form.field-0-is)

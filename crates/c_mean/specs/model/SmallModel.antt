@@ -9,7 +9,7 @@ use Rattle.c_mean.specs.Small.{Expression, Number, Complement, Sum, Difference, 
 -- what is made of the forms of an expression, and of a whole one that is put or returned
 pub record Making (V B : Type 0) : Type 0 where
   pub number : ℕ → V
-  pub turned : V → V
+  pub tilde : V → V
   pub sum : V → V → V
   pub difference : V → V → V
   pub product : V → V → V
@@ -17,13 +17,13 @@ pub record Making (V B : Type 0) : Type 0 where
 
 -- the trees
 abbrev pub trees : Making Expression Expression
-trees = record { number = Number; turned = Complement; sum = Sum; difference = Difference; product = Product; whole = λ x. x }
+trees = record { number = Number; tilde = Complement; sum = Sum; difference = Difference; product = Product; whole = λ x. x }
 
 -- the values, and of a whole expression its value modulo 256
 abbrev pub values : Making ℤ ℕ
 values = record {
   number = pos;
-  turned = complement;
+  tilde = complement;
   sum = λ x y. int_wrap w32 (x +ℤ y);
   difference = λ x y. int_wrap w32 (x -ℤ y);
   product = λ x y. int_wrap w32 (x *ℤ y);
@@ -118,7 +118,7 @@ module _ {V B : Type 0} (making : Making V B) where
   -- `(` and `~` nest so deep at most
   unfoldable pub factor : ℕ → List ℕ → ScanOutcome V
   factor zero ts = make_number (number ts)
-  factor (suc d) ts = if begins 126 ts then and_then (factor d (behind ts)) (λ x r. Some (making.turned x, r))
+  factor (suc d) ts = if begins 126 ts then and_then (factor d (behind ts)) (λ x r. Some (making.tilde x, r))
       else (if begins 40 ts then brackets (factor d) (behind ts) else make_number (number ts))
 
   -- ---- programs

@@ -1,0 +1,51 @@
+-- What `build` answers, and what it writes.
+use Rattle.std.specs.Prelude.{◌≡◌, ℕ, ◌≤◌, ◌⊎◌, List, length, take, Option, IfSome}
+use Rattle.bk_io.specs.Outside.{taken_with}
+use Rattle.c_mean.specs.Behaviour.{Done}
+use Rattle.c_mean.specs.Small.{SmallUnit, IsSmall, written_by, status_of, behave_c, meaning}
+use Rattle.alpha_isa.specs.Program.{Program, IsLawful}
+use Rattle.alpha_isa.specs.Behave.{IsStack}
+use Rattle.alpha_isa.specs.ImageFormat.{image_spelling}
+use Rattle.msc_cli.specs.declared.outcome.Outcome.{Outcome}
+use Rattle.msc_cli.specs.declared.outcome.Outcome.TheVariants.{Built, WriteFault, Refused, NoMemory}
+use Rattle.msc_cli.specs.declared.outcome.SourceFault.TheVariants.{Form}
+use Rattle.msc_cli.specs.FromFile.{Does}
+use Rattle.msc_cli.specs.Output.{TookFront}
+use Rattle.msc_cli.specs.SmallImage.{small_program}
+use Rattle.msc_cli.specs.Same.{Same}
+
+-- The text is a program, the image is the one that is made of it, and it behaves as that program does, on every stack.
+pub record IsCompiled (text : List ℕ) (p : Program) : Type 0 where
+  pub unit : SmallUnit
+  pub reads : IsSmall text unit
+  pub image : p ≡ small_program (written_by unit) (status_of unit)
+  pub same : (stack : ℕ) → IsStack stack → Same (meaning unit) p stack
+
+-- the text is a program that ends with this output and status on the input
+abbrev pub DoesAlike : List ℕ → List ℕ → List ℕ → ℕ → Type 0
+DoesAlike text input output status = (u : SmallUnit) × (n : ℕ) × IsSmall text u × (behave_c u input n ≡ Done output status)
+
+-- the text is no program
+abbrev pub IsRefused : List ℕ → Type 0
+IsRefused text = (u : SmallUnit) → IsSmall text u → ⊥
+
+-- why no image is made of a text, where it is told
+abbrev pub RefusesText : Option (List ℕ) → Outcome → Type 0
+RefusesText text (Refused Form) = IfSome text IsRefused
+RefusesText text _ = ⊥
+
+-- an image is made of the text, where it is told
+abbrev pub Compiles : Option (List ℕ) → Program → Type 0
+Compiles text p = IfSome text (λ t. IsCompiled t p)
+
+-- What is answered where bytes are put, and what the output took: all of them, or a front of them before a put that failed.
+abbrev pub PutsBytes : Outcome → List ℕ → Outcome → Option (List ℕ) → Option (List ℕ) → Type 0
+PutsBytes done bytes answer old new = ((answer ≡ done) × (new ≡ taken_with bytes old)) ⊎ ((answer ≡ WriteFault) × TookFront bytes old new)
+
+-- the bytes of an image are put, or memory is short
+abbrev pub WritesImage : Program → Outcome → Option (List ℕ) → Option (List ℕ) → Type 0
+WritesImage p answer old new = ((answer ≡ NoMemory) × (new ≡ old)) ⊎ (IsLawful p × PutsBytes Built (image_spelling p) answer old new)
+
+-- What `build` answers for a text, where it is told, and what the output took.
+abbrev pub Builds : Option (List ℕ) → Outcome → Option (List ℕ) → Option (List ℕ) → Type 0
+Builds text = Does (RefusesText text) (Compiles text) WritesImage

@@ -1,0 +1,39 @@
+-- What is read of a file, what is made of it, and what is answered where nothing is made.
+use Rattle.std.specs.Prelude.{◌≡◌, ℕ, ◌<◌, ◌≤◌, ◌⊎◌, List, length, take, Option, option_map}
+use Rattle.bk_io.specs.Shelf.{Shelf, file_of}
+use Rattle.bk_io.specs.declared.outside.FileFault.{FileFault as Fault}
+use Rattle.bk_io.specs.declared.outside.FileFault.TheVariants as fault
+use Rattle.msc_cli.specs.declared.outcome.Outcome.{Outcome}
+use Rattle.msc_cli.specs.declared.outcome.Outcome.TheVariants.{FileFault, Refused, NoMemory}
+use Rattle.msc_cli.specs.declared.outcome.SourceFault.TheVariants.{Form}
+use Rattle.msc_cli.specs.declared.read_small.ReadFault.{ReadFault}
+use Rattle.msc_cli.specs.declared.read_small.ReadFault.TheVariants as read
+
+-- the bytes of a file, where they are told
+abbrev pub text_of : Option Shelf → List ℕ → Option (List ℕ)
+text_of told name = option_map (λ shelf. file_of shelf name) told
+
+-- what is read of a file: all of it where it is shorter than the limit, else that many bytes
+abbrev pub IsFront : ℕ → List ℕ → List ℕ → Type 0
+IsFront limit file text = ((text ≡ file) × (length file < limit)) ⊎ ((text ≡ take limit file) × (limit ≤ length file))
+
+-- the outcome where a file is not read
+abbrev pub outcome_of_file_fault : Fault → Outcome
+outcome_of_file_fault fault.Failed = FileFault
+outcome_of_file_fault fault.NoMemory = NoMemory
+
+-- the outcome where a text is not compiled
+abbrev pub outcome_of_read_fault : ReadFault → Outcome
+outcome_of_read_fault read.Form = Refused Form
+outcome_of_read_fault read.NoMemory = NoMemory
+
+-- Why there is nothing to go on with: the file was not read, memory is short, or what the file holds is refused.
+abbrev pub IsCause : (Outcome → Type 0) → Outcome → Type 0
+IsCause refuses FileFault = Unit {0}
+IsCause refuses NoMemory = Unit {0}
+IsCause refuses outcome = refuses outcome
+
+-- Either nothing is made of the file, for a cause, and nothing is done, or something is made of it and is gone on with.
+abbrev pub Does : {X S : Type 0} → (Outcome → Type 0) → (X → Type 0) → (X → Outcome → S → S → Type 0) → Outcome → S → S → Type 0
+Does refuses made goes_on answer before after =
+    (IsCause refuses answer × (after ≡ before)) ⊎ ((x : _) × made x × goes_on x answer before after)

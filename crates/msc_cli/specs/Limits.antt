@@ -1,0 +1,23 @@
+-- What a run is given, and how much is read of a file.
+use Rattle.std.specs.Prelude.{ℕ}
+
+-- the stack of a run, in bytes, and its steps
+abbrev pub default_stack : ℕ
+default_stack = 8388608
+
+abbrev pub default_budget : ℕ
+default_budget = 1000000000
+
+-- how many bytes a C text may have
+abbrev pub most_source : ℕ
+most_source = 4194304
+
+-- how many bytes are read of a C file of the small form, of any C file and of an image: one more than they may have
+abbrev pub small_limit : ℕ
+small_limit = 4097
+
+abbrev pub source_limit : ℕ
+source_limit = 4194305
+
+abbrev pub image_limit : ℕ
+image_limit = 1140850709

@@ -1,0 +1,134 @@
+//! What the commands share: a file is read, and an image is made of what it holds.
+
+ghost use Rattle.std.specs.Prelude.{◌≡◌, ◌↔◌, IfOk, IfErr, IfSome, IsErrOf, IsTrue, option_map};
+ghost use Rattle.bk_io.specs.Shelf.{is_due, file_of, after_call};
+ghost use Rattle.msc_cli.specs.FromFile as spec;
+ghost use Rattle.msc_cli.specs.FromFile.{text_of, IsFront, IsCause};
+ghost use Rattle.msc_cli.specs.BuildImage.{IsCompiled, IsRefused, RefusesText, Compiles};
+ghost use Rattle.msc_cli.specs.RunImage as run_spec;
+ghost use Rattle.msc_cli.specs.RunImage.{RefusesBytes, Holds};
+ghost use Rattle.msc_cli.specs.Output.{file_faults_unless};
+
+use crate::outcome::{Outcome, SourceFault};
+use crate::read_image::{ImageFault, read_image};
+use crate::read_small::{ReadFault, read_small};
+use crate::small_image::small_image;
+use alpha_isa::image::Image;
+use bk_io::outside::{FileFault, Files};
+use std::alloc::Global;
+
+/// How many bytes of a C file of the small form are read: one more than it may have.
+const SMALL_LIMIT: u64 = 4_097;
+
+/// How many bytes of an image are read: one more than the longest image has.
+const IMAGE_LIMIT: u64 = 1_140_850_709;
+
+/// The outcome where a file is not read.
+fn outcome_of_file_fault(fault: FileFault) -> Outcome
+    ensures { result ≡ spec.outcome_of_file_fault fault }
+{
+    match fault {
+        FileFault::Failed => Outcome::FileFault,
+        FileFault::NoMemory => Outcome::NoMemory,
+    }
+}
+
+/// The outcome where a text is not compiled.
+fn outcome_of_read_fault(fault: ReadFault) -> Outcome
+    ensures { result ≡ spec.outcome_of_read_fault fault }
+{
+    match fault {
+        ReadFault::Form => Outcome::Refused(SourceFault::Form),
+        ReadFault::NoMemory => Outcome::NoMemory,
+    }
+}
+
+/// The outcome where bytes are not read as an image.
+fn outcome_of_image_fault(fault: ImageFault) -> Outcome
+    ensures { result ≡ run_spec.outcome_of_image_fault fault }
+{
+    match fault {
+        ImageFault::BadImage { at } => Outcome::BadImage { at },
+        ImageFault::NoMemory => Outcome::NoMemory,
+    }
+}
+
+/// Reads at most `limit` bytes of a file.
+pub(crate) fn read_file<F: Files>(
+    alloc: Global,
+    files: &mut F,
+    name: &str,
+    limit: u64,
+) -> Result<Vec<u8>, Outcome>
+    ensures text { IfOk result (λ text. IfSome (F.told files.old) (λ shelf. IsFront limit (file_of shelf name.now) text.items)) }
+    ensures cause { IfErr result (IsCause (λ _. ⊥)) }
+    ensures due { IfSome (F.told files.old) (λ shelf. IsErrOf result Outcome.FileFault ↔ IsTrue (is_due shelf name.now)) }
+    ensures told { F.told files.new ≡ option_map after_call (F.told files.old) }
+    ensures count { F.faults files.new ≡ file_faults_unless result (F.faults files.old) }
+{
+    let mut text = Vec::new(alloc);
+    match files.read(name, &mut text, limit) {
+        Ok(_) => Ok(text),
+        Err(fault) => Err(outcome_of_file_fault(fault)),
+    }
+}
+
+/// The image of the program that a text is.
+fn compile(alloc: Global, text: &[u8]) -> Result<Image, ReadFault>
+    ensures compiled { IfOk result (IsCompiled text.now) }
+    ensures form { IsErrOf result ReadFault.Form → IsRefused text.now }
+{
+    let small = match read_small(alloc, text) {
+        Ok(small) => small,
+        Err(ReadFault::Form) => return Err(ReadFault::Form),
+        Err(ReadFault::NoMemory) => return Err(ReadFault::NoMemory),
+    };
+    match small_image(alloc, &small) {
+        Ok(image) => Ok(image),
+        Err(_) => Err(ReadFault::NoMemory),
+    }
+}
+
+/// Compiles a C file.
+pub(crate) fn compile_file<F: Files>(
+    alloc: Global,
+    files: &mut F,
+    name: &str,
+) -> Result<Image, Outcome>
+    ensures image { IfOk result (Compiles (text_of (F.told files.old) name.now)) }
+    ensures cause { IfErr result (IsCause (RefusesText (text_of (F.told files.old) name.now))) }
+    ensures due { IfSome (F.told files.old) (λ shelf. IsErrOf result Outcome.FileFault ↔ IsTrue (is_due shelf name.now)) }
+    ensures told { F.told files.new ≡ option_map after_call (F.told files.old) }
+    ensures count { F.faults files.new ≡ file_faults_unless result (F.faults files.old) }
+{
+    let text = match read_file(alloc, files, name, SMALL_LIMIT) {
+        Ok(text) => text,
+        Err(outcome) => return Err(outcome),
+    };
+    match compile(alloc, text.as_slice()) {
+        Ok(image) => Ok(image),
+        Err(fault) => Err(outcome_of_read_fault(fault)),
+    }
+}
+
+/// Reads a file as an image.
+pub(crate) fn image_in_file<F: Files>(
+    alloc: Global,
+    files: &mut F,
+    name: &str,
+) -> Result<Image, Outcome>
+    ensures image { IfOk result (Holds (text_of (F.told files.old) name.now)) }
+    ensures cause { IfErr result (IsCause (RefusesBytes (text_of (F.told files.old) name.now))) }
+    ensures due { IfSome (F.told files.old) (λ shelf. IsErrOf result Outcome.FileFault ↔ IsTrue (is_due shelf name.now)) }
+    ensures told { F.told files.new ≡ option_map after_call (F.told files.old) }
+    ensures count { F.faults files.new ≡ file_faults_unless result (F.faults files.old) }
+{
+    let bytes = match read_file(alloc, files, name, IMAGE_LIMIT) {
+        Ok(bytes) => bytes,
+        Err(outcome) => return Err(outcome),
+    };
+    match read_image(alloc, bytes.as_slice()) {
+        Ok(image) => Ok(image),
+        Err(fault) => Err(outcome_of_image_fault(fault)),
+    }
+}
