@@ -10,7 +10,8 @@ use Rattle.c_nesting.specs.HasNesting.{IsTokens, HasNesting, toks_of, role_of_to
 use Rattle.c_nesting.proofs.Reading.{roles-lexemes}
 use Rattle.c_grammar.specs.ParseUnits.{unit}
 use Rattle.c_grammar.proofs.ReadUnits.{complete}
-use Rattle.c_grammar.proofs.SoundUnits.{sound, refused_end}
+use Rattle.c_grammar.proofs.SoundUnits.{sound}
+use Rattle.c_grammar.proofs.Exact.{refused_from}
 use Rattle.c_grammar.proofs.FewUnits.{unit_few}
 use Rattle.c_expression_parser.proofs.Lexemes.{length_lexemes}
 use Rattle.c_parser.specs.declared.fault.ParseFault.{ParseFault}
@@ -44,8 +45,9 @@ not_read_of text ts (Err (Syntax at)) are within gives = record {
   are_tokens = are;
   within = within;
   none = λ tree reads. not_both (unit (toks_of text ts)) tree gives.rest (complete (toks_of text ts) tree reads) gives.refused;
-  refuses = gives;
-  ends = refused_end (toks_of text ts) gives.rest gives.refused;
+  rest = gives.rest;
+  refused = refused_from (toks_of text ts) gives.rest gives.refused;
+  place = gives.place;
 }
 not_read_of text ts (Err NoMemory) are within gives = tt
 

@@ -1,22 +1,15 @@
 -- What a text is read as, and why it is not.
-use Rattle.std.specs.Prelude.{◌≡◌, ℕ, ◌≤◌, ◌<◌, List, Result, Ok, Err}
+use Rattle.std.specs.Prelude.{◌≡◌, ℕ, ◌≤◌, ◌<◌, List}
 use Rattle.c_lexer.specs.Pieces.{Lexeme, Toks, Tokens, FaultAt}
 use Rattle.c_tree.specs.declared.declarations.TranslationUnit.{TranslationUnit}
 use Rattle.c_nesting.specs.Nesting.{nesting_of}
 use Rattle.c_nesting.specs.HasNesting.{HasNesting}
 use Rattle.c_grammar.specs.Units.{Reads}
-use Rattle.c_grammar.specs.Parser.{IsEnd}
-use Rattle.c_grammar.specs.ParseUnits.{unit}
+use Rattle.c_grammar.specs.Refused.{RefusedFrom}
 use Rattle.c_expression_parser.specs.Answers.{place_or}
 use Rattle.c_parser.specs.declared.fault.ParseFault.{ParseFault}
 use Rattle.c_parser.specs.declared.fault.ParseFault.TheVariants.{Lex, Nesting, Syntax, NoMemory}
 use Rattle.c_parser.specs.Limits.{most_nesting}
-
--- The tokens are refused from one on, which stands at this offset, or behind the last, at the text's length.
-pub record IsRefused (toks : Toks) (at : ℕ) : Type 0 where
-  pub rest : List Lexeme
-  pub refused : unit toks ≡ Err rest
-  pub place : at ≡ place_or toks.size rest
 
 -- The text is all tokens, of a nesting within the limit, and the unit is a reading of them (C99 6.9).
 pub record IsRead (text : List ℕ) (tree : TranslationUnit) : Type 0 where
@@ -25,14 +18,16 @@ pub record IsRead (text : List ℕ) (tree : TranslationUnit) : Type 0 where
   pub within : nesting_of toks.items ≤ most_nesting
   pub reads : Reads toks tree
 
--- The text is all tokens, of a nesting within the limit, but they have no reading: they are refused from one on.
+-- The text is all tokens, of a nesting within the limit, but they have no reading: the refused token, which stands at this
+-- offset, is the first that ends no front of a list with a reading. Where each front can go on, it is the text's length.
 pub record HasNoReading (text : List ℕ) (at : ℕ) : Type 0 where
   pub toks : Toks
   pub are_tokens : Tokens text toks
   pub within : nesting_of toks.items ≤ most_nesting
   pub none : (tree : TranslationUnit) → Reads toks tree → ⊥
-  pub refuses : IsRefused toks at
-  pub ends : IsEnd refuses.rest toks.items
+  pub rest : List Lexeme
+  pub refused : RefusedFrom toks.items rest
+  pub place : at ≡ place_or toks.size rest
 
 abbrev pub IsNotRead : List ℕ → ParseFault → Type 0
 IsNotRead text (Lex at) = FaultAt text at

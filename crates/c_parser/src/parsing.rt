@@ -71,7 +71,8 @@ fn unit_within(alloc: Global, text: &[u8], tokens: &[Token]) -> Result<Translati
 /// [`ParseFault::Lex`] where the text has an offset at which no token begins, with the first;
 /// [`ParseFault::Nesting`] where it has none and its nesting exceeds 256, with the nesting;
 /// [`ParseFault::Syntax`] where neither holds and its tokens have no reading, with the offset of the
-/// refused token, or the text's length; and [`ParseFault::NoMemory`], also where more than 1,024
+/// refused token, the first that ends no front of any list of tokens with a reading, or the text's
+/// length where each front can go on; and [`ParseFault::NoMemory`], also where more than 1,024
 /// constructs are open in one another, or the tree would be higher.
 pub fn parse(alloc: Global, text: &[u8]) -> Result<TranslationUnit, ParseFault>
     requires { length text.now ≤ most_bytes }

@@ -5,7 +5,8 @@ use Rattle.c_tree.specs.declared.declarations.TranslationUnit.{TranslationUnit}
 use Rattle.c_tree.specs.Nodes.{text_of as tree_text}
 use Rattle.c_parser.specs.declared.fault.ParseFault.{ParseFault}
 use Rattle.c_parser.specs.declared.fault.ParseFault.TheVariants as fault
-use Rattle.c_parser.specs.HasNesting.{HasNesting}
+use Rattle.c_nesting.specs.HasNesting.{HasNesting}
+use Rattle.c_parser.specs.Limits.{most_nesting}
 use Rattle.c_parser.specs.Reading.{IsRead, HasNoReading}
 use Rattle.msc_cli.specs.declared.outcome.Outcome.{Outcome}
 use Rattle.msc_cli.specs.declared.outcome.Outcome.TheVariants.{Printed, Refused, Limit, NoMemory}
@@ -30,7 +31,7 @@ Spells text tree = (length text ≤ most_source) × IsRead text tree
 abbrev pub SpellsNone : List ℕ → Outcome → Type 0
 SpellsNone text (Limit Text counted) = (most_source < length text) × (counted ≡ source_limit)
 SpellsNone text (Refused (Lex at)) = (length text ≤ most_source) × FaultAt text at
-SpellsNone text (Limit Nesting counted) = (length text ≤ most_source) × HasNesting text counted × (256 < counted)
+SpellsNone text (Limit Nesting counted) = (length text ≤ most_source) × HasNesting text counted × (most_nesting < counted)
 SpellsNone text (Refused (Syntax at)) = (length text ≤ most_source) × HasNoReading text at
 SpellsNone text _ = ⊥
 

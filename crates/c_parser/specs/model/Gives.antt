@@ -1,11 +1,17 @@
 -- What tokens give, whatever they nest.
-use Rattle.std.specs.Prelude.{◌≡◌, Result, Ok, Err}
-use Rattle.c_lexer.specs.Pieces.{Toks}
+use Rattle.std.specs.Prelude.{◌≡◌, ℕ, List, Result, Ok, Err}
+use Rattle.c_lexer.specs.Pieces.{Lexeme, Toks}
 use Rattle.c_tree.specs.declared.declarations.TranslationUnit.{TranslationUnit}
 use Rattle.c_grammar.specs.ParseUnits.{unit}
+use Rattle.c_expression_parser.specs.Answers.{place_or}
 use Rattle.c_parser.specs.declared.fault.ParseFault.{ParseFault}
 use Rattle.c_parser.specs.declared.fault.ParseFault.TheVariants.{Lex, Nesting, Syntax, NoMemory}
-use Rattle.c_parser.specs.Reading.{IsRefused}
+
+-- The tokens are refused from one on, which stands at this offset, or behind the last, at the text's length.
+pub record IsRefused (toks : Toks) (at : ℕ) : Type 0 where
+  pub rest : List Lexeme
+  pub refused : unit toks ≡ Err rest
+  pub place : at ≡ place_or toks.size rest
 
 abbrev pub Gives : Toks → Result TranslationUnit ParseFault → Type 0
 Gives toks (Ok tree) = unit toks ≡ Ok tree
