@@ -5,7 +5,69 @@ use crate::memory::{MemFiles, MemSink, MemSource};
 use crate::outside::{Failed, FileFault, Files, Got, Sink, Source};
 use std::fs;
 use std::fs::File;
+use std::io::{self, BufWriter, ErrorKind, Read, Write};
 use std::test::Fail;
+
+/// A reader whose reads fail.
+#[derive(Drop)]
+struct Broken;
+
+impl Read for Broken {
+    fn read(&mut self, _buf: &mut [u8]) -> io::Result<usize> {
+        Err(io::Error::from(ErrorKind::Other))
+    }
+}
+
+/// A writer that has no room.
+#[derive(Drop)]
+struct Full;
+
+impl Write for Full {
+    fn write(&mut self, _buf: &[u8]) -> io::Result<usize> {
+        Ok(0)
+    }
+
+    fn flush(&mut self) -> io::Result<()> {
+        Ok(())
+    }
+}
+
+#[test]
+fn a_read_error_is_no_end(rt: HostRuntime) -> Result<(), Fail> {
+    let mut source = HostSource::new(rt.alloc(), Broken)?;
+    assert_eq!(rt; source.next(), Err(Failed));
+    assert_eq!(rt; source.next(), Err(Failed));
+    Ok(())
+}
+
+#[test]
+fn a_write_of_nothing_fails(rt: HostRuntime) -> Result<(), Fail> {
+    let mut sink = HostSink::new(rt.alloc(), Full)?;
+    assert_eq!(rt; sink.put(1), Err(Failed));
+    assert_eq!(rt; sink.put_slice(b"ab"), Err(Failed));
+    Ok(())
+}
+
+#[test]
+fn what_is_put_stays_in_no_buffer(rt: HostRuntime) -> Result<(), Fail> {
+    let file = File::create(&rt, "buffer.bytes")?;
+    let mut sink = HostSink::new(rt.alloc(), BufWriter::new(rt.alloc(), file)?)?;
+    assert_eq!(rt; sink.put(7), Ok(()));
+    assert_eq!(rt; sink.put_slice(b"abc"), Ok(()));
+    let there = fs::read(&rt, "buffer.bytes")?;
+    assert_eq!(rt; there.as_slice(), b"\x07abc".as_slice());
+    fs::remove_file(&rt, "buffer.bytes")?;
+    Ok(())
+}
+
+#[test]
+fn a_folder_is_no_file(rt: HostRuntime) -> Result<(), Fail> {
+    let mut files = HostFiles::new(rt.alloc(), rt.clone()?)?;
+    let mut into = Vec::new(rt.alloc());
+    assert_eq!(rt; files.read("/", &mut into, 6), Err(FileFault::Failed));
+    assert_eq!(rt; into.len(), 0);
+    Ok(())
+}
 
 #[test]
 fn host_source_gives_the_bytes_of_a_reader(rt: HostRuntime) -> Result<(), Fail> {
