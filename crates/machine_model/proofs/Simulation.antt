@@ -59,11 +59,11 @@ module _ (V S T : Type 0) (rooms : Rooms) (c : Code V S) (d : Code V T) (R : Poi
     goes : (a : Frame S) (b : Frame T) (s : Site V S) (t : Site V T) (vs : List V) → SameFrame a b → SameSite a.point s t → SameFrame (frame_after V S rooms c s vs a) (frame_after V T rooms d t vs b)
     goes a b s t vs h q = (ap next_point h.0, q.put a.store b.store vs h.1, h.2)
 
-    undefined : (p q : Point) (w : World) → p ≡ q → Undefined w (c.number p) ≡ Undefined w (d.number q)
-    undefined p q w e = ap (λ n. Undefined w n) (numbers p q e)
+    same_undefined : (p q : Point) (w : World) → p ≡ q → Undefined w (c.number p) ≡ Undefined w (d.number q)
+    same_undefined p q w e = ap (λ n. Undefined w n) (numbers p q e)
 
     jumps : (k : Config S) (l : Config T) (w : World) (s : Site V S) (t : Site V T) (o : Option ℕ) (n : ℕ) → SameConfig k l → SameSite k.here.point s t → slice_get s.targets n ≡ o → SameNext (jump_to V S rooms c k w s o) (jump_to V T rooms d l w t o)
-    jumps k l w s t None n r q e = undefined k.here.point l.here.point w r.here.0
+    jumps k l w s t None n r q e = same_undefined k.here.point l.here.point w r.here.0
     jumps k l w s t (Some block) n r q e = record {
       here = (ap (λ p. block_point p block) r.here.0, subst (λ p. R (block_point k.here.point block) (c.edge k.here.point block (s.put [] k.here.store)) (d.edge p block (t.put [] l.here.store))) r.here.0 (q.edge k.here.store l.here.store n block e r.here.1), r.here.2);
       callers = r.callers;
@@ -71,7 +71,7 @@ module _ (V S T : Type 0) (rooms : Rooms) (c : Code V S) (d : Code V T) (R : Poi
     }
 
     resumes : (a : Frame S) (b : Frame T) (fs : List (Frame S)) (gs : List (Frame T)) (w : World) (vs : List V) (o : Option (Site V S)) (q : Option (Site V T)) → SameFrame a b → SameFrames fs gs → SameSites a.point o q → SameNext (resume V S rooms c a fs w vs o) (resume V T rooms d b gs w vs q)
-    resumes a b fs gs w vs None None h hs q = undefined a.point b.point w h.0
+    resumes a b fs gs w vs None None h hs q = same_undefined a.point b.point w h.0
     resumes a b fs gs w vs None (Some t) h hs q = absurd q
     resumes a b fs gs w vs (Some s) None h hs q = absurd q
     resumes a b fs gs w vs (Some s) (Some t) h hs q = record { here = goes a b s t vs h q; callers = hs; world = refl }
@@ -116,7 +116,7 @@ module _ (V S T : Type 0) (rooms : Rooms) (c : Code V S) (d : Code V T) (R : Poi
         subst (λ a. SameNext (act_on V S rooms c k m s (s.does k.here.own (s.fetch k.here.store) k.world.outer)) (act_on V T rooms d l m t a)) e (acts k l m s t (s.does k.here.own (s.fetch k.here.store) k.world.outer) r q)
 
     steps_at : (k : Config S) (l : Config T) (o : Option (Site V S)) (q : Option (Site V T)) → SameConfig k l → SameSites k.here.point o q → SameNext (step_at V S rooms c k o) (step_at V T rooms d l q)
-    steps_at k l None None r q = undefined k.here.point l.here.point k.world r.here.0 ∙ ap (λ w. Undefined w (d.number l.here.point)) r.world
+    steps_at k l None None r q = same_undefined k.here.point l.here.point k.world r.here.0 ∙ ap (λ w. Undefined w (d.number l.here.point)) r.world
     steps_at k l None (Some t) r q = absurd q
     steps_at k l (Some s) None r q = absurd q
     steps_at k l (Some s) (Some t) r q =

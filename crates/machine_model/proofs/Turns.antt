@@ -92,11 +92,11 @@ module _ (V S : Type 0) (rooms : Rooms) (c : Code V S) (more : ℕ) where
   exec_more zero k = refl
   exec_more (suc n) k = on_more n (step V S rooms c k) (step V S rooms c (config_with_turns more k)) (exec_more n) (step_more k)
 
-  final : (e : Ending) (y : Next S) → IsFinal e → Keeps more (Over e) y → y ≡ Over (ending_with_turns more e)
-  final (Done w status) y f h = h
-  final (Trap w code) y f h = h
-  final (Undefined w at) y f h = h
-  final (More w) y f h = absurd f
+  final_is : (e : Ending) (y : Next S) → IsFinal e → Keeps more (Over e) y → y ≡ Over (ending_with_turns more e)
+  final_is (Done w status) y f h = h
+  final_is (Trap w code) y f h = h
+  final_is (Undefined w at) y f h = h
+  final_is (More w) y f h = absurd f
 
   pub turns_keep : (n : ℕ) (k : Config S) (e : Ending) → exec V S rooms c n k ≡ Over e → IsFinal e → exec V S rooms c n (config_with_turns more k) ≡ Over (ending_with_turns more e)
-  turns_keep n k e is f = final e (exec V S rooms c n (config_with_turns more k)) f (subst (λ x. Keeps more x (exec V S rooms c n (config_with_turns more k))) is (exec_more n k))
+  turns_keep n k e is f = final_is e (exec V S rooms c n (config_with_turns more k)) f (subst (λ x. Keeps more x (exec V S rooms c n (config_with_turns more k))) is (exec_more n k))

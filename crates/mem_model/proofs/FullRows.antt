@@ -32,12 +32,12 @@ pointer-full : (cs : List Cell) (v : Value) → PointerIs cs v → list_any is_e
 pointer-full cs v (IsNull is word) = ap (list_any is_empty) is ∙ bytes-full 8 0
 pointer-full cs v (IsParts p is pointer) = ap (list_any is_empty) is ∙ parts-full p
 
-mapped : (o : Option ℕ) (v : Value) → option_map Word o ≡ Some v → (n : ℕ) × (o ≡ Some n)
-mapped None v e = absurd (cc)
-mapped (Some n) v e = (n, refl)
+word_is : (o : Option ℕ) (v : Value) → option_map Word o ≡ Some v → (n : ℕ) × (o ≡ Some n)
+word_is None v e = absurd (cc)
+word_is (Some n) v e = (n, refl)
 
 value-full : (pointer : Bool) (cs : List Cell) (v : Value) → value_of pointer cs ≡ Some v → list_any is_empty cs ≡ false
-value-full false cs v e = let n = mapped (number_of cs) v e in number-full cs n.0 n.1
+value-full false cs v e = let n = word_is (number_of cs) v e in number-full cs n.0 n.1
 value-full true cs v e = pointer-full cs v (pointer_is cs v e)
 
 -- what a load answers, by the value

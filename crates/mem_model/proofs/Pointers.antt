@@ -92,25 +92,25 @@ module _ (m new : Memory) (id : ℕ) (changes : ChangesCells m new id) where
   plus-kept Unset by = refl
 
   -- what two addresses of one object give
-  shared : {A : Type 0} (p q : Ptr) (x : A) → when (share_object new p q) x ≡ when (share_object m p q) x
-  shared p q x = ap (λ l. when (l && p.object == q.object) x) (live p)
+  in_one_object : {A : Type 0} (p q : Ptr) (x : A) → when (share_object new p q) x ≡ when (share_object m p q) x
+  in_one_object p q x = ap (λ l. when (l && p.object == q.object) x) (live p)
 
   minus-kept : (v w : Value) → pointer_minus new v w ≡ pointer_minus m v w
-  minus-kept (Address p) (Address q) = shared p q (p.offset -ℤ q.offset)
+  minus-kept (Address p) (Address q) = in_one_object p q (p.offset -ℤ q.offset)
   minus-kept (Address p) (Word n) = refl
   minus-kept (Address p) Unset = refl
   minus-kept (Word k) w = refl
   minus-kept Unset w = refl
 
   lt-kept : (v w : Value) → pointer_lt new v w ≡ pointer_lt m v w
-  lt-kept (Address p) (Address q) = shared p q (int_lt p.offset q.offset)
+  lt-kept (Address p) (Address q) = in_one_object p q (int_lt p.offset q.offset)
   lt-kept (Address p) (Word n) = refl
   lt-kept (Address p) Unset = refl
   lt-kept (Word k) w = refl
   lt-kept Unset w = refl
 
   le-kept : (v w : Value) → pointer_le new v w ≡ pointer_le m v w
-  le-kept (Address p) (Address q) = shared p q (int_le p.offset q.offset)
+  le-kept (Address p) (Address q) = in_one_object p q (int_le p.offset q.offset)
   le-kept (Address p) (Word n) = refl
   le-kept (Address p) Unset = refl
   le-kept (Word k) w = refl

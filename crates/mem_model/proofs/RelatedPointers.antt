@@ -30,8 +30,8 @@ module _ (f : Names) (m n : Memory) (h : IsMemoryOf f m n) where
       (Address (ptr_plus r.0 by), ap (λ z. pointer_plus n z by) r.1 ∙ done, subst (λ z. IsValueOf f z (Address (ptr_plus r.0 by))) a.1 (ptr_plus r.0 by, refl, record { object = r.2.object; offset = offset }))
 
   -- what two pointers into one object give
-  shared : {A : Type 0} (p q p1 q1 : Ptr) (x y a : A) → IsPointerOf f p p1 → IsPointerOf f q q1 → x ≡ y → when (share_object m p q) x ≡ Some a → when (share_object n p1 q1) y ≡ Some a
-  shared p q p1 q1 x y a pp qq same e =
+  in_one_object : {A : Type 0} (p q p1 q1 : Ptr) (x y a : A) → IsPointerOf f p p1 → IsPointerOf f q q1 → x ≡ y → when (share_object m p q) x ≡ Some a → when (share_object n p1 q1) y ≡ Some a
+  in_one_object p q p1 q1 x y a pp qq same e =
       let b = when-some (share_object m p q) x a e in
       let tests = both (is_live m p) (p.object == q.object) b.0 in
       let lq : is_live m q ≡ true = ap (λ o. (object_at m o).live) (sym (eqb-true p.object q.object tests.1)) ∙ tests.0 in
@@ -42,7 +42,7 @@ module _ (f : Names) (m n : Memory) (h : IsMemoryOf f m n) where
   minus_same : (v1 v2 w1 w2 : Value) (d : ℤ) → IsValueOf f v1 w1 → IsValueOf f v2 w2 → pointer_minus m v1 v2 ≡ Some d → pointer_minus n w1 w2 ≡ Some d
   minus_same (Address p) (Address q) w1 w2 d r s e =
       ap (λ z. pointer_minus n z w2) r.1 ∙ ap (pointer_minus n (Address r.0)) s.1
-      ∙ shared p q r.0 s.0 (p.offset -ℤ q.offset) ((r.0).offset -ℤ (s.0).offset) d r.2 s.2 (cc (r.2.offset, s.2.offset)) e
+      ∙ in_one_object p q r.0 s.0 (p.offset -ℤ q.offset) ((r.0).offset -ℤ (s.0).offset) d r.2 s.2 (cc (r.2.offset, s.2.offset)) e
   minus_same (Address p) (Word k) w1 w2 d r s e = absurd (cc)
   minus_same (Address p) Unset w1 w2 d r s e = absurd (cc)
   minus_same (Word k) v2 w1 w2 d r s e = absurd (cc)
@@ -51,7 +51,7 @@ module _ (f : Names) (m n : Memory) (h : IsMemoryOf f m n) where
   lt_same : (v1 v2 w1 w2 : Value) (b : Bool) → IsValueOf f v1 w1 → IsValueOf f v2 w2 → pointer_lt m v1 v2 ≡ Some b → pointer_lt n w1 w2 ≡ Some b
   lt_same (Address p) (Address q) w1 w2 b r s e =
       ap (λ z. pointer_lt n z w2) r.1 ∙ ap (pointer_lt n (Address r.0)) s.1
-      ∙ shared p q r.0 s.0 (int_lt p.offset q.offset) (int_lt (r.0).offset (s.0).offset) b r.2 s.2 (cc (r.2.offset, s.2.offset)) e
+      ∙ in_one_object p q r.0 s.0 (int_lt p.offset q.offset) (int_lt (r.0).offset (s.0).offset) b r.2 s.2 (cc (r.2.offset, s.2.offset)) e
   lt_same (Address p) (Word k) w1 w2 b r s e = absurd (cc)
   lt_same (Address p) Unset w1 w2 b r s e = absurd (cc)
   lt_same (Word k) v2 w1 w2 b r s e = absurd (cc)
@@ -60,7 +60,7 @@ module _ (f : Names) (m n : Memory) (h : IsMemoryOf f m n) where
   le_same : (v1 v2 w1 w2 : Value) (b : Bool) → IsValueOf f v1 w1 → IsValueOf f v2 w2 → pointer_le m v1 v2 ≡ Some b → pointer_le n w1 w2 ≡ Some b
   le_same (Address p) (Address q) w1 w2 b r s e =
       ap (λ z. pointer_le n z w2) r.1 ∙ ap (pointer_le n (Address r.0)) s.1
-      ∙ shared p q r.0 s.0 (int_le p.offset q.offset) (int_le (r.0).offset (s.0).offset) b r.2 s.2 (cc (r.2.offset, s.2.offset)) e
+      ∙ in_one_object p q r.0 s.0 (int_le p.offset q.offset) (int_le (r.0).offset (s.0).offset) b r.2 s.2 (cc (r.2.offset, s.2.offset)) e
   le_same (Address p) (Word k) w1 w2 b r s e = absurd (cc)
   le_same (Address p) Unset w1 w2 b r s e = absurd (cc)
   le_same (Word k) v2 w1 w2 b r s e = absurd (cc)
@@ -76,9 +76,9 @@ module _ (f : Names) (m n : Memory) (h : IsMemoryOf f m n) where
       ap (is_null n) r.1 ∙ when-true (is_live n r.0) false b met.lives a.1
 
   -- two live addresses
-  chosen : (x : Bool) (o : Option Bool) (b : Bool) → (if x then o else None) ≡ Some b → (x ≡ true) × (o ≡ Some b)
-  chosen true o b e = (refl, e)
-  chosen false o b e = absurd (cc)
+  choice_is : (x : Bool) (o : Option Bool) (b : Bool) → (if x then o else None) ≡ Some b → (x ≡ true) × (o ≡ Some b)
+  choice_is true o b e = (refl, e)
+  choice_is false o b e = absurd (cc)
 
   addresses_same : (p q p1 q1 : Ptr) (b : Bool) → IsPointerOf f p p1 → IsPointerOf f q q1 → is_live m p ≡ true → is_live m q ≡ true → addresses_eq n p1 q1 ≡ addresses_eq m p q
   addresses_same p q p1 q1 b pp qq lp lq =
@@ -93,7 +93,7 @@ module _ (f : Names) (m n : Memory) (h : IsMemoryOf f m n) where
 
   eq_same : (v1 v2 w1 w2 : Value) (b : Bool) → IsValueOf f v1 w1 → IsValueOf f v2 w2 → pointer_eq m v1 v2 ≡ Some b → pointer_eq n w1 w2 ≡ Some b
   eq_same (Address p) (Address q) w1 w2 b r s e =
-      let a = chosen (is_live m p && is_live m q) (addresses_eq m p q) b e in
+      let a = choice_is (is_live m p && is_live m q) (addresses_eq m p q) b e in
       let tests = both (is_live m p) (is_live m q) a.0 in
       let mp = meet f m n p r.0 h r.2 tests.0 in
       let mq = meet f m n q s.0 h s.2 tests.1 in
