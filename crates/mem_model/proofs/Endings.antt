@@ -1,6 +1,8 @@
 -- The laws of endings and of the meter, to be cited.
-use Rattle.std.proofs.Common.{◌≡◌, ℕ, zero, suc, ◌+◌, Some, refl, sym, ap, ◌∙◌, arith, subst}
-use Rattle.mem_model.specs.World.{Meter, World, Rooms, turn_from, take_turn, with_turns}
+use Rattle.std.proofs.Common.{◌≡◌, ℕ, zero, suc, ◌+◌, List, [], ◌∷◌, drop, Some, None, refl, sym, ap, ◌∙◌, arith, subst}
+use Rattle.std.specs.Prelude.{slice_get}
+use Rattle.mem_model.specs.Memory.{Memory}
+use Rattle.mem_model.specs.World.{Outer, Meter, World, with_memory, next_byte, take_byte, Rooms, turn_from, take_turn, with_turns}
 use Rattle.mem_model.specs.Ending.{Ending, Done, Trap, Undefined, More, SameShown, EndsAs, Evaluation, Gives, Ends, GivesAs}
 use Rattle.mem_model.specs.WorldLaws.{IsTurn, CallMeter}
 
@@ -76,3 +78,20 @@ turns_are_taken m t e = turn_is m.turns m t refl e
 
 pub calls_are_metered : (rooms : Rooms) (function : ℕ) (m : Meter) → CallMeter rooms function m
 calls_are_metered rooms function m = record { peak_rises = omega arith; room_within = omega arith; peak_stays = refl; room_back = omega arith; more_enter = λ k. refl; more_leave = λ k. refl }
+
+first_byte : (bytes : List ℕ) (byte : ℕ) → slice_get bytes 0 ≡ Some byte → bytes ≡ byte ∷ drop 1 bytes
+first_byte [] byte e = absurd (cc)
+first_byte (b ∷ bs) byte e = let same : b ≡ byte = cc in ap (λ x. x ∷ bs) same
+
+no_byte : (bytes : List ℕ) → slice_get bytes 0 ≡ None → (bytes ≡ []) × (drop 1 bytes ≡ [])
+no_byte [] e = (refl, refl)
+no_byte (b ∷ bs) e = absurd (cc)
+
+pub bytes_are_taken : (o : Outer) (byte : ℕ) → next_byte o ≡ Some byte → o.input ≡ byte ∷ (take_byte o).input
+bytes_are_taken o byte e = first_byte o.input byte e
+
+pub none_is_taken : (o : Outer) → next_byte o ≡ None → (o.input ≡ []) × ((take_byte o).input ≡ [])
+none_is_taken o e = no_byte o.input e
+
+pub memories_are_hidden : (w : World) (m : Memory) → SameShown (with_memory w m) w
+memories_are_hidden w m = record { output = refl; input = refl; takings = refl; turns = refl; peak = refl }

@@ -1,7 +1,19 @@
--- The laws of endings and of the meter.
-use Rattle.std.specs.Prelude.{◌≡◌, ℕ, ◌+◌, ◌≤◌, Some}
-use Rattle.mem_model.specs.World.{Meter, Rooms, take_turn, enter_call, leave_call, with_turns}
-use Rattle.mem_model.specs.Ending.{Ending, EndsAs}
+-- The laws of the world, of endings and of the meter.
+use Rattle.std.specs.Prelude.{◌≡◌, ℕ, ◌+◌, ◌≤◌, [], ◌∷◌, Some, None}
+use Rattle.mem_model.specs.Memory.{Memory}
+use Rattle.mem_model.specs.World.{Outer, World, Meter, Rooms, with_memory, next_byte, take_byte, take_turn, enter_call, leave_call, with_turns}
+use Rattle.mem_model.specs.Ending.{Ending, SameShown, EndsAs}
+
+-- a byte that is taken is the first that was left, and at the end of the input none is
+abbrev pub BytesAreTaken : Type 0
+BytesAreTaken = (o : Outer) (byte : ℕ) → next_byte o ≡ Some byte → o.input ≡ byte ∷ (take_byte o).input
+
+abbrev pub NoneIsTaken : Type 0
+NoneIsTaken = (o : Outer) → next_byte o ≡ None → (o.input ≡ []) × ((take_byte o).input ≡ [])
+
+-- another memory does not show
+abbrev pub MemoriesAreHidden : Type 0
+MemoriesAreHidden = (w : World) (m : Memory) → SameShown (with_memory w m) w
 
 -- an ending is its own, and an ending of an ending is an ending
 abbrev pub EndsAsItself : Type 0

@@ -6,7 +6,7 @@ ghost use Rattle.mem_model.specs.Laws.{PutChangesCells, PutGivesRow, PutKeepsRow
 ghost use Rattle.mem_model.specs.PointerLaws.{PlusTwice, MinusUndoesPlus, PlusUndoesMinus, ChangesKeepPointers};
 ghost use Rattle.mem_model.specs.RelatedLaws.{RowsAreAsLong, RowsHaveParts, RowsAreRead, ValuesHaveRows, RowsAreWritten, FreshRows, NamesGrow, ValuesStay};
 ghost use Rattle.mem_model.specs.RelatedMemoryLaws.{LoadsCorrespond, StoresCorrespond, CopiesCorrespond, FirstBegins, FirstEnds, SecondBegins, SecondEnds, MovesCorrespond, AnswersCorrespond};
-ghost use Rattle.mem_model.specs.WorldLaws.{EndsAsItself, EndsAsThrough, TurnsAreTaken, CallsAreMetered};
+ghost use Rattle.mem_model.specs.WorldLaws.{BytesAreTaken, NoneIsTaken, MemoriesAreHidden, EndsAsItself, EndsAsThrough, TurnsAreTaken, CallsAreMetered};
 ghost use Rattle.mem_model.specs.Ending.{Evaluation, GivesAs};
 
 /// What was stored is loaded back: numbers by their width, pointers whole and never in part, and zeros as null.
@@ -89,6 +89,13 @@ pub fn memories_correspond()
     ensures second_ends { SecondEnds }
     ensures moves { MovesCorrespond }
     ensures answers { AnswersCorrespond }
+{}
+
+/// A byte that is taken is the first of the input, at its end there is none, and another memory does not show.
+pub fn bytes_are_taken()
+    ensures byte { BytesAreTaken }
+    ensures end { NoneIsTaken }
+    ensures memory { MemoriesAreHidden }
 {}
 
 /// Each ending is its own, and that an ending is another's goes through a third.
