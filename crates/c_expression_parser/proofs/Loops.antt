@@ -1,5 +1,5 @@
 -- The loops: a turn more of each, and none. A turn is what the grammar's function of that name does with one more than it has left.
-use Rattle.std.proofs.Common.{◌≡◌, ℕ, suc, ◌+◌, ◌-◌, ◌<◌, ◌≤◌, List, [], ◌∷◌, ◌++◌, Result, Ok, Err, ap, arith}
+use Rattle.std.proofs.Common.{◌≡◌, ℕ, suc, ◌+◌, ◌-◌, ◌<◌, ◌≤◌, List, [], ◌∷◌, ◌++◌, Ok, Err, ap, arith}
 use Rattle.std.specs.Prelude.{if◌then◌else◌, nat_lt}
 use Rattle.c_lexer.specs.Pieces.{Lexeme}
 use Rattle.c_lexer.specs.declared.token.Keyword.TheVariants as w
@@ -76,8 +76,8 @@ braced_end item n at found ts = end (λ m. braced_list_from item m found ts) n a
 
 pub climb_turn : (s : TypeNames) (e : ℕ → Parser Expr) (d : Naming → Parser Declarator) (place least n at level : ℕ) (left : Expr) (ts : List Lexeme) → at < n
     → climb s e d place least (n - at) level left ts ≡ (if nat_lt (binding_level (infix_of (kind_at ts))) least then Ok (left, ts)
-      else if nat_lt level (operand_level (infix_of (kind_at ts))) then Err ts
-      else and_then (step_by s e d (infix_of (kind_at ts)) place left (behind ts)) (climb s e d place least (n - (at + 1)) (result_level (infix_of (kind_at ts)))))
+    else if nat_lt level (operand_level (infix_of (kind_at ts))) then Err ts
+    else and_then (step_by s e d (infix_of (kind_at ts)) place left (behind ts)) (climb s e d place least (n - (at + 1)) (result_level (infix_of (kind_at ts)))))
 unfolding climb
 climb_turn s e d place least n at level left ts = turn (λ m. climb s e d place least m level left ts) n at
 
@@ -88,8 +88,8 @@ climb_end s e d place least n at level left ts = end (λ m. climb s e d place le
 
 pub suffixes_turn : (s : TypeNames) (e : ℕ → Parser Expr) (d : Naming → Parser Declarator) (n at : ℕ) (found : Declarator) (ts : List Lexeme) → at < n
     → suffixes s e d (n - at) found ts ≡ (if is_mark p.LeftBracket (kind_at ts) then and_then (length_of s e d found (behind ts)) (suffixes s e d (n - (at + 1)))
-      else if is_mark p.LeftParen (kind_at ts) then and_then (parameters s e d (behind ts)) (λ xs. suffixes s e d (n - (at + 1)) (with_shape found (h.Takes (without_void xs))))
-      else Ok (found, ts))
+    else if is_mark p.LeftParen (kind_at ts) then and_then (parameters s e d (behind ts)) (λ xs. suffixes s e d (n - (at + 1)) (with_shape found (h.Takes (without_void xs))))
+    else Ok (found, ts))
 unfolding suffixes
 suffixes_turn s e d n at found ts = turn (λ m. suffixes s e d m found ts) n at
 

@@ -1,4 +1,5 @@
--- What a function that reads ensures: the outcome of the grammar, unless memory is short. A refusal leaves the cursor at the refused token.
+-- What a function that reads ensures: the outcome of the grammar, unless memory is short. A refusal leaves the cursor at the
+-- refused token.
 use Rattle.std.specs.Prelude.{◌≡◌, ◌≢◌, ℕ, List, [], ◌∷◌, Result, Ok, Err}
 use Rattle.c_lexer.specs.Pieces.{Lexeme}
 use Rattle.c_expression_parser.specs.declared.cursor.Fault.{Fault}

@@ -4,14 +4,13 @@ ghost use Rattle.std.specs.Prelude.{◌≡◌, ◌++◌, [], length, IfOk};
 ghost use Rattle.c_grammar.specs.ParseSpecifiers as model;
 ghost use Rattle.c_expression_parser.specs.Answers.{Answers};
 
-use crate::specifier_type::SpecifierType;
 use crate::cursor::{Fault, Tokens};
 use crate::expressions::{declarator, expr};
 use crate::scope::Scope;
 use crate::shapes::with_shapes;
+use crate::specifier_type::SpecifierType;
 use crate::specifiers::{named_type, read_words};
-use c_grammar::levels;
-use c_grammar::{Declarator, Naming, Specifier, SpecifierStart};
+use c_grammar::{Declarator, Naming, Specifier, SpecifierStart, levels};
 use c_lexer::Punct;
 use c_tree::{Constant, Declaration, Name, Seq, TypeNode};
 use std::alloc::{AllocError, Global};
@@ -93,7 +92,8 @@ fn constants(
     tokens: &mut Tokens<'_>,
     depth: usize,
 ) -> Result<Seq<Constant>, Fault>
-    ensures { Answers (model.braced_list_from (model.constant scope.now depth) (length tokens.old) [] tokens.old) result tokens.new }
+    ensures { Answers (model.braced_list_from (model.constant scope.now depth) (length tokens.old) []
+        tokens.old) result tokens.new }
 {
     let mut found = Seq::new(alloc);
     for _turn in 0..tokens.left() {
@@ -118,7 +118,8 @@ fn member_declarators(
     depth: usize,
     base: SpecifierType,
 ) -> Result<Seq<Declaration>, Fault>
-    ensures { Answers (model.declarators_from scope.now depth (length tokens.old) base [] tokens.old) result tokens.new }
+    ensures { Answers (model.declarators_from scope.now depth (length tokens.old) base [] tokens.old) result
+        tokens.new }
 {
     let mut found = Seq::new(alloc);
     let mut ty = base;
@@ -144,7 +145,8 @@ fn member(
     tokens: &mut Tokens<'_>,
     depth: usize,
 ) -> Result<Seq<Declaration>, Fault>
-    ensures { Answers (model.member scope.now depth (model.specifier scope.now depth) tokens.old) result tokens.new }
+    ensures { Answers (model.member scope.now depth (model.specifier scope.now depth) tokens.old) result
+        tokens.new }
 {
     let base = specifier(alloc, scope, tokens, depth)?;
     let found = member_declarators(alloc, scope, tokens, depth, base)?;
@@ -161,7 +163,8 @@ fn members(
     tokens: &mut Tokens<'_>,
     depth: usize,
 ) -> Result<Seq<Declaration>, Fault>
-    ensures { Answers (model.members_from scope.now depth (model.specifier scope.now depth) (length tokens.old) [] tokens.old) result tokens.new }
+    ensures { Answers (model.members_from scope.now depth (model.specifier scope.now depth)
+        (length tokens.old) [] tokens.old) result tokens.new }
 {
     let mut found = Seq::new(alloc);
     for _turn in 0..tokens.left() {
@@ -185,7 +188,8 @@ fn braces(
     at: u32,
     tag: Option<Name>,
 ) -> Result<SpecifierType, Fault>
-    ensures { Answers (model.braces scope.now depth (model.specifier scope.now depth) word at tag tokens.old) result tokens.new }
+    ensures { Answers (model.braces scope.now depth (model.specifier scope.now depth) word at tag tokens.old)
+        result tokens.new }
 {
     tokens.expect(Punct::LeftBrace)?;
     match word {
@@ -215,7 +219,8 @@ fn tag_or_body(
     word: Specifier,
     at: u32,
 ) -> Result<SpecifierType, Fault>
-    ensures { Answers (model.tag_or_body scope.now depth (model.specifier scope.now depth) word at tokens.old) result tokens.new }
+    ensures { Answers (model.tag_or_body scope.now depth (model.specifier scope.now depth) word at
+        tokens.old) result tokens.new }
 {
     if !tokens.sees_name() {
         return braces(alloc, scope, tokens, depth, word, at, None);

@@ -31,8 +31,8 @@ impl From<AllocError> for Fault {
     }
 }
 
-/// The most constructs that are open in one another. What reads each of them stands on the machine's
-/// stack, so one more is want of memory.
+/// The most constructs that are open inside the outermost one. What reads each of them stands on the
+/// machine's stack, so one more is want of memory.
 const MOST_OPEN: usize = 1024;
 
 /// The tokens that are still to be read, which contracts see with their spellings.
@@ -83,7 +83,11 @@ impl<'a> Tokens<'a> {
     ///
     /// [`AllocError`] where [`MOST_OPEN`] are open.
     pub fn open(&self, depth: usize) -> Result<(), AllocError> {
-        if depth < self.least_depth { Err(AllocError) } else { Ok(()) }
+        if depth < self.least_depth {
+            Err(AllocError)
+        } else {
+            Ok(())
+        }
     }
 
     /// How many are left.

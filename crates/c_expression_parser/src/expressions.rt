@@ -10,9 +10,11 @@ ghost use Rattle.c_grammar.specs.declared.classes.Prefix.TheVariants as fronts;
 ghost use Rattle.c_expression_parser.specs.Answers.{Answers};
 
 use crate::cursor::{Fault, Tokens};
-use crate::parts::{member, core_name, no_name, texts};
+use crate::parts::{core_name, member, no_name, texts};
 use crate::scope::Scope;
-use crate::shapes::{comma_of, may_be_nameless, parameter_of, with_shapes, with_shape, without_void};
+use crate::shapes::{
+    comma_of, may_be_nameless, parameter_of, with_shape, with_shapes, without_void,
+};
 use crate::specifiers::plain;
 use c_grammar::levels::{self, binding_level, level_of, operand_level, result_level};
 use c_grammar::{Declarator, Infix, Naming, Prefix, Shape, infix_of, prefix_of};
@@ -29,7 +31,8 @@ fn assignments(
     tokens: &mut Tokens<'_>,
     depth: usize,
 ) -> Result<Seq<Expr>, Fault>
-    ensures { Answers (model.list_from (model.expr scope.now depth levels.assignment) (length tokens.old) [] tokens.old) result tokens.new }
+    ensures { Answers (model.list_from (model.expr scope.now depth levels.assignment) (length tokens.old) []
+        tokens.old) result tokens.new }
 {
     let mut found = Seq::new(alloc);
     for _turn in 0..tokens.left() {
@@ -51,7 +54,8 @@ pub fn whole(
     tokens: &mut Tokens<'_>,
     depth: usize,
 ) -> Result<Expr, Fault>
-    ensures { Answers (model.whole scope.now (model.expr scope.now depth) (model.declarator scope.now depth) tokens.old) result tokens.new }
+    ensures { Answers (model.whole scope.now (model.expr scope.now depth) (model.declarator scope.now depth)
+        tokens.old) result tokens.new }
 {
     let at = tokens.place();
     let operands = assignments(alloc, scope, tokens, depth)?;
@@ -67,7 +71,8 @@ fn type_name(
     tokens: &mut Tokens<'_>,
     depth: usize,
 ) -> Result<TypeName, Fault>
-    ensures { Answers (model.type_name scope.now (model.expr scope.now depth) (model.declarator scope.now depth) tokens.old) result tokens.new }
+    ensures { Answers (model.type_name scope.now (model.expr scope.now depth)
+        (model.declarator scope.now depth) tokens.old) result tokens.new }
 {
     let at = tokens.place();
     let ty = plain(alloc, scope, tokens)?.into_type();
@@ -85,7 +90,8 @@ fn parameter(
     tokens: &mut Tokens<'_>,
     depth: usize,
 ) -> Result<Parameter, Fault>
-    ensures { Answers (model.parameter scope.now (model.expr scope.now depth) (model.declarator scope.now depth) tokens.old) result tokens.new }
+    ensures { Answers (model.parameter scope.now (model.expr scope.now depth)
+        (model.declarator scope.now depth) tokens.old) result tokens.new }
 {
     let at = tokens.place();
     let ty = plain(alloc, scope, tokens)?.into_type();
@@ -102,7 +108,8 @@ fn parameter_list(
     tokens: &mut Tokens<'_>,
     depth: usize,
 ) -> Result<Seq<Parameter>, Fault>
-    ensures { Answers (model.list_from (model.parameter scope.now (model.expr scope.now depth) (model.declarator scope.now depth)) (length tokens.old) [] tokens.old) result tokens.new }
+    ensures { Answers (model.list_from (model.parameter scope.now (model.expr scope.now depth)
+        (model.declarator scope.now depth)) (length tokens.old) [] tokens.old) result tokens.new }
 {
     let mut found = Seq::new(alloc);
     for _turn in 0..tokens.left() {
@@ -124,7 +131,8 @@ fn parameters(
     tokens: &mut Tokens<'_>,
     depth: usize,
 ) -> Result<Seq<Parameter>, Fault>
-    ensures { Answers (model.parameters scope.now (model.expr scope.now depth) (model.declarator scope.now depth) tokens.old) result tokens.new }
+    ensures { Answers (model.parameters scope.now (model.expr scope.now depth)
+        (model.declarator scope.now depth) tokens.old) result tokens.new }
 {
     if tokens.sees(Punct::RightParen) {
         tokens.take();
@@ -144,7 +152,8 @@ fn arguments(
     tokens: &mut Tokens<'_>,
     depth: usize,
 ) -> Result<Seq<Expr>, Fault>
-    ensures { Answers (model.arguments scope.now (model.expr scope.now depth) (model.declarator scope.now depth) tokens.old) result tokens.new }
+    ensures { Answers (model.arguments scope.now (model.expr scope.now depth)
+        (model.declarator scope.now depth) tokens.old) result tokens.new }
 {
     if tokens.sees(Punct::RightParen) {
         tokens.take();
@@ -166,7 +175,8 @@ fn behind_name(
     at: u32,
     name: Name,
 ) -> Result<(Expr, u8), Fault>
-    ensures { Answers (model.behind_name scope.now (model.expr scope.now depth) (model.declarator scope.now depth) at name tokens.old) result tokens.new }
+    ensures { Answers (model.behind_name scope.now (model.expr scope.now depth)
+        (model.declarator scope.now depth) at name tokens.old) result tokens.new }
 {
     if !tokens.sees(Punct::LeftParen) {
         return Ok((Expr::Name { at, name }, levels::PRIMARY));
@@ -193,7 +203,8 @@ fn cast_behind(
     depth: usize,
     at: u32,
 ) -> Result<(Expr, u8), Fault>
-    ensures { Answers (model.cast_behind scope.now (model.expr scope.now depth) (model.declarator scope.now depth) at tokens.old) result tokens.new }
+    ensures { Answers (model.cast_behind scope.now (model.expr scope.now depth)
+        (model.declarator scope.now depth) at tokens.old) result tokens.new }
 {
     let to = Box::new(alloc, type_name(alloc, scope, tokens, depth)?)?;
     tokens.expect(Punct::RightParen)?;
@@ -210,7 +221,8 @@ fn brackets_behind(
     tokens: &mut Tokens<'_>,
     depth: usize,
 ) -> Result<(Expr, u8), Fault>
-    ensures { Answers (model.brackets_behind scope.now (model.expr scope.now depth) (model.declarator scope.now depth) tokens.old) result tokens.new }
+    ensures { Answers (model.brackets_behind scope.now (model.expr scope.now depth)
+        (model.declarator scope.now depth) tokens.old) result tokens.new }
 {
     let found = whole(alloc, scope, tokens, depth)?;
     tokens.expect(Punct::RightParen)?;
@@ -227,7 +239,8 @@ fn size_of_type(
     depth: usize,
     at: u32,
 ) -> Result<(Expr, u8), Fault>
-    ensures { Answers (model.size_of_type scope.now (model.expr scope.now depth) (model.declarator scope.now depth) at tokens.old) result tokens.new }
+    ensures { Answers (model.size_of_type scope.now (model.expr scope.now depth)
+        (model.declarator scope.now depth) at tokens.old) result tokens.new }
 {
     let operand = Box::new(alloc, type_name(alloc, scope, tokens, depth)?)?;
     tokens.expect(Punct::RightParen)?;
@@ -244,7 +257,8 @@ fn size_of_value(
     depth: usize,
     at: u32,
 ) -> Result<(Expr, u8), Fault>
-    ensures { Answers (model.size_of_value scope.now (model.expr scope.now depth) (model.declarator scope.now depth) at tokens.old) result tokens.new }
+    ensures { Answers (model.size_of_value scope.now (model.expr scope.now depth)
+        (model.declarator scope.now depth) at tokens.old) result tokens.new }
 {
     let operand = Box::new(alloc, expr(alloc, scope, tokens, depth, levels::UNARY)?)?;
     Ok((Expr::SizeOfValue { at, operand }, levels::UNARY))
@@ -259,7 +273,8 @@ fn size_of(
     depth: usize,
     at: u32,
 ) -> Result<(Expr, u8), Fault>
-    ensures { Answers (model.size_of scope.now (model.expr scope.now depth) (model.declarator scope.now depth) at tokens.old) result tokens.new }
+    ensures { Answers (model.size_of scope.now (model.expr scope.now depth)
+        (model.declarator scope.now depth) at tokens.old) result tokens.new }
 {
     if tokens.sees(Punct::LeftParen) && scope.begins_type(&tokens.behind()) {
         tokens.take();
@@ -277,7 +292,8 @@ fn name_or_call(
     tokens: &mut Tokens<'_>,
     depth: usize,
 ) -> Result<(Expr, u8), Fault>
-    ensures { Answers (model.operand_by scope.now (model.expr scope.now depth) (model.declarator scope.now depth) 0 fronts.Name tokens.old) result tokens.new }
+    ensures { Answers (model.operand_by scope.now (model.expr scope.now depth)
+        (model.declarator scope.now depth) 0 fronts.Name tokens.old) result tokens.new }
 {
     let at = tokens.place();
     if scope.is_type_at(tokens) {
@@ -299,7 +315,8 @@ fn bracket_operand(
     at: u32,
     least: u8,
 ) -> Result<(Expr, u8), Fault>
-    ensures { Answers (model.bracket_operand scope.now (model.expr scope.now depth) (model.declarator scope.now depth) least at tokens.old) result tokens.new }
+    ensures { Answers (model.bracket_operand scope.now (model.expr scope.now depth)
+        (model.declarator scope.now depth) least at tokens.old) result tokens.new }
 {
     if !scope.begins_type(tokens) {
         return brackets_behind(alloc, scope, tokens, depth);
@@ -321,7 +338,8 @@ fn unary(
     at: u32,
     op: UnaryOp,
 ) -> Result<(Expr, u8), Fault>
-    ensures { Answers (and_then (model.expr scope.now depth least tokens.old) (λ x. pure (trees.Unary at op x, levels.unary))) result tokens.new }
+    ensures { Answers (and_then (model.expr scope.now depth least tokens.old)
+        (λ x. pure (trees.Unary at op x, levels.unary))) result tokens.new }
 {
     let operand = Box::new(alloc, expr(alloc, scope, tokens, depth, least)?)?;
     Ok((Expr::Unary { at, op, operand }, levels::UNARY))
@@ -338,7 +356,8 @@ fn operand(
     depth: usize,
     least: u8,
 ) -> Result<(Expr, u8), Fault>
-    ensures { Answers (model.operand scope.now (model.expr scope.now depth) (model.declarator scope.now depth) least tokens.old) result tokens.new }
+    ensures { Answers (model.operand scope.now (model.expr scope.now depth)
+        (model.declarator scope.now depth) least tokens.old) result tokens.new }
 {
     let at = tokens.place();
     match prefix_of(tokens.peek()) {
@@ -388,7 +407,8 @@ fn step(
     at: u32,
     left: Expr,
 ) -> Result<Expr, Fault>
-    ensures { Answers (model.step_by scope.now (model.expr scope.now depth) (model.declarator scope.now depth) kind at left tokens.old) result tokens.new }
+    ensures { Answers (model.step_by scope.now (model.expr scope.now depth)
+        (model.declarator scope.now depth) kind at left tokens.old) result tokens.new }
 {
     let left = Box::new(alloc, left)?;
     match kind {
@@ -431,7 +451,8 @@ fn index(
     at: u32,
     left: Box<Expr>,
 ) -> Result<Expr, Fault>
-    ensures { Answers (model.step_by scope.now (model.expr scope.now depth) (model.declarator scope.now depth) roles.Index at left tokens.old) result tokens.new }
+    ensures { Answers (model.step_by scope.now (model.expr scope.now depth)
+        (model.declarator scope.now depth) roles.Index at left tokens.old) result tokens.new }
 {
     let right = Box::new(alloc, whole(alloc, scope, tokens, depth)?)?;
     tokens.expect(Punct::RightBracket)?;
@@ -449,7 +470,8 @@ fn binary(
     op: BinaryOp,
     left: Box<Expr>,
 ) -> Result<Expr, Fault>
-    ensures { Answers (model.step_by scope.now (model.expr scope.now depth) (model.declarator scope.now depth) (roles.Binary op) at left tokens.old) result tokens.new }
+    ensures { Answers (model.step_by scope.now (model.expr scope.now depth)
+        (model.declarator scope.now depth) (roles.Binary op) at left tokens.old) result tokens.new }
 {
     let right = expr(alloc, scope, tokens, depth, level_of(op) + 1)?;
     let right = Box::new(alloc, right)?;
@@ -472,9 +494,11 @@ fn assignment(
     op: AssignOp,
     left: Box<Expr>,
 ) -> Result<Expr, Fault>
-    ensures { Answers (model.step_by scope.now (model.expr scope.now depth) (model.declarator scope.now depth) (roles.Assign op) at left tokens.old) result tokens.new }
+    ensures { Answers (model.step_by scope.now (model.expr scope.now depth)
+        (model.declarator scope.now depth) (roles.Assign op) at left tokens.old) result tokens.new }
 {
-    let right = Box::new(alloc, expr(alloc, scope, tokens, depth, levels::ASSIGNMENT)?)?;
+    let right = expr(alloc, scope, tokens, depth, levels::ASSIGNMENT)?;
+    let right = Box::new(alloc, right)?;
     Ok(Expr::Assign {
         at,
         op,
@@ -493,11 +517,13 @@ fn choice(
     at: u32,
     condition: Box<Expr>,
 ) -> Result<Expr, Fault>
-    ensures { Answers (model.step_by scope.now (model.expr scope.now depth) (model.declarator scope.now depth) roles.Conditional at condition tokens.old) result tokens.new }
+    ensures { Answers (model.step_by scope.now (model.expr scope.now depth)
+        (model.declarator scope.now depth) roles.Conditional at condition tokens.old) result tokens.new }
 {
     let holds = Box::new(alloc, whole(alloc, scope, tokens, depth)?)?;
     tokens.expect(Punct::Colon)?;
-    let fails = Box::new(alloc, expr(alloc, scope, tokens, depth, levels::CONDITIONAL)?)?;
+    let fails = expr(alloc, scope, tokens, depth, levels::CONDITIONAL)?;
+    let fails = Box::new(alloc, fails)?;
     Ok(Expr::Conditional {
         at,
         condition,
@@ -518,7 +544,8 @@ fn climb(
     least: u8,
     first: (Expr, u8),
 ) -> Result<Expr, Fault>
-    ensures { Answers (model.climb scope.now (model.expr scope.now depth) (model.declarator scope.now depth) at least (length tokens.old) first.1 first.0 tokens.old) result tokens.new }
+    ensures { Answers (model.climb scope.now (model.expr scope.now depth) (model.declarator scope.now depth)
+        at least (length tokens.old) first.1 first.0 tokens.old) result tokens.new }
 {
     let (mut left, mut level) = first;
     for _turn in 0..tokens.left() {
@@ -568,7 +595,8 @@ fn length_of(
     depth: usize,
     found: Declarator,
 ) -> Result<Declarator, Fault>
-    ensures { Answers (model.length_of scope.now (model.expr scope.now depth) (model.declarator scope.now depth) found tokens.old) result tokens.new }
+    ensures { Answers (model.length_of scope.now (model.expr scope.now depth)
+        (model.declarator scope.now depth) found tokens.old) result tokens.new }
 {
     if tokens.sees(Punct::RightBracket) {
         tokens.take();
@@ -589,7 +617,8 @@ fn suffixes(
     depth: usize,
     mut found: Declarator,
 ) -> Result<Declarator, Fault>
-    ensures { Answers (model.suffixes scope.now (model.expr scope.now depth) (model.declarator scope.now depth) (length tokens.old) found tokens.old) result tokens.new }
+    ensures { Answers (model.suffixes scope.now (model.expr scope.now depth)
+        (model.declarator scope.now depth) (length tokens.old) found tokens.old) result tokens.new }
 {
     for _turn in 0..tokens.left() {
         if tokens.sees(Punct::LeftBracket) {
@@ -616,7 +645,8 @@ fn group_behind(
     depth: usize,
     naming: Naming,
 ) -> Result<Declarator, Fault>
-    ensures { Answers (model.group_behind scope.now (model.expr scope.now depth) (model.declarator scope.now depth) naming tokens.old) result tokens.new }
+    ensures { Answers (model.group_behind scope.now (model.expr scope.now depth)
+        (model.declarator scope.now depth) naming tokens.old) result tokens.new }
 {
     let found = pointer_declarator(alloc, scope, tokens, depth, naming)?;
     tokens.expect(Punct::RightParen)?;
@@ -633,7 +663,8 @@ fn core(
     depth: usize,
     naming: Naming,
 ) -> Result<Declarator, Fault>
-    ensures { Answers (model.core scope.now (model.expr scope.now depth) (model.declarator scope.now depth) naming tokens.old) result tokens.new }
+    ensures { Answers (model.core scope.now (model.expr scope.now depth) (model.declarator scope.now depth)
+        naming tokens.old) result tokens.new }
 {
     if tokens.sees_name() {
         return core_name(alloc, scope, tokens, naming);
@@ -662,7 +693,8 @@ fn pointer_declarator(
     depth: usize,
     naming: Naming,
 ) -> Result<Declarator, Fault>
-    ensures { Answers (model.pointer_declarator scope.now (model.expr scope.now depth) (model.declarator scope.now depth) naming tokens.old) result tokens.new }
+    ensures { Answers (model.pointer_declarator scope.now (model.expr scope.now depth)
+        (model.declarator scope.now depth) naming tokens.old) result tokens.new }
 {
     tokens.consts();
     let found = declarator(alloc, scope, tokens, depth, naming)?;

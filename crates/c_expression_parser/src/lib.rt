@@ -5,19 +5,19 @@
 //! from the tokens at a cursor. After a refusal the cursor stands at the refused token.
 #![tactic(auto)]
 
-mod specifier_type;
 mod braces;
 mod cursor;
 mod expressions;
 mod parts;
 mod scope;
 mod shapes;
+mod specifier_type;
 mod specifiers;
 
-pub use specifier_type::SpecifierType;
 pub use braces::{append, declaration, specifier};
 pub use cursor::{Fault, Tokens};
 pub use expressions::{declarator, expr, whole};
 pub use scope::Scope;
 pub use shapes::with_shapes;
+pub use specifier_type::SpecifierType;
 pub use specifiers::plain;

@@ -59,7 +59,11 @@ impl SpecifierType {
     }
 
     /// An `enum` with its constants, or without them.
-    pub fn enumeration(at: u32, tag: Option<Name>, constants: Option<Seq<Constant>>) -> SpecifierType
+    pub fn enumeration(
+        at: u32,
+        tag: Option<Name>,
+        constants: Option<Seq<Constant>>,
+    ) -> SpecifierType
         ensures { result ≡ nodes.Enum at tag constants }
     {
         SpecifierType {
@@ -85,8 +89,16 @@ impl SpecifierType {
         match &self.ty {
             TypeNode::Basic(basic) => Ok(SpecifierType::basic(*basic)),
             TypeNode::Named(name) => Ok(SpecifierType::of_name(name.copy()?)),
-            TypeNode::Enum { at, tag, .. } => Ok(SpecifierType::enumeration(*at, copy_of(tag)?, None)),
-            TypeNode::Struct { at, tag, .. } => Ok(SpecifierType::structure(*at, copy_of(tag)?, None)),
+            TypeNode::Enum { at, tag, .. } => Ok(SpecifierType::enumeration(
+                *at,
+                copy_of(tag)?,
+                None,
+            )),
+            TypeNode::Struct { at, tag, .. } => Ok(SpecifierType::structure(
+                *at,
+                copy_of(tag)?,
+                None,
+            )),
             TypeNode::Pointer(_) | TypeNode::Array { .. } | TypeNode::Takes { .. } => {
                 unreachable!()
             }

@@ -52,7 +52,11 @@ pub fn read_words(tokens: &mut Tokens<'_>) -> SpecifierStart
 
 /// Reads the name of a type.
 #[tactic(auto, unfolding(c_grammar::specs::ParseExpr::named_type))]
-pub fn named_type(alloc: Global, scope: &Scope, tokens: &mut Tokens<'_>) -> Result<SpecifierType, Fault>
+pub fn named_type(
+    alloc: Global,
+    scope: &Scope,
+    tokens: &mut Tokens<'_>,
+) -> Result<SpecifierType, Fault>
     ensures answers { Answers (model.named_type scope.now tokens.old) result tokens.new }
     ensures bare { IfOk result (λ base. types.bare base ≡ base) }
 {
@@ -67,11 +71,7 @@ pub fn named_type(alloc: Global, scope: &Scope, tokens: &mut Tokens<'_>) -> Resu
 
 /// Reads the tag behind its word.
 #[tactic(auto, unfolding(c_grammar::specs::ParseExpr::tag))]
-fn tag(
-    alloc: Global,
-    tokens: &mut Tokens<'_>,
-    word: Specifier,
-) -> Result<SpecifierType, Fault>
+fn tag(alloc: Global, tokens: &mut Tokens<'_>, word: Specifier) -> Result<SpecifierType, Fault>
     ensures answers { Answers (model.tag word tokens.old) result tokens.new }
     ensures bare { IfOk result (λ base. types.bare base ≡ base) }
 {

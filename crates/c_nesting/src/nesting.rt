@@ -152,7 +152,8 @@ impl Walk {
 
     fn open(&mut self) -> Result<(), AllocError>
         requires { self.old.group.count + 1 < 2 ^ 32 }
-        ensures { OnOk result (walking.state_of self.new ≡ walking.act Role.Opens (walking.state_of self.old).outer self.old.group) }
+        ensures { OnOk result (walking.state_of self.new ≡ walking.act Role.Opens
+            (walking.state_of self.old).outer self.old.group) }
     {
         self.outer.push(self.group.with_one())?;
         self.group = Group::EMPTY;

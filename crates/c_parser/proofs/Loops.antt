@@ -28,8 +28,8 @@ end f n at done = let e : n - at ≡ 0 = omega arith in ap f e
 
 pub items_turn : (s : TypeNames) (depth : ℕ) (stmt : Parser Stmt) (n at : ℕ) (found : List Stmt) (ts : List Lexeme) → at < n
     → items_from s depth stmt (n - at) found ts ≡ (if is_mark p.RightBrace (kind_at ts) then Ok (found, behind ts)
-      else if begins_type s ts then and_then (line s depth ts) (λ xs. items_from s depth stmt (n - (at + 1)) (found ++ locals_of xs))
-      else and_then (stmt ts) (λ x. items_from s depth stmt (n - (at + 1)) (found ++ x ∷ [])))
+    else if begins_type s ts then and_then (line s depth ts) (λ xs. items_from s depth stmt (n - (at + 1)) (found ++ locals_of xs))
+    else and_then (stmt ts) (λ x. items_from s depth stmt (n - (at + 1)) (found ++ x ∷ [])))
 unfolding items_from
 items_turn s depth stmt n at found ts = turn (λ m. items_from s depth stmt m found ts) n at
 
@@ -57,8 +57,8 @@ sections_end s depth stmt n at found ts = end (λ m. sections_from s depth stmt 
 
 pub typedefs_turn : (s : TypeNames) (depth n at : ℕ) (ty : TypeNode) (found : List External) (ts : List Lexeme) → at < n
     → typedefs_from s depth (n - at) ty found ts ≡ and_then (declaration s depth nm.Required ty ts) (λ d r.
-        if is_mark p.Comma (kind_at r) then typedefs_from (with_type s d.name) depth (n - (at + 1)) (bare ty) (found ++ x.Typedef d ∷ []) (behind r)
-        else Ok ((found ++ x.Typedef d ∷ [], with_type s d.name), r))
+    if is_mark p.Comma (kind_at r) then typedefs_from (with_type s d.name) depth (n - (at + 1)) (bare ty) (found ++ x.Typedef d ∷ []) (behind r)
+    else Ok ((found ++ x.Typedef d ∷ [], with_type s d.name), r))
 unfolding typedefs_from
 typedefs_turn s depth n at ty found ts = turn (λ m. typedefs_from s depth m ty found ts) n at
 
@@ -68,7 +68,7 @@ typedefs_end s depth n at ty found ts = end (λ m. typedefs_from s depth m ty fo
 
 pub objects_turn : (s : TypeNames) (depth : ℕ) (storage : Option Storage) (n at : ℕ) (ty : TypeNode) (found : List External) (ts : List Lexeme) → at < n
     → objects_from s depth storage (n - at) ty found ts ≡ and_then (declarator s depth nm.Required ts) (λ d. object_named s depth storage ty d.name d.shapes >>= λ v r.
-        if is_mark p.Comma (kind_at r) then objects_from s depth storage (n - (at + 1)) (bare ty) (found ++ v ∷ []) (behind r) else Ok (found ++ v ∷ [], r))
+    if is_mark p.Comma (kind_at r) then objects_from s depth storage (n - (at + 1)) (bare ty) (found ++ v ∷ []) (behind r) else Ok (found ++ v ∷ [], r))
 unfolding objects_from
 objects_turn s depth storage n at ty found ts = turn (λ m. objects_from s depth storage m ty found ts) n at
 

@@ -13,10 +13,12 @@ pub fn one_tree()
 
 /// A text that is read is refused for no cause.
 pub fn read_or_refused()
-    ensures { (text : List ℕ) (x : TranslationUnit) (fault : Fault) → IsRead text x → IsNotRead text fault → fault ≡ NoMemory }
+    ensures { (text : List ℕ) (x : TranslationUnit) (fault : Fault) → IsRead text x → IsNotRead text fault →
+        fault ≡ NoMemory }
 {}
 
 /// A text that is not read is refused for one cause, with one place or count.
 pub fn one_cause()
-    ensures { (text : List ℕ) (a b : Fault) → IsNotRead text a → IsNotRead text b → a ≢ NoMemory → b ≢ NoMemory → a ≡ b }
+    ensures { (text : List ℕ) (a b : Fault) → IsNotRead text a → IsNotRead text b → a ≢ NoMemory → b ≢
+        NoMemory → a ≡ b }
 {}

@@ -28,7 +28,11 @@ fn low_enough(unit: TranslationUnit) -> Result<TranslationUnit, ParseFault>
     ensures height { IfOk result (λ u. unit_height u ≤ most_height) }
     ensures fault { IfErr result (λ e. (e ≡ NoMemory) × (most_height < unit_height unit)) }
 {
-    if is_within_height(&unit, MOST_HEIGHT) { Ok(unit) } else { Err(ParseFault::NoMemory) }
+    if is_within_height(&unit, MOST_HEIGHT) {
+        Ok(unit)
+    } else {
+        Err(ParseFault::NoMemory)
+    }
 }
 
 /// The unit that the tokens of the text spell.
@@ -73,7 +77,7 @@ fn unit_within(alloc: Global, text: &[u8], tokens: &[Token]) -> Result<Translati
 /// [`ParseFault::Syntax`] where neither holds and its tokens have no reading, with the offset of the
 /// refused token, the first that ends no front of any list of tokens with a reading, or the text's
 /// length where each front can go on; and [`ParseFault::NoMemory`], also where more than 1,024
-/// constructs are open in one another, or the tree would be higher.
+/// constructs are open inside the outermost one, or the tree would be higher.
 pub fn parse(alloc: Global, text: &[u8]) -> Result<TranslationUnit, ParseFault>
     requires { length text.now ≤ most_bytes }
     ensures read { IfOk result (IsRead text.now) }

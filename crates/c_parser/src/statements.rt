@@ -7,9 +7,8 @@ ghost use Rattle.c_grammar.specs.ParseExpr.{list_from};
 ghost use Rattle.c_grammar.specs.ParseStatements as model;
 ghost use Rattle.c_expression_parser.specs.Answers.{Answers};
 
-use c_expression_parser::{SpecifierType, Fault, Scope, Tokens, declaration, expr, plain, whole};
-use c_grammar::levels;
-use c_grammar::{Head, Naming, head_of};
+use c_expression_parser::{Fault, Scope, SpecifierType, Tokens, declaration, expr, plain, whole};
+use c_grammar::{Head, Naming, head_of, levels};
 use c_lexer::{Keyword, Punct};
 use c_tree::{Box, Expr, ForFirst, Label, Local, Section, Seq, Stmt, TypeNode};
 use std::alloc::{AllocError, Global};
@@ -50,7 +49,8 @@ fn locals(
     base: SpecifierType,
 ) -> Result<Seq<Local>, Fault>
     requires { bare base ≡ base }
-    ensures { Answers (list_from (model.local scope.now depth base) (length tokens.old) [] tokens.old) result tokens.new }
+    ensures { Answers (list_from (model.local scope.now depth base) (length tokens.old) [] tokens.old) result
+        tokens.new }
 {
     let mut found = Seq::new(alloc);
     for _turn in 0..tokens.left() {
@@ -244,7 +244,8 @@ pub fn items(
     depth: usize,
     inner: usize,
 ) -> Result<Seq<Stmt>, Fault>
-    ensures { Answers (model.items_from scope.now depth (model.stmt scope.now inner) (length tokens.old) [] tokens.old) result tokens.new }
+    ensures { Answers (model.items_from scope.now depth (model.stmt scope.now inner) (length tokens.old) []
+        tokens.old) result tokens.new }
 {
     let mut found = Seq::new(alloc);
     for _turn in 0..tokens.left() {
@@ -271,7 +272,8 @@ fn stmts(
     depth: usize,
     inner: usize,
 ) -> Result<Seq<Stmt>, Fault>
-    ensures { Answers (model.stmts_from scope.now depth (model.stmt scope.now inner) (length tokens.old) [] tokens.old) result tokens.new }
+    ensures { Answers (model.stmts_from scope.now depth (model.stmt scope.now inner) (length tokens.old) []
+        tokens.old) result tokens.new }
 {
     let mut found = Seq::new(alloc);
     for _turn in 0..tokens.left() {
@@ -310,7 +312,8 @@ fn sections(
     depth: usize,
     inner: usize,
 ) -> Result<Seq<Section>, Fault>
-    ensures { Answers (model.sections_from scope.now depth (model.stmt scope.now inner) (length tokens.old) [] tokens.old) result tokens.new }
+    ensures { Answers (model.sections_from scope.now depth (model.stmt scope.now inner) (length tokens.old)
+        [] tokens.old) result tokens.new }
 {
     let mut found = Seq::new(alloc);
     for _turn in 0..tokens.left() {
@@ -335,7 +338,8 @@ fn alternative(
     condition: Expr,
     then: Box<Stmt>,
 ) -> Result<Stmt, Fault>
-    ensures { Answers (model.alternative scope.now depth (model.stmt scope.now inner) condition then tokens.old) result tokens.new }
+    ensures { Answers (model.alternative scope.now depth (model.stmt scope.now inner) condition then
+        tokens.old) result tokens.new }
 {
     if !tokens.sees_word(Keyword::Else) {
         return Ok(Stmt::If {

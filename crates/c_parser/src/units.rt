@@ -9,10 +9,10 @@ ghost use Rattle.c_grammar.specs.Units.{external_of, is_function};
 
 use crate::statements::items;
 use c_expression_parser::{
-    SpecifierType, Fault, Scope, Tokens, append, declaration, declarator, expr, with_shapes, specifier,
+    Fault, Scope, SpecifierType, Tokens, append, declaration, declarator, expr, specifier,
+    with_shapes,
 };
-use c_grammar::levels;
-use c_grammar::{Declarator, DeclaredName, Naming, Opening, Shape, opening_of};
+use c_grammar::{Declarator, DeclaredName, Naming, Opening, Shape, levels, opening_of};
 use c_lexer::Punct;
 use c_tree::{Declaration, External, FunctionEnd, Init, Seq, Storage, TypeNode};
 use std::alloc::{AllocError, Global};
@@ -26,7 +26,8 @@ fn inits(
     tokens: &mut Tokens<'_>,
     depth: usize,
 ) -> Result<Seq<Init>, Fault>
-    ensures { Answers (braced_list_from (model.init scope.now depth) (length tokens.old) [] tokens.old) result tokens.new }
+    ensures { Answers (braced_list_from (model.init scope.now depth) (length tokens.old) [] tokens.old)
+        result tokens.new }
 {
     let mut found = Seq::new(alloc);
     for _turn in 0..tokens.left() {
@@ -45,12 +46,7 @@ fn inits(
 /// Reads an initialiser. The depth bounds how deep it goes: as much as there are tokens is enough.
 #[cycle(init)]
 #[tactic(auto, using(crate::proofs::Deeper::init_deeper), unfolding(c_grammar::specs::ParseUnits::init, c_grammar::specs::ParseUnits::init_list, c_grammar::specs::ParseUnits::init_value))]
-fn init(
-    alloc: Global,
-    scope: &Scope,
-    tokens: &mut Tokens<'_>,
-    depth: usize,
-) -> Result<Init, Fault>
+fn init(alloc: Global, scope: &Scope, tokens: &mut Tokens<'_>, depth: usize) -> Result<Init, Fault>
     ensures { Answers (model.init scope.now depth tokens.old) result tokens.new }
 {
     if depth == 0 {
@@ -76,7 +72,8 @@ fn typedef_declarators(
     depth: usize,
     base: SpecifierType,
 ) -> Result<Seq<External>, Fault>
-    ensures { AnswersIn (model.typedefs_from scope.old depth (length tokens.old) base [] tokens.old) result scope.new tokens.new }
+    ensures { AnswersIn (model.typedefs_from scope.old depth (length tokens.old) base [] tokens.old) result
+        scope.new tokens.new }
 {
     let mut found = Seq::new(alloc);
     let mut ty = base;
@@ -150,7 +147,8 @@ impl TypedDeclarator {
         storage: Option<Storage>,
         init: Option<Init>,
     ) -> Result<External, AllocError>
-        ensures { IfOk result (λ x. x ≡ external_of (is_function self.shapes) (types.declaration_of self.ty self.named self.shapes) storage init) }
+        ensures { IfOk result (λ x. x ≡ external_of (is_function self.shapes)
+            (types.declaration_of self.ty self.named self.shapes) storage init) }
     {
         let is_function = self.is_function();
         let declaration = self.into_declaration(alloc)?;
@@ -183,7 +181,8 @@ fn object(
     storage: Option<Storage>,
     typed: TypedDeclarator,
 ) -> Result<External, Fault>
-    ensures { Answers (model.object_by scope.now depth storage typed.ty typed.named typed.shapes tokens.old) result tokens.new }
+    ensures { Answers (model.object_by scope.now depth storage typed.ty typed.named typed.shapes tokens.old)
+        result tokens.new }
 {
     if !tokens.sees(Punct::Assign) {
         return Ok(typed.into_external(alloc, storage, None)?);
@@ -204,7 +203,8 @@ fn objects(
     base: SpecifierType,
     found: Seq<External>,
 ) -> Result<Seq<External>, Fault>
-    ensures { Answers (model.objects_from scope.now depth storage (length tokens.old) base found tokens.old) result tokens.new }
+    ensures { Answers (model.objects_from scope.now depth storage (length tokens.old) base found tokens.old)
+        result tokens.new }
 {
     let mut found = found;
     let mut ty = base;
@@ -248,7 +248,8 @@ fn objects_behind(
     bare: SpecifierType,
 ) -> Result<Seq<External>, Fault>
     requires { types.bare typed.ty ≡ bare }
-    ensures { Answers (model.objects_behind scope.now depth storage typed.ty typed.named typed.shapes tokens.old) result tokens.new }
+    ensures { Answers (model.objects_behind scope.now depth storage typed.ty typed.named typed.shapes
+        tokens.old) result tokens.new }
 {
     let mut found = Seq::new(alloc);
     found.push(object(alloc, scope, tokens, depth, storage, typed)?)?;
@@ -293,7 +294,8 @@ fn objects_or_body(
     bare: SpecifierType,
 ) -> Result<Seq<External>, Fault>
     requires { types.bare typed.ty ≡ bare }
-    ensures { Answers (model.objects_named scope.now depth storage typed.ty typed.named typed.shapes tokens.old) result tokens.new }
+    ensures { Answers (model.objects_named scope.now depth storage typed.ty typed.named typed.shapes
+        tokens.old) result tokens.new }
 {
     if tokens.sees(Punct::LeftBrace) {
         tokens.take();
