@@ -16,6 +16,7 @@ pub enum Kind {
     Runs,
     Memory,
     Trees,
+    Completions,
     Places,
     Nesting,
     Depth,
@@ -25,7 +26,7 @@ pub enum Kind {
 }
 
 /// The kinds in the order in which they are checked.
-pub static KINDS: [Kind; 14] = [
+pub static KINDS: [Kind; 15] = [
     Kind::Tokens,
     Kind::TokenKinds,
     Kind::MarkPairs,
@@ -34,6 +35,7 @@ pub static KINDS: [Kind; 14] = [
     Kind::Runs,
     Kind::Memory,
     Kind::Trees,
+    Kind::Completions,
     Kind::Places,
     Kind::Nesting,
     Kind::Depth,
@@ -54,6 +56,7 @@ impl Kind {
             Kind::Runs => "runs.rows",
             Kind::Memory => "memory.rows",
             Kind::Trees => "trees.rows",
+            Kind::Completions => "completions.rows",
             Kind::Places => "places.rows",
             Kind::Nesting => "nesting.rows",
             Kind::Depth => "depth.rows",
@@ -73,6 +76,7 @@ impl Kind {
             Kind::Runs => runs::answer(alloc, given),
             Kind::Memory => memory::answer(alloc, mem, given),
             Kind::Trees => trees::tree(alloc, given),
+            Kind::Completions => trees::completion(alloc, given),
             Kind::Places => places::answer(alloc, given),
             Kind::Nesting => trees::nesting(alloc, given),
             Kind::Depth => trees::is_read(alloc, given),

@@ -1,7 +1,7 @@
 //! Texts with their trees, and with how deep they nest.
 
 use crate::escape::unescape;
-use anyhow::{Result, ensure};
+use anyhow::{Context, Result, ensure};
 use c_parser::{ParseFault, nest, parse};
 use c_tree::tree_text;
 use std::alloc::{AllocError, Global};
@@ -38,6 +38,29 @@ pub fn is_read(alloc: Global, given: &str) -> Result<Vec<u8>> {
         Ok(_unit) => "read\n".to_string(alloc)?.into_bytes(),
         Err(fault) => refused(alloc, fault)?,
     })
+}
+
+/// Why a text is refused, and whether what stands before the refused token is read with other tokens
+/// behind it.
+pub fn completion(alloc: Global, given: &str) -> Result<Vec<u8>> {
+    let (text, tokens) = given.split_once(" ... ").context("no ` ... `")?;
+    let text = unescape(alloc, text)?;
+    ensure!(text.len() <= MOST_TEXT, "a text that is too long");
+    let at = match parse(alloc, text.as_slice()) {
+        Err(ParseFault::Syntax { at }) => at,
+        Err(fault) => return Ok(refused(alloc, fault)?),
+        Ok(_unit) => return Ok("read\n".to_string(alloc)?.into_bytes()),
+    };
+    let front = text.get(..at as usize).context("a place beyond the text")?;
+    let mut whole = Vec::from_slice(alloc, front)?;
+    whole.extend_from_slice(unescape(alloc, tokens)?.as_slice())?;
+    ensure!(whole.len() <= MOST_TEXT, "a text that is too long");
+    let mut shown = format!(in alloc; "Syntax {at}, ")?.into_bytes();
+    match parse(alloc, whole.as_slice()) {
+        Ok(_unit) => shown.extend_from_slice(b"read\n")?,
+        Err(fault) => shown.extend_from_slice(refused(alloc, fault)?.as_slice())?,
+    }
+    Ok(shown)
 }
 
 /// How deep a text nests.
