@@ -1,6 +1,4 @@
 use Rattle.std.proofs.Common.{◌≤◌, arith}
-use Rattle.c_nesting.specs.Nesting.{nesting_of}
-use Rattle.c_nesting.specs.HasNesting.{toks_of}
 use Rattle.c_parser.specs.Limits.{most_nesting}
 use Rattle.c_parser.proofs.Whole.{has_nesting, within_limit, read_of, not_read_of, few_of}
 use Rattle.c_parser.proofs.parsing.unit_within.Goals as goal
