@@ -163,7 +163,7 @@ impl Machine {
                 let Ok(byte) = input.next() else {
                     return Some(Ending::InputFault);
                 };
-                self.processor.took(byte);
+                self.processor.resume_with(byte);
                 self.steps = self.steps.saturating_add(1);
                 None
             }

@@ -165,7 +165,7 @@ impl Processor {
     }
 
     /// Goes on after a store, if it was done.
-    fn stored(&mut self, done: bool) -> bool
+    fn finish_store(&mut self, done: bool) -> bool
         requires { self.old.pc < 2 ^ 32 }
         ensures step { (x y : List ℕ) → next_if_done result (processor_state self.new x y) ≡ advanced_if done (processor_state self.old x y) }
         ensures kept { KeepsText self.old self.new }
@@ -209,19 +209,19 @@ impl Processor {
             }
             MemoryOp::Stb => {
                 let done = self.memory.write_byte(address, self.registers.get(ra));
-                self.stored(done)
+                self.finish_store(done)
             }
             MemoryOp::Stw => {
                 let done = self.memory.write_short(address, self.registers.get(ra));
-                self.stored(done)
+                self.finish_store(done)
             }
             MemoryOp::Stl => {
                 let done = self.memory.write_long(address, self.registers.get(ra));
-                self.stored(done)
+                self.finish_store(done)
             }
             MemoryOp::Stq => {
                 let done = self.memory.write_quad(address, self.registers.get(ra));
-                self.stored(done)
+                self.finish_store(done)
             }
         }
     }
@@ -309,7 +309,7 @@ impl Processor {
     }
 
     /// Goes on with a byte that was taken, or with -1 at the end of the input.
-    pub(crate) fn took(&mut self, byte: Option<u8>)
+    pub(crate) fn resume_with(&mut self, byte: Option<u8>)
         requires { self.old.pc < 2 ^ 32 }
         ensures step { (x y : List ℕ) → byte ≡ slice_get x 0 → Goes (processor_state self.new (drop 1 x) y) ≡ next_instruction (with_taken (processor_state self.old x y)) }
         ensures kept { KeepsText self.old self.new }

@@ -6,7 +6,7 @@ ghost use Rattle.std.specs.Io.KnownBytes.{Keeps, IsAtEnd};
 ghost use Rattle.std.specs.Io.Buffered.{reader_remaining};
 ghost use Rattle.bk_io.specs.Outside.{count_end, faults_after, next_count};
 ghost use Rattle.bk_io.specs.Shelf.{faults_after_read, Appends};
-ghost use Rattle.bk_io.specs.Adapters.{GivesByte, Writes, WritesSome, AppendsRead, AppendsPart};
+ghost use Rattle.bk_io.specs.Adapters.{GivesByte, Writes, WritesSome, AppendsRead, AppendsPart, AppendsNone};
 
 use crate::outside::{Failed, FileFault, Files, Got, Sink, Source};
 use std::alloc::{AllocError, Global};
@@ -211,9 +211,10 @@ fn append_some<R: Read>(
     ensures most { IfOk result (λ n. n ≤ length chunk.old) }
     ensures len { length chunk.new ≡ length chunk.old }
     ensures err { OnErr result (into.new.items ≡ into.old.items) }
-    ensures failed { IfErr result (λ e. e ≡ FileFault.Failed → Keeps (R.remaining reader.old) (R.remaining reader.new)) }
+    ensures cause { IfErr result (λ e. AppendsNone e (R.remaining reader.old) (R.remaining reader.new)) }
 {
     let count = match reader.read(chunk) {
+        Ok(0) => return Ok(0),
         Ok(count) => count,
         Err(_) => return Err(FileFault::Failed),
     };
@@ -236,7 +237,10 @@ fn read_up_to<R: Read>(
     let mut left = limit;
     for _turn in 0..limit {
         let most = left.min(chunk.len() as u64) as usize;
-        let count = append_some(reader, &mut chunk[..most], into)?;
+        let count = match append_some(reader, &mut chunk[..most], into) {
+            Ok(count) => count,
+            Err(fault) => return Err(fault),
+        };
         if count == 0 {
             return Ok(Got::Whole);
         }

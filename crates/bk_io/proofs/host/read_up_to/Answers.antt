@@ -1,6 +1,10 @@
 use Rattle.std.proofs.Common.{◌≡◌, ℕ, ◌+◌, List, ◌++◌, ◌∙◌, sym, ap, append_assoc, length-append, arith, Option, Some, None}
 use Rattle.std.specs.Io.KnownBytes.{Keeps, Consumes}
-use Rattle.bk_io.specs.Adapters.{AppendsPart}
+use Rattle.std.specs.Prelude.{Err}
+use Rattle.bk_io.proofs.host.read_up_to.Goals as goal
+use Rattle.bk_io.specs.declared.outside.FileFault.{FileFault}
+use Rattle.bk_io.specs.declared.outside.FileFault.TheVariants.{Failed, NoMemory}
+use Rattle.bk_io.specs.Adapters.{AppendsPart, AppendsNone, LeavesReader}
 
 -- what is consumed twice is consumed once
 consumes_both : (old mid new : Option (List ℕ)) (xs ys : List ℕ) → Consumes old mid xs → Consumes mid new ys → Consumes old new (xs ++ ys)
@@ -24,3 +28,25 @@ kept_after None mid new xs first same = tt
 kept_after (Some a) None new xs first same = elim first [ ]
 kept_after (Some a) (Some b) None xs first same = elim same [ ]
 kept_after (Some a) (Some b) (Some c) xs first same = first ∙ ap (λ rest. xs ++ rest) (sym same)
+
+-- what a turn that appended nothing leaves of the reader
+after_none : (e : FileFault) (old mid new : Option (List ℕ)) (xs : List ℕ) → Consumes old mid xs → AppendsNone e mid new → LeavesReader (Err e) xs old new
+after_none Failed old mid new xs first none = kept_after old mid new xs first none
+after_none NoMemory old mid new xs first none = (none.0, none.1, consumes_both old mid new xs none.0 first none.2)
+
+pub returns-in-Err : goal.returns-in-Err
+returns-in-Err g c =
+    let part = c.loop-turn.invariant.part in (
+      part.0,
+      c.in-Err.ensures.err ∙ part.1,
+      omega (arith, part.2),
+      after_none c.in-Err.fault _ _ _ part.0 part.3 c.in-Err.ensures.cause,
+    )
+
+pub loop-turn-preserved : goal.loop-turn-preserved
+loop-turn-preserved g c = record {
+  part = both _ _ _ _ _ _ _ _ _ c.loop-turn.invariant.part c.in-Ok.ensures.ok (omega arith);
+  within = omega arith;
+  more = λ _. omega arith;
+  some = omega (arith, c.loop-turn.invariant.some);
+}

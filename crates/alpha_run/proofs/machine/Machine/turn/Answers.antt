@@ -43,7 +43,7 @@ returns-in-Ok-clause-run g c p x y r none left =
     let runs : IsProcessorOf p c.self.inside.processor = processor_runs p c.self.inside c.args.self.now c.self.view_is c.self.invariant r in
     let did = c.in-Takes.ensures.step p x y runs in
     let byte = subst (λ o. IfSome o (λ (bytes : List ℕ). c.in-Ok.byte ≡ slice_get bytes 0)) left c.in-Ok.ensures.byte in
-    takes_turn p x y c.self.inside c.args.self.now c.self.view_is none c.step.new.self c.took.new.self c.in-Ok.byte _ _ _ did.0 did.1 did.2 (c.took.ensures.step x y byte) (c.took.ensures.kept.text ∙ c.step.ensures.kept.text) c.saturating_add-self-inside-in-Takes.ensures left c.in-Ok.ensures.left c.in-Ok.ensures.made refl
+    takes_turn p x y c.self.inside c.args.self.now c.self.view_is none c.step.new.self c.resume_with.new.self c.in-Ok.byte _ _ _ did.0 did.1 did.2 (c.resume_with.ensures.step x y byte) (c.resume_with.ensures.kept.text ∙ c.step.ensures.kept.text) c.saturating_add-self-inside-in-Takes.ensures left c.in-Ok.ensures.left c.in-Ok.ensures.made refl
 
 pub returns-in_default-clause-run : goal.returns-in_default-clause-run
 returns-in_default-clause-run g c p x y r none left =

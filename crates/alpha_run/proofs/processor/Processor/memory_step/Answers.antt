@@ -38,19 +38,19 @@ returns-in-Ldq-clause-step c p x y r =
 pub returns-in-Stb-clause-step : goal.returns-in-Stb-clause-step
 returns-in-Stb-clause-step c p x y r =
     let s : State = processor_state c.args.self.now x y in
-    c.stored.ensures.step x y ∙ advanced_stored c.write_byte-done.result c.args.self.now c.write_byte-done.new.self x y c.write_byte-done.ensures.unchanged ∙ stb_stored p c.args.op c.args.ra c.args.rb c.args.disp s c.address-address.result c.get.result _ c.in-Stb.is (address_is s c.args.rb c.args.disp c.bytes_on.result c.address-address.result c.ranges.disp (c.address-address.ensures x y) c.bytes_on.ensures) c.get.ensures (c.write_byte-done.ensures.bytes p s (memory_of p c.args.self.now x y r))
+    c.finish_store.ensures.step x y ∙ advanced_stored c.write_byte-done.result c.args.self.now c.write_byte-done.new.self x y c.write_byte-done.ensures.unchanged ∙ stb_stored p c.args.op c.args.ra c.args.rb c.args.disp s c.address-address.result c.get.result _ c.in-Stb.is (address_is s c.args.rb c.args.disp c.bytes_on.result c.address-address.result c.ranges.disp (c.address-address.ensures x y) c.bytes_on.ensures) c.get.ensures (c.write_byte-done.ensures.bytes p s (memory_of p c.args.self.now x y r))
 
 pub returns-in-Stw-clause-step : goal.returns-in-Stw-clause-step
 returns-in-Stw-clause-step c p x y r =
     let s : State = processor_state c.args.self.now x y in
-    c.stored-in-Stw.ensures.step x y ∙ advanced_stored c.write_short-done.result c.args.self.now c.write_short-done.new.self x y c.write_short-done.ensures.unchanged ∙ stw_stored p c.args.op c.args.ra c.args.rb c.args.disp s c.address-address.result c.get-in-Stw.result _ c.in-Stw.is (address_is s c.args.rb c.args.disp c.bytes_on.result c.address-address.result c.ranges.disp (c.address-address.ensures x y) c.bytes_on.ensures) c.get-in-Stw.ensures (c.write_short-done.ensures.bytes p s (memory_of p c.args.self.now x y r))
+    c.finish_store-in-Stw.ensures.step x y ∙ advanced_stored c.write_short-done.result c.args.self.now c.write_short-done.new.self x y c.write_short-done.ensures.unchanged ∙ stw_stored p c.args.op c.args.ra c.args.rb c.args.disp s c.address-address.result c.get-in-Stw.result _ c.in-Stw.is (address_is s c.args.rb c.args.disp c.bytes_on.result c.address-address.result c.ranges.disp (c.address-address.ensures x y) c.bytes_on.ensures) c.get-in-Stw.ensures (c.write_short-done.ensures.bytes p s (memory_of p c.args.self.now x y r))
 
 pub returns-in-Stl-clause-step : goal.returns-in-Stl-clause-step
 returns-in-Stl-clause-step c p x y r =
     let s : State = processor_state c.args.self.now x y in
-    c.stored-in-Stl.ensures.step x y ∙ advanced_stored c.write_long-done.result c.args.self.now c.write_long-done.new.self x y c.write_long-done.ensures.unchanged ∙ stl_stored p c.args.op c.args.ra c.args.rb c.args.disp s c.address-address.result c.get-in-Stl.result _ c.in-Stl.is (address_is s c.args.rb c.args.disp c.bytes_on.result c.address-address.result c.ranges.disp (c.address-address.ensures x y) c.bytes_on.ensures) c.get-in-Stl.ensures (c.write_long-done.ensures.bytes p s (memory_of p c.args.self.now x y r))
+    c.finish_store-in-Stl.ensures.step x y ∙ advanced_stored c.write_long-done.result c.args.self.now c.write_long-done.new.self x y c.write_long-done.ensures.unchanged ∙ stl_stored p c.args.op c.args.ra c.args.rb c.args.disp s c.address-address.result c.get-in-Stl.result _ c.in-Stl.is (address_is s c.args.rb c.args.disp c.bytes_on.result c.address-address.result c.ranges.disp (c.address-address.ensures x y) c.bytes_on.ensures) c.get-in-Stl.ensures (c.write_long-done.ensures.bytes p s (memory_of p c.args.self.now x y r))
 
 pub returns-in-Stq-clause-step : goal.returns-in-Stq-clause-step
 returns-in-Stq-clause-step c p x y r =
     let s : State = processor_state c.args.self.now x y in
-    c.stored-in-Stq.ensures.step x y ∙ advanced_stored c.write_quad-done.result c.args.self.now c.write_quad-done.new.self x y c.write_quad-done.ensures.unchanged ∙ stq_stored p c.args.op c.args.ra c.args.rb c.args.disp s c.address-address.result c.get-in-Stq.result _ c.in-Stq.is (address_is s c.args.rb c.args.disp c.bytes_on.result c.address-address.result c.ranges.disp (c.address-address.ensures x y) c.bytes_on.ensures) c.get-in-Stq.ensures (c.write_quad-done.ensures.bytes p s (memory_of p c.args.self.now x y r))
+    c.finish_store-in-Stq.ensures.step x y ∙ advanced_stored c.write_quad-done.result c.args.self.now c.write_quad-done.new.self x y c.write_quad-done.ensures.unchanged ∙ stq_stored p c.args.op c.args.ra c.args.rb c.args.disp s c.address-address.result c.get-in-Stq.result _ c.in-Stq.is (address_is s c.args.rb c.args.disp c.bytes_on.result c.address-address.result c.ranges.disp (c.address-address.ensures x y) c.bytes_on.ensures) c.get-in-Stq.ensures (c.write_quad-done.ensures.bytes p s (memory_of p c.args.self.now x y r))
