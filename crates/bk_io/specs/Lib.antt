@@ -2,3 +2,4 @@ pub mod Outside
 pub mod Shelf
 pub mod Memory
 pub mod Adapters
+pub mod model

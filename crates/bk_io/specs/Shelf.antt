@@ -38,10 +38,6 @@ IsCount (Ok Whole) limit n = n < limit
 IsCount (Ok Cut) limit n = n ≡ limit
 IsCount (Err e) limit n = n ≤ limit
 
--- so many bytes are appended
-abbrev pub AppendsSome : ℕ → List ℕ → List ℕ → Type 0
-AppendsSome n old new = (bytes : List ℕ) × (new ≡ old ++ bytes) × (length bytes ≡ n)
-
 -- a read appends bytes to those that were there
 abbrev pub Appends : Result Got FileFault → ℕ → List ℕ → List ℕ → Type 0
 Appends r limit old new = (bytes : List ℕ) × (new ≡ old ++ bytes) × IsCount r limit (length bytes)

@@ -6,7 +6,8 @@ ghost use Rattle.std.specs.Io.KnownBytes.{Keeps, IsAtEnd};
 ghost use Rattle.std.specs.Io.Buffered.{reader_remaining};
 ghost use Rattle.bk_io.specs.Outside.{count_end, faults_after, next_count};
 ghost use Rattle.bk_io.specs.Shelf.{faults_after_read, Appends};
-ghost use Rattle.bk_io.specs.Adapters.{GivesByte, Writes, WritesSome, AppendsRead, AppendsPart, AppendsNone};
+ghost use Rattle.bk_io.specs.Adapters.{GivesByte, Writes};
+ghost use Rattle.bk_io.specs.model.Steps.{WritesSome, AppendsRead, AppendsPart, AppendsNone};
 
 use crate::outside::{Failed, FileFault, Files, Got, Sink, Source};
 use std::alloc::{AllocError, Global};
@@ -213,15 +214,11 @@ fn append_some<R: Read>(
     ensures err { OnErr result (into.new.items ≡ into.old.items) }
     ensures cause { IfErr result (λ e. AppendsNone e (R.remaining reader.old) (R.remaining reader.new)) }
 {
-    let count = match reader.read(chunk) {
-        Ok(0) => return Ok(0),
-        Ok(count) => count,
-        Err(_) => return Err(FileFault::Failed),
-    };
-    match into.extend_from_slice(&chunk[..count]) {
-        Ok(()) => Ok(count),
-        Err(_) => Err(FileFault::NoMemory),
+    let count = reader.read(chunk)?;
+    if count > 0 {
+        into.extend_from_slice(&chunk[..count])?;
     }
+    Ok(count)
 }
 
 /// Appends the bytes of a reader until its end or the limit.
@@ -252,6 +249,22 @@ fn read_up_to<R: Read>(
     Ok(Got::Cut)
 }
 
+/// Opens a file and appends its bytes until its end or the limit.
+fn read_file<R: rt::Files>(
+    runtime: &R,
+    name: &str,
+    chunk: &mut [u8],
+    into: &mut Vec<u8>,
+    limit: u64,
+) -> Result<Got, FileFault>
+    requires { 0 < length chunk.old }
+    ensures appends { Appends result limit into.old.items into.new.items }
+    ensures len { length chunk.new ≡ length chunk.old }
+{
+    let mut file = fs::open(runtime, name)?;
+    read_up_to(&mut file, chunk, into, limit)
+}
+
 impl<R: rt::Files + Drop> Files for HostFiles<R> {
     ghost use Rattle.std.specs.Prelude.{None};
 
@@ -260,10 +273,8 @@ impl<R: rt::Files + Drop> Files for HostFiles<R> {
     ghost told = { λ _. None };
 
     fn read(&mut self, name: &str, into: &mut Vec<u8>, limit: u64) -> Result<Got, FileFault> {
-        let answer = match fs::open(&self.runtime, name) {
-            Ok(mut file) => read_up_to(&mut file, self.chunk.as_mut_slice(), into, limit),
-            Err(_) => Err(FileFault::Failed),
-        };
+        let chunk = self.chunk.as_mut_slice();
+        let answer = read_file(&self.runtime, name, chunk, into, limit);
         if answer == Err(FileFault::Failed) {
             self.faults = self.faults.saturating_add(1);
         }

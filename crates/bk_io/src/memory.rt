@@ -249,8 +249,6 @@ fn append(into: &mut Vec<u8>, file: &[u8], limit: u64) -> Result<Got, FileFault>
     } else {
         (&file[..limit], Got::Cut)
     };
-    match into.extend_from_slice(front) {
-        Ok(()) => Ok(got),
-        Err(_) => Err(FileFault::NoMemory),
-    }
+    into.extend_from_slice(front)?;
+    Ok(got)
 }

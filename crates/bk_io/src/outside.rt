@@ -4,6 +4,8 @@ ghost use Rattle.std.specs.Prelude.{◌≡◌, ℕ, ◌↔◌, List, IfOk, IfSom
 ghost use Rattle.bk_io.specs.Outside.{next_count, faults_after, left_after, taken_after, TakesSlice};
 ghost use Rattle.bk_io.specs.Shelf.{Shelf, is_due, file_of, after_call, faults_after_read, Appends, AppendsFile};
 
+use std::alloc::AllocError;
+use std::io;
 use thiserror::Error;
 
 /// A byte could not be read or written.
@@ -18,6 +20,28 @@ pub enum FileFault {
     Failed,
     #[error("there was no memory for the file")]
     NoMemory,
+}
+
+/// A file that could not be opened or read is a failure, whatever the system says of it.
+impl From<io::Error> for FileFault {
+    ghost use Rattle.bk_io.specs.declared.outside.FileFault.TheVariants.{Failed};
+
+    ghost from_gives = { λ _ fault. fault ≡ Failed };
+
+    fn from(_error: io::Error) -> FileFault {
+        FileFault::Failed
+    }
+}
+
+/// A list that could not grow is want of memory.
+impl From<AllocError> for FileFault {
+    ghost use Rattle.bk_io.specs.declared.outside.FileFault.TheVariants.{NoMemory};
+
+    ghost from_gives = { λ _ fault. fault ≡ NoMemory };
+
+    fn from(_error: AllocError) -> FileFault {
+        FileFault::NoMemory
+    }
 }
 
 /// How much of a file was read.

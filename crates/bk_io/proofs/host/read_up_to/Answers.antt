@@ -4,7 +4,7 @@ use Rattle.std.specs.Prelude.{Err}
 use Rattle.bk_io.proofs.host.read_up_to.Goals as goal
 use Rattle.bk_io.specs.declared.outside.FileFault.{FileFault}
 use Rattle.bk_io.specs.declared.outside.FileFault.TheVariants.{Failed, NoMemory}
-use Rattle.bk_io.specs.Adapters.{AppendsPart, AppendsNone, LeavesReader}
+use Rattle.bk_io.specs.model.Steps.{AppendsPart, AppendsNone, LeavesReader}
 
 -- what is consumed twice is consumed once
 consumes_both : (old mid new : Option (List ℕ)) (xs ys : List ℕ) → Consumes old mid xs → Consumes mid new ys → Consumes old new (xs ++ ys)

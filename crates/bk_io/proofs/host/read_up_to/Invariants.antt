@@ -1,6 +1,6 @@
 -- what was appended and what may still come are the limit, and each turn took a byte
 use Rattle.std.proofs.Common.{◌≤◌, ◌<◌, ◌+◌, ◌-◌, length}
-use Rattle.bk_io.specs.Adapters.{AppendsPart}
+use Rattle.bk_io.specs.model.Steps.{AppendsPart}
 use Rattle.bk_io.proofs.host.read_up_to.Given as goal
 
 abbrev pub invariant-loop-turn : goal.invariant-loop-turn
