@@ -1,0 +1,3 @@
+pub mod IntegerTypes
+pub mod Words
+pub mod Operations
