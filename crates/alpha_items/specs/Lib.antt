@@ -1,2 +1,4 @@
 pub mod Items
 pub mod Assembly
+pub mod Layout
+pub mod Words

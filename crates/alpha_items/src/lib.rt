@@ -5,4 +5,5 @@
 pub mod asm;
 pub mod final_fn;
 pub mod item;
+pub mod laws;
 pub mod name;

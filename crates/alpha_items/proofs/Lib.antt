@@ -1,0 +1,5 @@
+pub mod Sums
+pub mod Reach
+pub mod Far
+pub mod Forced
+pub mod Unique
