@@ -1,0 +1,6 @@
+pub mod Chains
+pub mod Changes
+pub mod Distinct
+pub mod Tails
+pub mod Views
+pub mod Writes
