@@ -10,9 +10,10 @@ use Rattle.c_tree.specs.declared.expressions.BinaryOp.{BinaryOp}
 use Rattle.c_tree.specs.declared.expressions.BinaryOp.TheVariants as b
 use Rattle.c_grammar.specs.declared.classes.Infix.{Infix}
 use Rattle.c_grammar.specs.declared.classes.Infix.TheVariants as i
-use Rattle.c_grammar.specs.Classes.{infix_of, prefix_of, specifier_of, begins_by, begins_type_by}
+use Rattle.c_grammar.specs.Classes.{infix_of, prefix_of, specifier_of, begins_type_by}
 use Rattle.c_grammar.specs.Levels.{level_of, binding_level}
-use Rattle.c_grammar.specs.Tokens.{TypeNames, is_mark, is_text, kind_at, is_type_at, begins, begins_type}
+use Rattle.c_grammar.specs.Tokens.{TypeNames, is_mark, is_text, kind_at, is_type_at, begins_type}
+use Rattle.c_grammar.specs.model.Begins.{begins, begins_by}
 use Rattle.c_grammar.proofs.Outcomes.{no_true, fails, mark_is, text_is}
 
 abbrev pub infix_at : List Lexeme → Infix

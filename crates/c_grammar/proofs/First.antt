@@ -8,8 +8,9 @@ use Rattle.c_lexer.specs.Pieces.{Lexeme}
 use Rattle.c_tree.specs.declared.expressions.Expr.{Expr}
 use Rattle.c_grammar.specs.declared.classes.Prefix.{Prefix}
 use Rattle.c_grammar.specs.declared.classes.Prefix.TheVariants as f
-use Rattle.c_grammar.specs.Classes.{prefix_of, begins_by}
-use Rattle.c_grammar.specs.Tokens.{TypeNames, is_type, is_mark, kind_at, behind, is_type_at, begins, begins_type}
+use Rattle.c_grammar.specs.Classes.{prefix_of}
+use Rattle.c_grammar.specs.Tokens.{TypeNames, is_type, is_mark, kind_at, behind, is_type_at, begins_type}
+use Rattle.c_grammar.specs.model.Begins.{begins, begins_by}
 use Rattle.c_grammar.specs.Grammar.{AreTexts, IsExpr, IsWhole, AreAssignments}
 use Rattle.c_grammar.proofs.Outcomes.{no_true, mark_is}
 use Rattle.c_grammar.proofs.Facts.{levels, no_type}

@@ -15,9 +15,10 @@ use Rattle.c_tree.specs.declared.statements.Local.{Local}
 use Rattle.c_tree.specs.declared.statements.Label.{Label}
 use Rattle.c_tree.specs.declared.statements.ForFirst.{ForFirst}
 use Rattle.c_grammar.specs.declared.classes.Head.TheVariants as h
-use Rattle.c_grammar.specs.Classes.{infix_of, prefix_of, specifier_of, head_of, begins_by, begins_type_by}
+use Rattle.c_grammar.specs.Classes.{infix_of, prefix_of, specifier_of, head_of, begins_type_by}
 use Rattle.c_grammar.specs.Levels.{binding_level}
-use Rattle.c_grammar.specs.Tokens.{TypeNames, is_mark, is_word, kind_at, is_type_at, begins, begins_type}
+use Rattle.c_grammar.specs.Tokens.{TypeNames, is_mark, is_word, kind_at, is_type_at, begins_type}
+use Rattle.c_grammar.specs.model.Begins.{begins, begins_by}
 use Rattle.c_grammar.specs.Grammar.{IsWhole}
 use Rattle.c_grammar.specs.Statements.{IsLocal, AreLocals, IsLine, IsOptional, IsFirst, IsLabel, IsStmt}
 use Rattle.c_grammar.specs.ParseExpr.{list_from}

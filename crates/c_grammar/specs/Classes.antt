@@ -1,5 +1,5 @@
 -- What a token may be to what stands before or behind it.
-use Rattle.std.specs.Prelude.{Bool, true, false, not}
+use Rattle.std.specs.Prelude.{Bool, true, false}
 use Rattle.c_lexer.specs.declared.token.TokenKind.{TokenKind}
 use Rattle.c_lexer.specs.declared.token.TokenKind.TheVariants as k
 use Rattle.c_lexer.specs.declared.token.Keyword.TheVariants as w
@@ -124,12 +124,6 @@ opening_of (k.Word w.Typedef) = o.Typedef
 opening_of (k.Word w.Static) = o.Static
 opening_of (k.Word w.Extern) = o.Extern
 opening_of _ = o.Other
-
--- whether an expression begins with such a token, which is the name of a type or not
-abbrev pub begins_by : Prefix → Bool → Bool
-begins_by f.Name is_type = not is_type
-begins_by f.Nothing is_type = false
-begins_by _ is_type = true
 
 -- whether a type begins with such a token, which is the name of a type or not
 abbrev pub begins_type_by : Specifier → Bool → Bool

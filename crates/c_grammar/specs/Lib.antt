@@ -13,3 +13,4 @@ pub mod ParseSpecifiers
 pub mod ParseStatements
 pub mod ParseUnits
 pub mod Refused
+pub mod model

@@ -43,18 +43,23 @@ abbrev pub start_of : Option BasicType → Specifier → SpecifierStart
 start_of (Some b) kind = o.Basic b
 start_of None kind = o.Other kind
 
-abbrev pub word_or_end : Option WordSet → (WordSet → SpecifierStart × List Lexeme) → SpecifierStart × List Lexeme → SpecifierStart × List Lexeme
+abbrev pub word_or_end : Option WordSet → (WordSet → SpecifierStart × List Lexeme) → SpecifierStart × List Lexeme
+    → SpecifierStart × List Lexeme
 word_or_end (Some x) go stop = go x
 word_or_end None go stop = stop
 
 -- the words of a type, and the tokens behind them
 unfoldable pub words_from : ℕ → WordSet → List Lexeme → SpecifierStart × List Lexeme
 words_from zero x ts = (start_of (basic_of x) c.Nothing, ts)
-words_from (suc j) x ts = word_or_end (extend x (specifier_of (kind_at ts))) (λ v. words_from j v (behind ts)) (start_of (basic_of x) (specifier_of (kind_at ts)), ts)
+words_from (suc j) x ts =
+    word_or_end (extend x (specifier_of (kind_at ts))) (λ v. words_from j v (behind ts))
+      (start_of (basic_of x) (specifier_of (kind_at ts)), ts)
 
 -- the name of a type
 unfoldable pub named_type : TypeNames → Parser TypeNode
-named_type s ts = if is_type_at s ts then and_then (consts (length (behind ts)) (behind ts)) (λ _. pure (y.Named (spelling_at ts))) else Err ts
+named_type s ts =
+    if is_type_at s ts then and_then (consts (length (behind ts)) (behind ts)) (λ _. pure (y.Named (spelling_at ts)))
+      else Err ts
 
 -- a tag behind its word
 abbrev pub tag_type : Specifier → ℕ → List ℕ → TypeNode
@@ -62,7 +67,9 @@ tag_type c.Struct at name = y.Struct at (Some name) None
 tag_type _ at name = y.Enum at (Some name) None
 
 unfoldable pub tag : Specifier → Parser TypeNode
-tag word ts = if is_name (kind_at ts) then and_then (consts (length (behind ts)) (behind ts)) (λ _. pure (tag_type word (place ts) (spelling_at ts))) else Err ts
+tag word ts =
+    if is_name (kind_at ts) then and_then (consts (length (behind ts)) (behind ts))
+      (λ _. pure (tag_type word (place ts) (spelling_at ts))) else Err ts
 
 -- The specifier that starts so: `on` reads it behind `struct` or `enum`.
 abbrev pub specifier_behind : TypeNames → (Specifier → ℕ → Parser TypeNode) → SpecifierStart → Parser TypeNode
@@ -83,7 +90,8 @@ plain s ts = specifier_from s (λ word at. tag word) (length ts) no_words ts
 
 unfoldable pub texts_from : ℕ → List (List ℕ) → Parser (List (List ℕ))
 texts_from zero found ts = Ok (found, ts)
-texts_from (suc j) found ts = if is_text (kind_at ts) then texts_from j (found ++ spelling_at ts ∷ []) (behind ts) else Ok (found, ts)
+texts_from (suc j) found ts =
+    if is_text (kind_at ts) then texts_from j (found ++ spelling_at ts ∷ []) (behind ts) else Ok (found, ts)
 
 -- ---- expressions and declarators, over what is read a level below
 
@@ -103,7 +111,10 @@ no_name naming ts = if may_be_nameless naming then Ok (nameless, ts) else Err ts
 
 -- at a name, which may be none of its own
 abbrev pub core_name : TypeNames → Naming → Parser Declarator
-core_name s naming ts = if takes_name naming (is_type_at s ts) then Ok (record { name = Some (record { at = place ts; name = spelling_at ts }); shapes = [] }, behind ts) else no_name naming ts
+core_name s naming ts =
+    if takes_name naming (is_type_at s ts)
+      then Ok (record { name = Some (record { at = place ts; name = spelling_at ts }); shapes = [] }, behind ts)
+      else no_name naming ts
 
 module _ (s : TypeNames) (expr : ℕ → Parser Expr) (declarator : Naming → Parser Declarator) where
   -- an expression with its commas
@@ -111,7 +122,9 @@ module _ (s : TypeNames) (expr : ℕ → Parser Expr) (declarator : Naming → P
   whole ts = and_then (list_from (expr levels.assignment) (length ts) [] ts) (λ xs. pure (comma_of (place ts) xs))
 
   unfoldable pub type_name : Parser TypeName
-  type_name ts = and_then (plain s ts) (λ ty. declarator nm.Refused >>= λ d. pure (record { at = place ts; ty = with_shapes d.shapes ty }))
+  type_name ts =
+      and_then (plain s ts) (λ ty. declarator nm.Refused
+        >>= λ d. pure (record { at = place ts; ty = with_shapes d.shapes ty }))
 
   unfoldable pub parameter : Parser Parameter
   parameter ts = and_then (plain s ts) (λ ty. declarator nm.Optional >>= λ d. pure (parameter_of (place ts) ty d))
@@ -127,38 +140,50 @@ module _ (s : TypeNames) (expr : ℕ → Parser Expr) (declarator : Naming → P
 
   -- behind a name that is no type
   unfoldable pub behind_name : ℕ → List ℕ → Parser (Expr × ℕ)
-  behind_name at name ts = if is_mark p.LeftParen (kind_at ts) then and_then (arguments (behind ts)) (λ xs. pure (e.Call at name xs, levels.primary))
+  behind_name at name ts =
+      if is_mark p.LeftParen (kind_at ts) then and_then (arguments (behind ts))
+        (λ xs. pure (e.Call at name xs, levels.primary))
       else Ok ((e.Name at name, levels.primary), ts)
 
   -- behind a bracket
   unfoldable pub cast_behind : ℕ → Parser (Expr × ℕ)
-  cast_behind at ts = and_then (type_name ts) (λ ty. expect p.RightParen >>= λ _. expr levels.cast >>= λ x. pure (e.Cast at ty x, levels.cast))
+  cast_behind at ts =
+      and_then (type_name ts) (λ ty. expect p.RightParen >>= λ _. expr levels.cast
+        >>= λ x. pure (e.Cast at ty x, levels.cast))
 
   unfoldable pub brackets_behind : Parser (Expr × ℕ)
   brackets_behind ts = and_then (whole ts) (λ x. expect p.RightParen >>= λ _. pure (x, levels.primary))
 
   -- a cast stands where one is wanted, and not where a unary expression is
   abbrev pub bracket_operand : ℕ → ℕ → Parser (Expr × ℕ)
-  bracket_operand least at ts = if begins_type s ts then (if nat_lt least levels.unary then cast_behind at ts else Err ts) else brackets_behind ts
+  bracket_operand least at ts =
+      if begins_type s ts then (if nat_lt least levels.unary then cast_behind at ts else Err ts) else brackets_behind ts
 
   -- behind `sizeof`
   unfoldable pub size_of_type : ℕ → Parser (Expr × ℕ)
-  size_of_type at ts = and_then (type_name ts) (λ ty. expect p.RightParen >>= λ _. pure (e.SizeOfType at ty, levels.unary))
+  size_of_type at ts =
+      and_then (type_name ts) (λ ty. expect p.RightParen >>= λ _. pure (e.SizeOfType at ty, levels.unary))
 
   unfoldable pub size_of_value : ℕ → Parser (Expr × ℕ)
   size_of_value at ts = and_then (expr levels.unary ts) (λ x. pure (e.SizeOfValue at x, levels.unary))
 
   abbrev pub size_of : ℕ → Parser (Expr × ℕ)
-  size_of at ts = if is_mark p.LeftParen (kind_at ts) then (if begins_type s (behind ts) then size_of_type at (behind ts) else size_of_value at ts) else size_of_value at ts
+  size_of at ts =
+      if is_mark p.LeftParen (kind_at ts)
+        then (if begins_type s (behind ts) then size_of_type at (behind ts) else size_of_value at ts)
+        else size_of_value at ts
 
   abbrev pub operand_by : ℕ → Prefix → Parser (Expr × ℕ)
   operand_by least f.Name ts = if is_type_at s ts then Err ts else behind_name (place ts) (spelling_at ts) (behind ts)
   operand_by least f.Number ts = Ok ((e.Number (place ts) (spelling_at ts), levels.primary), behind ts)
   operand_by least f.Character ts = Ok ((e.Character (place ts) (spelling_at ts), levels.primary), behind ts)
-  operand_by least f.Text ts = and_then (texts_from (length ts) [] ts) (λ xs. pure (e.Text (place ts) xs, levels.primary))
+  operand_by least f.Text ts =
+      and_then (texts_from (length ts) [] ts) (λ xs. pure (e.Text (place ts) xs, levels.primary))
   operand_by least f.Bracket ts = bracket_operand least (place ts) (behind ts)
-  operand_by least (f.Step op) ts = and_then (expr levels.unary (behind ts)) (λ x. pure (e.Unary (place ts) op x, levels.unary))
-  operand_by least (f.Unary op) ts = and_then (expr levels.cast (behind ts)) (λ x. pure (e.Unary (place ts) op x, levels.unary))
+  operand_by least (f.Step op) ts =
+      and_then (expr levels.unary (behind ts)) (λ x. pure (e.Unary (place ts) op x, levels.unary))
+  operand_by least (f.Unary op) ts =
+      and_then (expr levels.cast (behind ts)) (λ x. pure (e.Unary (place ts) op x, levels.unary))
   operand_by least f.SizeOf ts = size_of (place ts) (behind ts)
   operand_by least f.Nothing ts = Err ts
 
@@ -173,7 +198,9 @@ module _ (s : TypeNames) (expr : ℕ → Parser Expr) (declarator : Naming → P
   step_by i.Arrow at left ts = and_then (member ts) (λ name. pure (e.Arrow at left name))
   step_by (i.Step op) at left ts = Ok (e.Postfix at op left, ts)
   step_by (i.Binary op) at left ts = and_then (expr (suc (level_of op)) ts) (λ z. pure (e.Binary at op left z))
-  step_by i.Conditional at left ts = and_then (whole ts) (λ v. expect p.Colon >>= λ _. expr levels.conditional >>= λ z. pure (e.Conditional at left v z))
+  step_by i.Conditional at left ts =
+      and_then (whole ts) (λ v. expect p.Colon >>= λ _. expr levels.conditional
+        >>= λ z. pure (e.Conditional at left v z))
   step_by (i.Assign op) at left ts = and_then (expr levels.assignment ts) (λ z. pure (e.Assign at op left z))
   step_by _ at left ts = Err ts
 
@@ -182,7 +209,8 @@ module _ (s : TypeNames) (expr : ℕ → Parser Expr) (declarator : Naming → P
   climb at least zero level left ts = Ok (left, ts)
   climb at least (suc j) level left ts = if nat_lt (binding_level (infix_of (kind_at ts))) least then Ok (left, ts)
       else if nat_lt level (operand_level (infix_of (kind_at ts))) then Err ts
-      else and_then (step_by (infix_of (kind_at ts)) at left (behind ts)) (climb at least j (result_level (infix_of (kind_at ts))))
+      else and_then (step_by (infix_of (kind_at ts)) at left (behind ts))
+        (climb at least j (result_level (infix_of (kind_at ts))))
 
   abbrev pub tight : ℕ → Parser Expr
   tight least ts = and_then (operand least ts) (λ q r. climb (place ts) least (length r) q.1 q.0 r)
@@ -190,17 +218,20 @@ module _ (s : TypeNames) (expr : ℕ → Parser Expr) (declarator : Naming → P
   -- behind `[`
   unfoldable pub length_of : Declarator → Parser Declarator
   length_of d ts = if is_mark p.RightBracket (kind_at ts) then Ok (with_shape d (h.Array None), behind ts)
-      else and_then (expr levels.conditional ts) (λ x. expect p.RightBracket >>= λ _. pure (with_shape d (h.Array (Some x))))
+      else and_then (expr levels.conditional ts)
+        (λ x. expect p.RightBracket >>= λ _. pure (with_shape d (h.Array (Some x))))
 
   unfoldable pub suffixes : ℕ → Declarator → Parser Declarator
   suffixes zero d ts = Ok (d, ts)
   suffixes (suc j) d ts = if is_mark p.LeftBracket (kind_at ts) then and_then (length_of d (behind ts)) (suffixes j)
-      else if is_mark p.LeftParen (kind_at ts) then and_then (parameters (behind ts)) (λ xs. suffixes j (with_shape d (h.Takes (without_void xs))))
+      else if is_mark p.LeftParen (kind_at ts) then and_then (parameters (behind ts))
+        (λ xs. suffixes j (with_shape d (h.Takes (without_void xs))))
       else Ok (d, ts)
 
   -- behind a star
   unfoldable pub pointer_declarator : Naming → Parser Declarator
-  pointer_declarator naming ts = and_then (consts (length ts) ts) (λ _. declarator naming >>= λ d. pure (with_shape d h.Pointer))
+  pointer_declarator naming ts =
+      and_then (consts (length ts) ts) (λ _. declarator naming >>= λ d. pure (with_shape d h.Pointer))
 
   -- behind the bracket and the star of a declarator in brackets
   unfoldable pub group_behind : Naming → Parser Declarator

@@ -31,7 +31,8 @@ use Rattle.c_grammar.specs.ParseStatements.{items_from, stmt}
 -- over initialisers that are read a level below
 module _ (s : TypeNames) (n : ℕ) (init : Parser Init) where
   unfoldable pub init_list : ℕ → Parser Init
-  init_list at ts = and_then (braced_list_from init (length ts) [] ts) (λ vs. expect p.RightBrace >>= λ _. pure (i.List at vs))
+  init_list at ts =
+      and_then (braced_list_from init (length ts) [] ts) (λ vs. expect p.RightBrace >>= λ _. pure (i.List at vs))
 
   unfoldable pub init_value : Parser Init
   init_value ts = and_then (expr s n levels.assignment ts) (λ v. pure (i.Value v))
@@ -47,16 +48,21 @@ init s (suc n) ts = init_by s (suc n) (init s n) ts
 unfoldable pub typedefs_from : TypeNames → ℕ → ℕ → TypeNode → List External → Parser (List External × TypeNames)
 typedefs_from s n zero ty found ts = Err ts
 typedefs_from s n (suc j) ty found ts = and_then (declaration s n nm.Required ty ts) (λ d r.
-    if is_mark p.Comma (kind_at r) then typedefs_from (with_type s d.name) n j (bare ty) (found ++ x.Typedef d ∷ []) (behind r)
+    if is_mark p.Comma (kind_at r) then typedefs_from (with_type s d.name) n j (bare ty) (found ++ x.Typedef d ∷ [])
+      (behind r)
     else Ok ((found ++ x.Typedef d ∷ [], with_type s d.name), r))
 
 unfoldable pub typedefs : TypeNames → ℕ → Parser (List External × TypeNames)
-typedefs s n ts = and_then (specifier s n ts) (λ ty r. and_then (typedefs_from s n (length r) ty [] r) (λ q. expect p.Semicolon >>= λ _. pure q))
+typedefs s n ts =
+    and_then (specifier s n ts) (λ ty r. and_then (typedefs_from s n (length r) ty [] r)
+      (λ q. expect p.Semicolon >>= λ _. pure q))
 
 module _ (s : TypeNames) (n : ℕ) (storage : Option Storage) where
   -- behind a declarator
   unfoldable pub object_by : TypeNode → DeclaredName → List Shape → Parser External
-  object_by ty u shapes ts = if is_mark p.Assign (kind_at ts) then and_then (init s n (behind ts)) (λ v. pure (external_of (is_function shapes) (declaration_of ty u shapes) storage (Some v)))
+  object_by ty u shapes ts =
+      if is_mark p.Assign (kind_at ts) then and_then (init s n (behind ts))
+        (λ v. pure (external_of (is_function shapes) (declaration_of ty u shapes) storage (Some v)))
       else Ok (external_of (is_function shapes) (declaration_of ty u shapes) storage None, ts)
 
   abbrev pub object_named : TypeNode → Option DeclaredName → List Shape → Parser External
@@ -65,20 +71,25 @@ module _ (s : TypeNames) (n : ℕ) (storage : Option Storage) where
 
   unfoldable pub objects_from : ℕ → TypeNode → List External → Parser (List External)
   objects_from zero ty found ts = Err ts
-  objects_from (suc j) ty found ts = and_then (declarator s n nm.Required ts) (λ d. object_named ty d.name d.shapes >>= λ v r.
-      if is_mark p.Comma (kind_at r) then objects_from j (bare ty) (found ++ v ∷ []) (behind r) else Ok (found ++ v ∷ [], r))
+  objects_from (suc j) ty found ts =
+      and_then (declarator s n nm.Required ts) (λ d. object_named ty d.name d.shapes >>= λ v r.
+      if is_mark p.Comma (kind_at r) then objects_from j (bare ty) (found ++ v ∷ []) (behind r)
+        else Ok (found ++ v ∷ [], r))
 
   -- behind the first declarator
   unfoldable pub objects_behind : TypeNode → DeclaredName → List Shape → Parser (List External)
   objects_behind ty u shapes ts = and_then (object_by ty u shapes ts) (λ v r.
-      if is_mark p.Comma (kind_at r) then objects_from (length (behind r)) (bare ty) (v ∷ []) (behind r) else Ok (v ∷ [], r))
+      if is_mark p.Comma (kind_at r) then objects_from (length (behind r)) (bare ty) (v ∷ []) (behind r)
+        else Ok (v ∷ [], r))
 
   -- behind the brace of a body
   unfoldable pub body_behind : Declaration → Parser (List External)
-  body_behind d ts = and_then (items_from s n (stmt s n) (length ts) [] ts) (λ body. pure (x.Function d storage (f.Body body) ∷ []))
+  body_behind d ts =
+      and_then (items_from s n (stmt s n) (length ts) [] ts) (λ body. pure (x.Function d storage (f.Body body) ∷ []))
 
   unfoldable pub objects_named : TypeNode → DeclaredName → List Shape → Parser (List External)
-  objects_named ty u shapes ts = if is_mark p.LeftBrace (kind_at ts) then body_behind (declaration_of ty u shapes) (behind ts)
+  objects_named ty u shapes ts =
+      if is_mark p.LeftBrace (kind_at ts) then body_behind (declaration_of ty u shapes) (behind ts)
       else and_then (objects_behind ty u shapes ts) (λ vs. expect p.Semicolon >>= λ _. pure vs)
 
   abbrev pub objects_by : TypeNode → Declarator → Option DeclaredName → Parser (List External)
@@ -103,14 +114,17 @@ external_at s n o.Other ts = behind_storage s n None ts
 unfoldable pub external : TypeNames → ℕ → Parser (List External × TypeNames)
 external s n ts = external_at s n (opening_of (kind_at ts)) ts
 
-abbrev pub externals_behind : ParseOutcome (List External × TypeNames) → (List External × TypeNames → List Lexeme → Result (List External) (List Lexeme)) → Result (List External) (List Lexeme)
+abbrev pub externals_behind : ParseOutcome (List External × TypeNames)
+    → (List External × TypeNames → List Lexeme → Result (List External) (List Lexeme))
+    → Result (List External) (List Lexeme)
 externals_behind (Ok q) f = f q.0 q.1
 externals_behind (Err r) f = Err r
 
 unfoldable pub externals_from : ℕ → TypeNames → List External → List Lexeme → Result (List External) (List Lexeme)
 externals_from zero s found ts = Ok found
 externals_from (suc j) s found [] = Ok found
-externals_from (suc j) s found (t ∷ ts) = externals_behind (external s (length (t ∷ ts)) (t ∷ ts)) (λ q r. externals_from j q.1 (found ++ q.0) r)
+externals_from (suc j) s found (t ∷ ts) =
+    externals_behind (external s (length (t ∷ ts)) (t ∷ ts)) (λ q r. externals_from j q.1 (found ++ q.0) r)
 
 -- The unit that the tokens of a text spell, or the tokens from the refused one on.
 abbrev pub unit_of : ℕ → Result (List External) (List Lexeme) → Result TranslationUnit (List Lexeme)

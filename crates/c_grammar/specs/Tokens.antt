@@ -9,7 +9,7 @@ use Rattle.c_lexer.specs.declared.token.TokenKind.TheVariants as k
 use Rattle.c_lexer.specs.declared.token.Keyword.{Keyword}
 use Rattle.c_lexer.specs.declared.token.Punct.{Punct}
 use Rattle.c_lexer.specs.Pieces.{Lexeme}
-use Rattle.c_grammar.specs.Classes.{prefix_of, specifier_of, begins_by, begins_type_by}
+use Rattle.c_grammar.specs.Classes.{specifier_of, begins_type_by}
 
 -- The names that `typedef` has made so far.
 abbrev pub TypeNames : Type 0
@@ -59,9 +59,6 @@ behind (t ∷ ts) = ts
 abbrev pub is_type_at : TypeNames → List Lexeme → Bool
 is_type_at s ts = is_type_name s (spelling_at ts)
 
--- whether an expression begins here, and whether a type does
-abbrev pub begins : TypeNames → List Lexeme → Bool
-begins s ts = begins_by (prefix_of (kind_at ts)) (is_type_at s ts)
-
+-- whether a type begins here
 abbrev pub begins_type : TypeNames → List Lexeme → Bool
 begins_type s ts = begins_type_by (specifier_of (kind_at ts)) (is_type_at s ts)

@@ -51,18 +51,26 @@ unfoldable mutual
   expr_node (e.Character at spelling) = node (codes "character " ++ spelling) none
   expr_node (e.Text at spellings) = node (codes "text" ++ spellings_text spellings) none
   expr_node (e.Call' at name _ arguments) = node (codes "call " ++ name) (expr_row arguments)
-  expr_node (e.Unary' at op _ (k.more_of-Expr x k.end_of-Expr)) = node (codes "unary " ++ unary_word op) (lone (expr_node x))
-  expr_node (e.Binary' at op _ (k.more_of-Expr x k.end_of-Expr) _ (k.more_of-Expr y k.end_of-Expr)) = node (codes "binary " ++ binary_word op) (both (expr_node x) (expr_node y))
-  expr_node (e.Assign' at op _ (k.more_of-Expr x k.end_of-Expr) _ (k.more_of-Expr y k.end_of-Expr)) = node (codes "assign " ++ assign_word op) (both (expr_node x) (expr_node y))
-  expr_node (e.Conditional' at _ (k.more_of-Expr x k.end_of-Expr) _ (k.more_of-Expr y k.end_of-Expr) _ (k.more_of-Expr z k.end_of-Expr)) =
+  expr_node (e.Unary' at op _ (k.more_of-Expr x k.end_of-Expr)) =
+      node (codes "unary " ++ unary_word op) (lone (expr_node x))
+  expr_node (e.Binary' at op _ (k.more_of-Expr x k.end_of-Expr) _ (k.more_of-Expr y k.end_of-Expr)) =
+      node (codes "binary " ++ binary_word op) (both (expr_node x) (expr_node y))
+  expr_node (e.Assign' at op _ (k.more_of-Expr x k.end_of-Expr) _ (k.more_of-Expr y k.end_of-Expr)) =
+      node (codes "assign " ++ assign_word op) (both (expr_node x) (expr_node y))
+  expr_node (e.Conditional' at _ (k.more_of-Expr x k.end_of-Expr) _ (k.more_of-Expr y k.end_of-Expr) _
+    (k.more_of-Expr z k.end_of-Expr)) =
       node (codes "choose") (more (expr_node x) (both (expr_node y) (expr_node z)))
-  expr_node (e.Cast' at _ (k.more_of-TypeName place ty k.end_of-TypeName) _ (k.more_of-Expr x k.end_of-Expr)) = node (codes "cast") (both (type_node ty) (expr_node x))
+  expr_node (e.Cast' at _ (k.more_of-TypeName place ty k.end_of-TypeName) _ (k.more_of-Expr x k.end_of-Expr)) =
+      node (codes "cast") (both (type_node ty) (expr_node x))
   expr_node (e.SizeOfValue' at _ (k.more_of-Expr x k.end_of-Expr)) = node (codes "sizeof") (lone (expr_node x))
-  expr_node (e.SizeOfType' at _ (k.more_of-TypeName place ty k.end_of-TypeName)) = node (codes "sizeof") (lone (type_node ty))
-  expr_node (e.Index' at _ (k.more_of-Expr x k.end_of-Expr) _ (k.more_of-Expr y k.end_of-Expr)) = node (codes "index") (both (expr_node x) (expr_node y))
+  expr_node (e.SizeOfType' at _ (k.more_of-TypeName place ty k.end_of-TypeName)) =
+      node (codes "sizeof") (lone (type_node ty))
+  expr_node (e.Index' at _ (k.more_of-Expr x k.end_of-Expr) _ (k.more_of-Expr y k.end_of-Expr)) =
+      node (codes "index") (both (expr_node x) (expr_node y))
   expr_node (e.Field' at _ (k.more_of-Expr x k.end_of-Expr) name) = node (codes "field " ++ name) (lone (expr_node x))
   expr_node (e.Arrow' at _ (k.more_of-Expr x k.end_of-Expr) name) = node (codes "arrow " ++ name) (lone (expr_node x))
-  expr_node (e.Postfix' at op _ (k.more_of-Expr x k.end_of-Expr)) = node (codes "after " ++ step_word op) (lone (expr_node x))
+  expr_node (e.Postfix' at op _ (k.more_of-Expr x k.end_of-Expr)) =
+      node (codes "after " ++ step_word op) (lone (expr_node x))
   expr_node (e.Comma' at _ operands) = node (codes "comma") (expr_row operands)
 
   pub expr_row : {n : _} → k.Row_of-Expr n → Nodes
@@ -74,9 +82,12 @@ unfoldable mutual
   type_node (t.Named name) = node (codes "named " ++ name) none
   type_node (t.Enum' at tag constants) = node (codes "enum " ++ name_or_dash tag) (constants_held constants)
   type_node (t.Struct' at tag members) = node (codes "struct " ++ name_or_dash tag) (members_held members)
-  type_node (t.Pointer' _ (k.more_of-TypeNode target k.end_of-TypeNode)) = node (codes "pointer") (lone (type_node target))
-  type_node (t.Array' _ (k.more_of-TypeNode element k.end_of-TypeNode) length) = node (codes "array") (more (type_node element) (length_held length))
-  type_node (t.Takes' _ (k.more_of-TypeNode result k.end_of-TypeNode) _ parameters) = node (codes "takes") (more (type_node result) (parameter_row parameters))
+  type_node (t.Pointer' _ (k.more_of-TypeNode target k.end_of-TypeNode)) =
+      node (codes "pointer") (lone (type_node target))
+  type_node (t.Array' _ (k.more_of-TypeNode element k.end_of-TypeNode) length) =
+      node (codes "array") (more (type_node element) (length_held length))
+  type_node (t.Takes' _ (k.more_of-TypeNode result k.end_of-TypeNode) _ parameters) =
+      node (codes "takes") (more (type_node result) (parameter_row parameters))
 
   pub constants_held : k.Held-TypeNode-Enum-2 → Nodes
   constants_held k.TypeNode-Enum-2-None' = none
@@ -84,7 +95,8 @@ unfoldable mutual
 
   pub constant_row : {n : _} → k.Row_of-Constant n → Nodes
   constant_row k.end_of-Constant = none
-  constant_row (k.more_of-Constant at name value rest) = more (node (codes "constant " ++ name) (value_held value)) (constant_row rest)
+  constant_row (k.more_of-Constant at name value rest) =
+      more (node (codes "constant " ++ name) (value_held value)) (constant_row rest)
 
   pub value_held : k.Held-Constant-value → Nodes
   value_held k.Constant-value-None' = none
@@ -96,7 +108,8 @@ unfoldable mutual
 
   pub member_row : {n : _} → k.Row_of-Declaration n → Nodes
   member_row k.end_of-Declaration = none
-  member_row (k.more_of-Declaration at name ty rest) = more (node (codes "member " ++ name) (lone (type_node ty))) (member_row rest)
+  member_row (k.more_of-Declaration at name ty rest) =
+      more (node (codes "member " ++ name) (lone (type_node ty))) (member_row rest)
 
   pub length_held : k.Held-TypeNode-Array-1 → Nodes
   length_held k.TypeNode-Array-1-None' = none
@@ -104,7 +117,8 @@ unfoldable mutual
 
   pub parameter_row : {n : _} → k.Row_of-Parameter n → Nodes
   parameter_row k.end_of-Parameter = none
-  parameter_row (k.more_of-Parameter at name ty rest) = more (node (codes "parameter " ++ name_or_dash name) (lone (type_node ty))) (parameter_row rest)
+  parameter_row (k.more_of-Parameter at name ty rest) =
+      more (node (codes "parameter " ++ name_or_dash name) (lone (type_node ty))) (parameter_row rest)
 
 abbrev pub optional : Option e.Expr → Nodes
 optional None = none
@@ -139,11 +153,15 @@ label_node label statements = node (label_line label) (append_nodes (label_nodes
 unfoldable mutual
   pub stmt_node : s.Stmt → Node
   stmt_node (s.Block' _ statements) = node (codes "block") (stmt_row statements)
-  stmt_node (s.If' condition _ (b.more_of-Stmt y b.end_of-Stmt) otherwise) = node (codes "if") (more (expr_node condition) (more (stmt_node y) (stmt_held otherwise)))
-  stmt_node (s.While' condition _ (b.more_of-Stmt y b.end_of-Stmt)) = node (codes "while") (both (expr_node condition) (stmt_node y))
-  stmt_node (s.Do' _ (b.more_of-Stmt y b.end_of-Stmt) condition) = node (codes "do") (both (stmt_node y) (expr_node condition))
+  stmt_node (s.If' condition _ (b.more_of-Stmt y b.end_of-Stmt) otherwise) =
+      node (codes "if") (more (expr_node condition) (more (stmt_node y) (stmt_held otherwise)))
+  stmt_node (s.While' condition _ (b.more_of-Stmt y b.end_of-Stmt)) =
+      node (codes "while") (both (expr_node condition) (stmt_node y))
+  stmt_node (s.Do' _ (b.more_of-Stmt y b.end_of-Stmt) condition) =
+      node (codes "do") (both (stmt_node y) (expr_node condition))
   stmt_node (s.For' first condition step _ (b.more_of-Stmt y b.end_of-Stmt)) =
-      node (codes "for") (append_nodes (first_nodes first) (more (part_of_for condition) (both (part_of_for step) (stmt_node y))))
+      node (codes "for") (append_nodes (first_nodes first)
+        (more (part_of_for condition) (both (part_of_for step) (stmt_node y))))
   stmt_node (s.Switch' operand _ sections) = node (codes "switch") (more (expr_node operand) (section_row sections))
   stmt_node (s.Break at) = node (codes "break") none
   stmt_node (s.Continue at) = node (codes "continue") none
@@ -162,7 +180,8 @@ unfoldable mutual
 
   pub section_row : {n : _} → b.Row_of-Section n → Nodes
   section_row b.end_of-Section = none
-  section_row (b.more_of-Section label _ statements rest) = more (label_node label (stmt_row statements)) (section_row rest)
+  section_row (b.more_of-Section label _ statements rest) =
+      more (label_node label (stmt_row statements)) (section_row rest)
 
 -- What stands at file scope.
 unfoldable mutual
@@ -189,8 +208,10 @@ declaration_node word d storage rest = node (word ++ d.name ++ storage) (more (t
 
 abbrev pub external_node : External → Node
 external_node (x.Typedef d) = declaration_node (codes "typedef ") d [] none
-external_node (x.Object d storage init) = declaration_node (codes "object ") d (storage_text storage) (optional_init init)
-external_node (x.Function d storage rest) = declaration_node (codes "function ") d (storage_text storage) (end_nodes rest)
+external_node (x.Object d storage init) =
+    declaration_node (codes "object ") d (storage_text storage) (optional_init init)
+external_node (x.Function d storage rest) =
+    declaration_node (codes "function ") d (storage_text storage) (end_nodes rest)
 external_node (x.Tags storage ty) = node (codes "tags" ++ storage_text storage) (lone (type_node ty))
 
 -- The text of a tree: one line for each node, two blanks for each level.
