@@ -142,7 +142,7 @@ mutual
         → IsDeclarator s naming m (t ∷ a ++ b) (with_shape d h.Pointer)
     own_name : {naming : Naming} {m : ℕ} (t : Lexeme) → t.kind ≡ k.Name → takes_name naming (is_type s t) ≡ true
         → IsDeclarator s naming m (t ∷ [])
-          (record { name = Some (record { at = t.at; name = t.spelling }); shapes = [] })
+        (record { name = Some (record { at = t.at; name = t.spelling }); shapes = [] })
     no_name : {naming : Naming} {m : ℕ} → may_be_nameless naming ≡ true → IsDeclarator s naming m [] nameless
     group : {naming : Naming} {m : ℕ} (l t : Lexeme) (a : List Lexeme) (r : Lexeme) (d : Declarator)
         → l.kind ≡ k.Mark p.LeftParen → t.kind ≡ k.Mark p.Star → IsDeclarator s naming 0 (t ∷ a) d

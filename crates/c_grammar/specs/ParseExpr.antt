@@ -53,13 +53,13 @@ unfoldable pub words_from : ℕ → WordSet → List Lexeme → SpecifierStart �
 words_from zero x ts = (start_of (basic_of x) c.Nothing, ts)
 words_from (suc j) x ts =
     word_or_end (extend x (specifier_of (kind_at ts))) (λ v. words_from j v (behind ts))
-      (start_of (basic_of x) (specifier_of (kind_at ts)), ts)
+    (start_of (basic_of x) (specifier_of (kind_at ts)), ts)
 
 -- the name of a type
 unfoldable pub named_type : TypeNames → Parser TypeNode
 named_type s ts =
     if is_type_at s ts then and_then (consts (length (behind ts)) (behind ts)) (λ _. pure (y.Named (spelling_at ts)))
-      else Err ts
+    else Err ts
 
 -- a tag behind its word
 abbrev pub tag_type : Specifier → ℕ → List ℕ → TypeNode
@@ -69,7 +69,7 @@ tag_type _ at name = y.Enum at (Some name) None
 unfoldable pub tag : Specifier → Parser TypeNode
 tag word ts =
     if is_name (kind_at ts) then and_then (consts (length (behind ts)) (behind ts))
-      (λ _. pure (tag_type word (place ts) (spelling_at ts))) else Err ts
+    (λ _. pure (tag_type word (place ts) (spelling_at ts))) else Err ts
 
 -- The specifier that starts so: `on` reads it behind `struct` or `enum`.
 abbrev pub specifier_behind : TypeNames → (Specifier → ℕ → Parser TypeNode) → SpecifierStart → Parser TypeNode
@@ -113,8 +113,8 @@ no_name naming ts = if may_be_nameless naming then Ok (nameless, ts) else Err ts
 abbrev pub core_name : TypeNames → Naming → Parser Declarator
 core_name s naming ts =
     if takes_name naming (is_type_at s ts)
-      then Ok (record { name = Some (record { at = place ts; name = spelling_at ts }); shapes = [] }, behind ts)
-      else no_name naming ts
+    then Ok (record { name = Some (record { at = place ts; name = spelling_at ts }); shapes = [] }, behind ts)
+    else no_name naming ts
 
 module _ (s : TypeNames) (expr : ℕ → Parser Expr) (declarator : Naming → Parser Declarator) where
   -- an expression with its commas
@@ -124,7 +124,7 @@ module _ (s : TypeNames) (expr : ℕ → Parser Expr) (declarator : Naming → P
   unfoldable pub type_name : Parser TypeName
   type_name ts =
       and_then (plain s ts) (λ ty. declarator nm.Refused
-        >>= λ d. pure (record { at = place ts; ty = with_shapes d.shapes ty }))
+      >>= λ d. pure (record { at = place ts; ty = with_shapes d.shapes ty }))
 
   unfoldable pub parameter : Parser Parameter
   parameter ts = and_then (plain s ts) (λ ty. declarator nm.Optional >>= λ d. pure (parameter_of (place ts) ty d))
@@ -142,14 +142,14 @@ module _ (s : TypeNames) (expr : ℕ → Parser Expr) (declarator : Naming → P
   unfoldable pub behind_name : ℕ → List ℕ → Parser (Expr × ℕ)
   behind_name at name ts =
       if is_mark p.LeftParen (kind_at ts) then and_then (arguments (behind ts))
-        (λ xs. pure (e.Call at name xs, levels.primary))
+      (λ xs. pure (e.Call at name xs, levels.primary))
       else Ok ((e.Name at name, levels.primary), ts)
 
   -- behind a bracket
   unfoldable pub cast_behind : ℕ → Parser (Expr × ℕ)
   cast_behind at ts =
       and_then (type_name ts) (λ ty. expect p.RightParen >>= λ _. expr levels.cast
-        >>= λ x. pure (e.Cast at ty x, levels.cast))
+      >>= λ x. pure (e.Cast at ty x, levels.cast))
 
   unfoldable pub brackets_behind : Parser (Expr × ℕ)
   brackets_behind ts = and_then (whole ts) (λ x. expect p.RightParen >>= λ _. pure (x, levels.primary))
@@ -170,8 +170,8 @@ module _ (s : TypeNames) (expr : ℕ → Parser Expr) (declarator : Naming → P
   abbrev pub size_of : ℕ → Parser (Expr × ℕ)
   size_of at ts =
       if is_mark p.LeftParen (kind_at ts)
-        then (if begins_type s (behind ts) then size_of_type at (behind ts) else size_of_value at ts)
-        else size_of_value at ts
+      then (if begins_type s (behind ts) then size_of_type at (behind ts) else size_of_value at ts)
+      else size_of_value at ts
 
   abbrev pub operand_by : ℕ → Prefix → Parser (Expr × ℕ)
   operand_by least f.Name ts = if is_type_at s ts then Err ts else behind_name (place ts) (spelling_at ts) (behind ts)
@@ -200,7 +200,7 @@ module _ (s : TypeNames) (expr : ℕ → Parser Expr) (declarator : Naming → P
   step_by (i.Binary op) at left ts = and_then (expr (suc (level_of op)) ts) (λ z. pure (e.Binary at op left z))
   step_by i.Conditional at left ts =
       and_then (whole ts) (λ v. expect p.Colon >>= λ _. expr levels.conditional
-        >>= λ z. pure (e.Conditional at left v z))
+      >>= λ z. pure (e.Conditional at left v z))
   step_by (i.Assign op) at left ts = and_then (expr levels.assignment ts) (λ z. pure (e.Assign at op left z))
   step_by _ at left ts = Err ts
 
@@ -210,7 +210,7 @@ module _ (s : TypeNames) (expr : ℕ → Parser Expr) (declarator : Naming → P
   climb at least (suc j) level left ts = if nat_lt (binding_level (infix_of (kind_at ts))) least then Ok (left, ts)
       else if nat_lt level (operand_level (infix_of (kind_at ts))) then Err ts
       else and_then (step_by (infix_of (kind_at ts)) at left (behind ts))
-        (climb at least j (result_level (infix_of (kind_at ts))))
+      (climb at least j (result_level (infix_of (kind_at ts))))
 
   abbrev pub tight : ℕ → Parser Expr
   tight least ts = and_then (operand least ts) (λ q r. climb (place ts) least (length r) q.1 q.0 r)
@@ -219,13 +219,13 @@ module _ (s : TypeNames) (expr : ℕ → Parser Expr) (declarator : Naming → P
   unfoldable pub length_of : Declarator → Parser Declarator
   length_of d ts = if is_mark p.RightBracket (kind_at ts) then Ok (with_shape d (h.Array None), behind ts)
       else and_then (expr levels.conditional ts)
-        (λ x. expect p.RightBracket >>= λ _. pure (with_shape d (h.Array (Some x))))
+      (λ x. expect p.RightBracket >>= λ _. pure (with_shape d (h.Array (Some x))))
 
   unfoldable pub suffixes : ℕ → Declarator → Parser Declarator
   suffixes zero d ts = Ok (d, ts)
   suffixes (suc j) d ts = if is_mark p.LeftBracket (kind_at ts) then and_then (length_of d (behind ts)) (suffixes j)
       else if is_mark p.LeftParen (kind_at ts) then and_then (parameters (behind ts))
-        (λ xs. suffixes j (with_shape d (h.Takes (without_void xs))))
+      (λ xs. suffixes j (with_shape d (h.Takes (without_void xs))))
       else Ok (d, ts)
 
   -- behind a star

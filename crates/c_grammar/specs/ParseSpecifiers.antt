@@ -31,50 +31,50 @@ unfoldable pub braced_list_from : {A : Type 0} → Parser A → ℕ → List A �
 braced_list_from item zero found ts = Err ts
 braced_list_from item (suc j) found ts = and_then (item ts) (λ x r.
     if is_mark p.Comma (kind_at r) then (if is_mark p.RightBrace (kind_at (behind r))
-      then Ok (found ++ x ∷ [], behind r) else braced_list_from item j (found ++ x ∷ []) (behind r))
+    then Ok (found ++ x ∷ [], behind r) else braced_list_from item j (found ++ x ∷ []) (behind r))
     else Ok (found ++ x ∷ [], r))
 
 module _ (s : TypeNames) (n : ℕ) where
   abbrev pub constant_value : ℕ → List ℕ → Parser Constant
   constant_value at name ts =
       if is_mark p.Assign (kind_at ts) then and_then (expr s n levels.conditional (behind ts))
-        (λ x. pure (record { at = at; name = name; value = Some x }))
+      (λ x. pure (record { at = at; name = name; value = Some x }))
       else Ok (record { at = at; name = name; value = None }, ts)
 
   unfoldable pub constant : Parser Constant
   constant ts =
       if is_name (kind_at ts) then (if is_type_at s ts then Err ts else constant_value (place ts) (spelling_at ts)
-        (behind ts)) else Err ts
+      (behind ts)) else Err ts
 
   -- the declarators of members
   unfoldable pub declarators_from : ℕ → TypeNode → List Declaration → Parser (List Declaration)
   declarators_from zero ty found ts = Err ts
   declarators_from (suc j) ty found ts = and_then (declaration s n nm.Member ty ts) (λ d r.
       if is_mark p.Comma (kind_at r) then declarators_from j (bare ty) (found ++ d ∷ []) (behind r)
-        else Ok (found ++ d ∷ [], r))
+      else Ok (found ++ d ∷ [], r))
 
   -- over specifiers that are read a level below
   module _ (specifier : Parser TypeNode) where
     unfoldable pub member : Parser (List Declaration)
     member ts =
         and_then (specifier ts) (λ ty r. and_then (declarators_from (length r) ty [] r)
-          (λ ds. expect p.Semicolon >>= λ _. pure ds))
+        (λ ds. expect p.Semicolon >>= λ _. pure ds))
 
     -- up to the brace that closes
     unfoldable pub members_from : ℕ → List Declaration → Parser (List Declaration)
     members_from zero found ts = Err ts
     members_from (suc j) found ts =
         and_then (member ts) (λ ds r. if is_mark p.RightBrace (kind_at r) then Ok (found ++ ds, r)
-          else members_from j (found ++ ds) r)
+        else members_from j (found ++ ds) r)
 
     -- behind the brace that opens
     abbrev pub body : Specifier → ℕ → Option (List ℕ) → Parser TypeNode
     body c.Struct at name ts =
         and_then (members_from (length ts) [] ts)
-          (λ ds. expect p.RightBrace >>= λ _ r. and_then (consts (length r) r) (λ _. pure (y.Struct at name (Some ds))))
+        (λ ds. expect p.RightBrace >>= λ _ r. and_then (consts (length r) r) (λ _. pure (y.Struct at name (Some ds))))
     body _ at name ts =
         and_then (braced_list_from constant (length ts) [] ts)
-          (λ xs. expect p.RightBrace >>= λ _ r. and_then (consts (length r) r) (λ _. pure (y.Enum at name (Some xs))))
+        (λ xs. expect p.RightBrace >>= λ _ r. and_then (consts (length r) r) (λ _. pure (y.Enum at name (Some xs))))
 
     unfoldable pub braces : Specifier → ℕ → Option (List ℕ) → Parser TypeNode
     braces word at name ts = and_then (expect p.LeftBrace ts) (λ _. body word at name)
@@ -83,7 +83,7 @@ module _ (s : TypeNames) (n : ℕ) where
     abbrev pub behind_tag : Specifier → ℕ → List ℕ → Parser TypeNode
     behind_tag word at name ts =
         if is_mark p.LeftBrace (kind_at ts) then braces word at (Some name) ts else and_then (consts (length ts) ts)
-          (λ _. pure (tag_type word at name))
+        (λ _. pure (tag_type word at name))
 
     -- behind `struct` or `enum`
     unfoldable pub tag_or_body : Specifier → ℕ → Parser TypeNode

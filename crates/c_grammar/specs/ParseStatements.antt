@@ -38,7 +38,7 @@ module _ (s : TypeNames) (n : ℕ) where
   abbrev pub local_by : Declaration → Parser Local
   local_by d ts =
       if is_mark p.Assign (kind_at ts) then and_then (expr s n levels.assignment (behind ts))
-        (λ x. pure (record { declaration = d; init = Some x }))
+      (λ x. pure (record { declaration = d; init = Some x }))
       else Ok (record { declaration = d; init = None }, ts)
 
   unfoldable pub local : TypeNode → Parser Local
@@ -47,7 +47,7 @@ module _ (s : TypeNames) (n : ℕ) where
   unfoldable pub line : Parser (List Local)
   line ts =
       and_then (plain s ts) (λ ty r. and_then (list_from (local ty) (length r) [] r)
-        (λ xs. expect p.Semicolon >>= λ _. pure xs))
+      (λ xs. expect p.Semicolon >>= λ _. pure xs))
 
   -- an expression that is missing where this mark stands
   unfoldable pub optional : Punct → Parser (Option Expr)
@@ -94,19 +94,19 @@ module _ (s : TypeNames) (n : ℕ) where
     unfoldable pub section : Parser Section
     section ts =
         and_then (label ts) (λ x r. and_then (stmts_from (length r) [] r)
-          (λ ys. pure (record { label = x; statements = ys })))
+        (λ ys. pure (record { label = x; statements = ys })))
 
     unfoldable pub sections_from : ℕ → List Section → Parser (List Section)
     sections_from zero found ts = Err ts
     sections_from (suc j) found ts =
         if is_mark p.RightBrace (kind_at ts) then Ok (found, behind ts) else and_then (section ts)
-          (λ x. sections_from j (found ++ x ∷ []))
+        (λ x. sections_from j (found ++ x ∷ []))
 
     -- behind the first branch
     unfoldable pub alternative : Expr → Stmt → Parser Stmt
     alternative x v ts =
         if is_word w.Else (kind_at ts) then and_then (stmt (behind ts)) (λ z. pure (u.If x v (Some z)))
-          else Ok (u.If x v None, ts)
+        else Ok (u.If x v None, ts)
 
     unfoldable pub if_else : Parser Stmt
     if_else ts = and_then (condition ts) (λ x. stmt >>= λ v. alternative x v)
@@ -117,17 +117,17 @@ module _ (s : TypeNames) (n : ℕ) where
     unfoldable pub do_while : Parser Stmt
     do_while ts =
         and_then (stmt ts) (λ v. expect_word w.While >>= λ _. condition >>= λ x. expect p.Semicolon
-          >>= λ _. pure (u.Do v x))
+        >>= λ _. pure (u.Do v x))
 
     unfoldable pub for : Parser Stmt
     for ts =
         and_then (expect p.LeftParen ts) (λ _. first >>= λ x. optional p.Semicolon >>= λ y. expect p.Semicolon
-          >>= λ _. optional p.RightParen >>= λ z. expect p.RightParen >>= λ _. stmt >>= λ v. pure (u.For x y z v))
+        >>= λ _. optional p.RightParen >>= λ z. expect p.RightParen >>= λ _. stmt >>= λ v. pure (u.For x y z v))
 
     unfoldable pub switch : Parser Stmt
     switch ts =
         and_then (condition ts) (λ x. expect p.LeftBrace >>= λ _ r. and_then (sections_from (length r) [] r)
-          (λ xs. pure (u.Switch x xs)))
+        (λ xs. pure (u.Switch x xs)))
 
     abbrev pub stmt_by : Head → Parser Stmt
     stmt_by h.Block ts = and_then (items_from (length (behind ts)) [] (behind ts)) (λ xs. pure (u.Block xs))

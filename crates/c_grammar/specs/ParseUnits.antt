@@ -49,20 +49,20 @@ unfoldable pub typedefs_from : TypeNames → ℕ → ℕ → TypeNode → List E
 typedefs_from s n zero ty found ts = Err ts
 typedefs_from s n (suc j) ty found ts = and_then (declaration s n nm.Required ty ts) (λ d r.
     if is_mark p.Comma (kind_at r) then typedefs_from (with_type s d.name) n j (bare ty) (found ++ x.Typedef d ∷ [])
-      (behind r)
+    (behind r)
     else Ok ((found ++ x.Typedef d ∷ [], with_type s d.name), r))
 
 unfoldable pub typedefs : TypeNames → ℕ → Parser (List External × TypeNames)
 typedefs s n ts =
     and_then (specifier s n ts) (λ ty r. and_then (typedefs_from s n (length r) ty [] r)
-      (λ q. expect p.Semicolon >>= λ _. pure q))
+    (λ q. expect p.Semicolon >>= λ _. pure q))
 
 module _ (s : TypeNames) (n : ℕ) (storage : Option Storage) where
   -- behind a declarator
   unfoldable pub object_by : TypeNode → DeclaredName → List Shape → Parser External
   object_by ty u shapes ts =
       if is_mark p.Assign (kind_at ts) then and_then (init s n (behind ts))
-        (λ v. pure (external_of (is_function shapes) (declaration_of ty u shapes) storage (Some v)))
+      (λ v. pure (external_of (is_function shapes) (declaration_of ty u shapes) storage (Some v)))
       else Ok (external_of (is_function shapes) (declaration_of ty u shapes) storage None, ts)
 
   abbrev pub object_named : TypeNode → Option DeclaredName → List Shape → Parser External
@@ -74,13 +74,13 @@ module _ (s : TypeNames) (n : ℕ) (storage : Option Storage) where
   objects_from (suc j) ty found ts =
       and_then (declarator s n nm.Required ts) (λ d. object_named ty d.name d.shapes >>= λ v r.
       if is_mark p.Comma (kind_at r) then objects_from j (bare ty) (found ++ v ∷ []) (behind r)
-        else Ok (found ++ v ∷ [], r))
+      else Ok (found ++ v ∷ [], r))
 
   -- behind the first declarator
   unfoldable pub objects_behind : TypeNode → DeclaredName → List Shape → Parser (List External)
   objects_behind ty u shapes ts = and_then (object_by ty u shapes ts) (λ v r.
       if is_mark p.Comma (kind_at r) then objects_from (length (behind r)) (bare ty) (v ∷ []) (behind r)
-        else Ok (v ∷ [], r))
+      else Ok (v ∷ [], r))
 
   -- behind the brace of a body
   unfoldable pub body_behind : Declaration → Parser (List External)

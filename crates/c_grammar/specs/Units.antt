@@ -72,7 +72,7 @@ pub data IsObject (s : TypeNames) (storage : Option Storage) (ty : TypeNode) : L
       → IsDeclarator s nm.Required 0 a (record { name = Some u; shapes = shapes }) → t.kind ≡ k.Mark p.Assign
       → IsInit s b v
       → IsObject s storage ty (a ++ t ∷ b)
-        (external_of (is_function shapes) (declaration_of ty u shapes) storage (Some v))
+      (external_of (is_function shapes) (declaration_of ty u shapes) storage (Some v))
 
 pub data AreObjects (s : TypeNames) (storage : Option Storage) : TypeNode → List Lexeme → List External → Type 0 where
   one : {ty : TypeNode} (a : List Lexeme) (v : External) → IsObject s storage ty a v

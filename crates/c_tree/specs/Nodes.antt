@@ -58,7 +58,7 @@ unfoldable mutual
   expr_node (e.Assign' at op _ (k.more_of-Expr x k.end_of-Expr) _ (k.more_of-Expr y k.end_of-Expr)) =
       node (codes "assign " ++ assign_word op) (both (expr_node x) (expr_node y))
   expr_node (e.Conditional' at _ (k.more_of-Expr x k.end_of-Expr) _ (k.more_of-Expr y k.end_of-Expr) _
-    (k.more_of-Expr z k.end_of-Expr)) =
+      (k.more_of-Expr z k.end_of-Expr)) =
       node (codes "choose") (more (expr_node x) (both (expr_node y) (expr_node z)))
   expr_node (e.Cast' at _ (k.more_of-TypeName place ty k.end_of-TypeName) _ (k.more_of-Expr x k.end_of-Expr)) =
       node (codes "cast") (both (type_node ty) (expr_node x))
@@ -161,7 +161,7 @@ unfoldable mutual
       node (codes "do") (both (stmt_node y) (expr_node condition))
   stmt_node (s.For' first condition step _ (b.more_of-Stmt y b.end_of-Stmt)) =
       node (codes "for") (append_nodes (first_nodes first)
-        (more (part_of_for condition) (both (part_of_for step) (stmt_node y))))
+      (more (part_of_for condition) (both (part_of_for step) (stmt_node y))))
   stmt_node (s.Switch' operand _ sections) = node (codes "switch") (more (expr_node operand) (section_row sections))
   stmt_node (s.Break at) = node (codes "break") none
   stmt_node (s.Continue at) = node (codes "continue") none
