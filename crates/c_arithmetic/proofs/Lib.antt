@@ -1,1 +1,7 @@
+pub mod LowBits
+pub mod Results
+pub mod Comparisons
+pub mod Sums
+pub mod Conversions
 pub mod Fits
+pub mod Values

@@ -1,3 +1,4 @@
 pub mod IntegerTypes
 pub mod Words
 pub mod Operations
+pub mod Outcomes

@@ -137,8 +137,8 @@ impl IntegerType {
     {
         match self {
             IntegerType::UnsignedChar | IntegerType::UnsignedShort => self.low_bits(word),
-            IntegerType::Char | IntegerType::Short | IntegerType::Int | IntegerType::UnsignedInt =>
-                { self.signed_bits(word).cast_unsigned() }
+            IntegerType::Char | IntegerType::Short => self.signed_bits(word).cast_unsigned(),
+            IntegerType::Int | IntegerType::UnsignedInt => self.signed_bits(word).cast_unsigned(),
             IntegerType::Long | IntegerType::UnsignedLong => word,
         }
     }

@@ -9,4 +9,5 @@ pub mod bitwise;
 pub mod comparison;
 pub mod conversion;
 pub mod integer_type;
+pub mod laws;
 pub mod outcome;
