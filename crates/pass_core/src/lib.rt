@@ -1,0 +1,12 @@
+//! What passes and instructions are, whatever machine they are for.
+//!
+//! A pass keeps a relation between what it is given and what it makes; two passes one after the other keep what
+//! lies between (`specs/Passes.antt`). An instruction says which registers it reads and writes, which blocks it may
+//! go to, and whether what follows it may be done after it; its laws stand in `specs/Insns.antt`.
+#![tactic(auto)]
+
+pub mod insn;
+pub mod pass;
+
+pub use insn::Insn;
+pub use pass::{Pass, Then};
