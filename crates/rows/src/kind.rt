@@ -1,6 +1,6 @@
 //! The kinds of rows, each with its file.
 
-use crate::{calls, encodings, memory, outcomes, places, runs, steps, tokens, trees};
+use crate::{calls, encodings, integers, memory, outcomes, places, runs, steps, tokens, trees};
 use anyhow::Result;
 use mem_model::memory::Mem;
 use std::alloc::Global;
@@ -12,6 +12,7 @@ pub enum Kind {
     TokenKinds,
     MarkPairs,
     Encodings,
+    Integers,
     Steps,
     Runs,
     Memory,
@@ -26,11 +27,12 @@ pub enum Kind {
 }
 
 /// The kinds in the order in which they are checked.
-pub static KINDS: [Kind; 15] = [
+pub static KINDS: [Kind; 16] = [
     Kind::Tokens,
     Kind::TokenKinds,
     Kind::MarkPairs,
     Kind::Encodings,
+    Kind::Integers,
     Kind::Steps,
     Kind::Runs,
     Kind::Memory,
@@ -52,6 +54,7 @@ impl Kind {
             Kind::TokenKinds => "token_kinds.rows",
             Kind::MarkPairs => "mark_pairs.rows",
             Kind::Encodings => "encodings.rows",
+            Kind::Integers => "integers.rows",
             Kind::Steps => "steps.rows",
             Kind::Runs => "runs.rows",
             Kind::Memory => "memory.rows",
@@ -72,6 +75,7 @@ impl Kind {
             Kind::Tokens => tokens::list(alloc, given),
             Kind::TokenKinds | Kind::MarkPairs => tokens::first(alloc, given),
             Kind::Encodings => encodings::instruction(alloc, given),
+            Kind::Integers => integers::answer(alloc, given),
             Kind::Steps => steps::answer(alloc, given),
             Kind::Runs => runs::answer(alloc, given),
             Kind::Memory => memory::answer(alloc, mem, given),

@@ -6,6 +6,7 @@
 mod calls;
 mod encodings;
 mod escape;
+mod integers;
 mod kind;
 mod memory;
 mod number;
