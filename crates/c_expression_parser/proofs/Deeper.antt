@@ -1,11 +1,10 @@
--- An expression, a declarator and a specifier, a construct further in.
+-- An expression and a declarator, a construct further in, and a specifier behind its words.
 use Rattle.std.proofs.Common.{◌≡◌, ℕ, zero, suc, ◌-◌, ◌<◌, List, length, refl, ap, arith}
 use Rattle.c_lexer.specs.Pieces.{Lexeme}
 use Rattle.c_grammar.specs.declared.shapes.Naming.{Naming}
 use Rattle.c_grammar.specs.WordSets.{no_words}
 use Rattle.c_grammar.specs.Tokens.{TypeNames}
 use Rattle.c_grammar.specs.ParseExpr.{words_from, specifier_behind, specifier_from, expr, declarator, tight, shaping, tag, plain}
-use Rattle.c_grammar.specs.ParseSpecifiers.{tag_or_body, specifier}
 
 pub expr_deeper : (s : TypeNames) (n least : ℕ) (ts : List Lexeme) → 0 < n → expr s n least ts ≡ tight s (expr s (n - 1)) (declarator s (n - 1)) least ts
 unfolding expr
@@ -16,14 +15,6 @@ pub declarator_deeper : (s : TypeNames) (n : ℕ) (naming : Naming) (ts : List L
 unfolding declarator
 declarator_deeper s zero naming ts some = absurd (omega arith)
 declarator_deeper s (suc n) naming ts some = let e : n ≡ suc n - 1 = omega arith in ap (λ m. shaping s (expr s m) (declarator s m) naming ts) e
-
-pub specifier_deeper : (s : TypeNames) (n : ℕ) (ts : List Lexeme) → 0 < n
-    → specifier s n ts ≡ specifier_behind s (tag_or_body s (n - 1) (specifier s (n - 1))) (words_from (length ts) no_words ts).0 (words_from (length ts) no_words ts).1
-unfolding specifier specifier_from
-specifier_deeper s zero ts some = absurd (omega arith)
-specifier_deeper s (suc n) ts some =
-    let e : n ≡ suc n - 1 = omega arith in
-    ap (λ m. specifier_behind s (tag_or_body s m (specifier s m)) (words_from (length ts) no_words ts).0 (words_from (length ts) no_words ts).1) e
 
 pub plain_words : (s : TypeNames) (ts : List Lexeme) → plain s ts ≡ specifier_behind s (λ word at. tag word) (words_from (length ts) no_words ts).0 (words_from (length ts) no_words ts).1
 unfolding plain specifier_from

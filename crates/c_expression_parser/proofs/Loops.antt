@@ -1,31 +1,29 @@
 -- The loops: a turn more of each, and none. A turn is what the grammar's function of that name does with one more than it has left.
 use Rattle.std.proofs.Common.{◌≡◌, ℕ, suc, ◌+◌, ◌-◌, ◌<◌, ◌≤◌, List, [], ◌∷◌, ◌++◌, Ok, Err, ap, arith}
+use Rattle.std.proofs.lemmas.Grind.{common_steps}
 use Rattle.std.specs.Prelude.{if◌then◌else◌, nat_lt}
 use Rattle.c_lexer.specs.Pieces.{Lexeme}
 use Rattle.c_lexer.specs.declared.token.Keyword.TheVariants as w
 use Rattle.c_lexer.specs.declared.token.Punct.TheVariants as p
 use Rattle.c_tree.specs.declared.expressions.Expr.{Expr}
-use Rattle.c_tree.specs.declared.types.TypeNode.{TypeNode}
-use Rattle.c_tree.specs.declared.types.Declaration.{Declaration}
 use Rattle.c_grammar.specs.declared.shapes.Shape.TheVariants as h
 use Rattle.c_grammar.specs.declared.shapes.Declarator.{Declarator}
 use Rattle.c_grammar.specs.declared.shapes.Naming.{Naming}
-use Rattle.c_grammar.specs.declared.shapes.Naming.TheVariants as nm
 use Rattle.c_grammar.specs.declared.word_set.WordSet.{WordSet}
 use Rattle.c_grammar.specs.declared.classes.Specifier.TheVariants as c
 use Rattle.c_grammar.specs.Classes.{infix_of, specifier_of}
 use Rattle.c_grammar.specs.Levels.{binding_level, operand_level, result_level}
 use Rattle.c_grammar.specs.WordSets.{basic_of}
-use Rattle.c_grammar.specs.Types.{with_shape, without_void, bare}
+use Rattle.c_grammar.specs.Types.{with_shape, without_void}
 use Rattle.c_grammar.specs.Tokens.{TypeNames, is_mark, is_word, is_text, kind_at, behind, spelling_at}
 use Rattle.c_grammar.specs.Parser.{Parser, and_then, consts}
 use Rattle.c_grammar.specs.ParseExpr.{texts_from, list_from, words_from, extend, start_of, word_or_end, climb, step_by, suffixes, length_of, parameters}
-use Rattle.c_grammar.specs.ParseSpecifiers.{declaration, braced_list_from, declarators_from, member, members_from}
 
-turn : {X : Type 0} (f : ℕ → X) (n at : ℕ) → at < n → f (n - at) ≡ f (suc (n - (at + 1)))
+-- a step down of a number that counts the turns left
+pub turn : {X : Type 0} (f : ℕ → X) (n at : ℕ) → at < n → f (n - at) ≡ f (suc (n - (at + 1)))
 turn f n at below = let e : n - at ≡ suc (n - (at + 1)) = omega arith in ap f e
 
-end : {X : Type 0} (f : ℕ → X) (n at : ℕ) → n ≤ at → f (n - at) ≡ f 0
+pub end : {X : Type 0} (f : ℕ → X) (n at : ℕ) → n ≤ at → f (n - at) ≡ f 0
 end f n at done = let e : n - at ≡ 0 = omega arith in ap f e
 
 pub consts_turn : (n at : ℕ) (ts : List Lexeme) → at < n → consts (n - at) ts ≡ (if is_word w.Const (kind_at ts) then consts (n - (at + 1)) (behind ts) else Ok (tt, ts))
@@ -64,16 +62,6 @@ pub list_end : {A : Type 0} (item : Parser A) (n at : ℕ) (found : List A) (ts 
 unfolding list_from
 list_end item n at found ts = end (λ m. list_from item m found ts) n at
 
--- the same with perhaps a comma before the brace that closes
-pub braced_turn : {A : Type 0} (item : Parser A) (n at : ℕ) (found : List A) (ts : List Lexeme) → at < n
-    → braced_list_from item (n - at) found ts ≡ and_then (item ts) (λ x r. if is_mark p.Comma (kind_at r) then (if is_mark p.RightBrace (kind_at (behind r)) then Ok (found ++ x ∷ [], behind r) else braced_list_from item (n - (at + 1)) (found ++ x ∷ []) (behind r)) else Ok (found ++ x ∷ [], r))
-unfolding braced_list_from
-braced_turn item n at found ts = turn (λ m. braced_list_from item m found ts) n at
-
-pub braced_end : {A : Type 0} (item : Parser A) (n at : ℕ) (found : List A) (ts : List Lexeme) → n ≤ at → braced_list_from item (n - at) found ts ≡ Err ts
-unfolding braced_list_from
-braced_end item n at found ts = end (λ m. braced_list_from item m found ts) n at
-
 pub climb_turn : (s : TypeNames) (e : ℕ → Parser Expr) (d : Naming → Parser Declarator) (place least n at level : ℕ) (left : Expr) (ts : List Lexeme) → at < n
     → climb s e d place least (n - at) level left ts ≡ (if nat_lt (binding_level (infix_of (kind_at ts))) least then Ok (left, ts)
     else if nat_lt level (operand_level (infix_of (kind_at ts))) then Err ts
@@ -86,6 +74,8 @@ pub climb_end : (s : TypeNames) (e : ℕ → Parser Expr) (d : Naming → Parser
 unfolding climb
 climb_end s e d place least n at level left ts = end (λ m. climb s e d place least m level left ts) n at
 
+pub ruleset climbing = (common_steps, climb_turn, climb_end)
+
 pub suffixes_turn : (s : TypeNames) (e : ℕ → Parser Expr) (d : Naming → Parser Declarator) (n at : ℕ) (found : Declarator) (ts : List Lexeme) → at < n
     → suffixes s e d (n - at) found ts ≡ (if is_mark p.LeftBracket (kind_at ts) then and_then (length_of s e d found (behind ts)) (suffixes s e d (n - (at + 1)))
     else if is_mark p.LeftParen (kind_at ts) then and_then (parameters s e d (behind ts)) (λ xs. suffixes s e d (n - (at + 1)) (with_shape found (h.Takes (without_void xs))))
@@ -97,23 +87,3 @@ pub suffixes_end : (s : TypeNames) (e : ℕ → Parser Expr) (d : Naming → Par
     → suffixes s e d (n - at) found ts ≡ Ok (found, ts)
 unfolding suffixes
 suffixes_end s e d n at found ts = end (λ m. suffixes s e d m found ts) n at
-
-pub declarators_turn : (s : TypeNames) (depth n at : ℕ) (ty : TypeNode) (found : List Declaration) (ts : List Lexeme) → at < n
-    → declarators_from s depth (n - at) ty found ts ≡ and_then (declaration s depth nm.Member ty ts) (λ d r. if is_mark p.Comma (kind_at r) then declarators_from s depth (n - (at + 1)) (bare ty) (found ++ d ∷ []) (behind r) else Ok (found ++ d ∷ [], r))
-unfolding declarators_from
-declarators_turn s depth n at ty found ts = turn (λ m. declarators_from s depth m ty found ts) n at
-
-pub declarators_end : (s : TypeNames) (depth n at : ℕ) (ty : TypeNode) (found : List Declaration) (ts : List Lexeme) → n ≤ at
-    → declarators_from s depth (n - at) ty found ts ≡ Err ts
-unfolding declarators_from
-declarators_end s depth n at ty found ts = end (λ m. declarators_from s depth m ty found ts) n at
-
-pub members_turn : (s : TypeNames) (depth : ℕ) (specifier : Parser TypeNode) (n at : ℕ) (found : List Declaration) (ts : List Lexeme) → at < n
-    → members_from s depth specifier (n - at) found ts ≡ and_then (member s depth specifier ts) (λ ds r. if is_mark p.RightBrace (kind_at r) then Ok (found ++ ds, r) else members_from s depth specifier (n - (at + 1)) (found ++ ds) r)
-unfolding members_from
-members_turn s depth specifier n at found ts = turn (λ m. members_from s depth specifier m found ts) n at
-
-pub members_end : (s : TypeNames) (depth : ℕ) (specifier : Parser TypeNode) (n at : ℕ) (found : List Declaration) (ts : List Lexeme) → n ≤ at
-    → members_from s depth specifier (n - at) found ts ≡ Err ts
-unfolding members_from
-members_end s depth specifier n at found ts = end (λ m. members_from s depth specifier m found ts) n at

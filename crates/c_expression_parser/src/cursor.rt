@@ -16,7 +16,7 @@ use std::marker::Model;
 pub enum Fault {
     /// The grammar's function refuses the token at the cursor.
     Refused,
-    /// Memory is short, or too many constructs are open.
+    /// Memory is short, or too many constructs are open. Nothing is known of the cursor then.
     NoMemory,
 }
 
@@ -36,6 +36,10 @@ impl From<AllocError> for Fault {
 const MOST_OPEN: usize = 1024;
 
 /// The tokens that are still to be read, which contracts see with their spellings.
+///
+/// A function that takes them by `&mut` goes past what it reads. Where it answers [`Fault::Refused`], the
+/// refused token is the next one; where it answers [`Fault::NoMemory`], nothing is known of them: no more
+/// is to be read from them then.
 #[derive(Drop)]
 pub struct Tokens<'a> {
     /// The text that they are of.
@@ -124,7 +128,7 @@ impl<'a> Tokens<'a> {
     {
         match self.rest {
             [] => end,
-            [first, ..] => first.at,
+            [refused, ..] => refused.at,
         }
     }
 

@@ -46,6 +46,11 @@ fn assignments(
 }
 
 /// Reads an expression with its commas.
+///
+/// # Errors
+///
+/// [`Fault::Refused`] where the grammar refuses a token, at which the cursor then stands, and
+/// [`Fault::NoMemory`], after which nothing is known of the cursor.
 #[cycle(expr)]
 #[tactic(auto, unfolding(c_grammar::specs::ParseExpr::whole))]
 pub fn whole(
@@ -534,7 +539,7 @@ fn choice(
 
 /// Reads the operators behind an expression of this level, down to the least that is wanted.
 #[cycle(expr)]
-#[tactic(auto, using(std::proofs::lemmas::Grind::common_steps, crate::proofs::Loops::climb_turn, crate::proofs::Loops::climb_end))]
+#[tactic(auto, using(crate::proofs::Loops::climbing))]
 fn climb(
     alloc: Global,
     scope: &Scope,
@@ -565,6 +570,11 @@ fn climb(
 
 /// Reads an expression of the level `least` or above. The depth bounds how deep it goes: as much as
 /// there are tokens is enough.
+///
+/// # Errors
+///
+/// [`Fault::Refused`] where the grammar refuses a token, at which the cursor then stands, and
+/// [`Fault::NoMemory`], after which nothing is known of the cursor.
 #[cycle(expr)]
 #[tactic(auto, using(crate::proofs::Deeper::expr_deeper), unfolding(c_grammar::specs::ParseExpr::expr))]
 pub fn expr(
@@ -702,6 +712,11 @@ fn pointer_declarator(
 }
 
 /// Reads a declarator.
+///
+/// # Errors
+///
+/// [`Fault::Refused`] where the grammar refuses a token, at which the cursor then stands, and
+/// [`Fault::NoMemory`], after which nothing is known of the cursor.
 #[cycle(expr)]
 #[tactic(auto, using(crate::proofs::Deeper::declarator_deeper), unfolding(c_grammar::specs::ParseExpr::declarator))]
 pub fn declarator(

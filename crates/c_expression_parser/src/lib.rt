@@ -1,11 +1,11 @@
-//! The parser's lower half: expressions, specifiers, declarators and the declarations that they make (C99
-//! 6.5 and 6.7).
+//! The lowest part of the parser: expressions, and the specifiers without braces and declarators that stand
+//! in them (C99 6.5, 6.7.2 and 6.7.5).
 //!
 //! Each function reads what the function of that name in the grammar's model reads (the crate `c_grammar`),
-//! from the tokens at a cursor. After a refusal the cursor stands at the refused token.
+//! from the tokens at a cursor. After a refusal the cursor stands at the refused token; after want of memory
+//! nothing is known of it.
 #![tactic(auto)]
 
-mod braces;
 mod cursor;
 mod expressions;
 mod parts;
@@ -14,10 +14,9 @@ mod shapes;
 mod specifier_type;
 mod specifiers;
 
-pub use braces::{append, declaration, specifier};
 pub use cursor::{Fault, Tokens};
 pub use expressions::{declarator, expr, whole};
 pub use scope::Scope;
 pub use shapes::with_shapes;
 pub use specifier_type::SpecifierType;
-pub use specifiers::plain;
+pub use specifiers::{named_type, plain, read_words};

@@ -33,6 +33,7 @@ impl Model for SpecifierType {
 }
 
 impl SpecifierType {
+    /// A type that words spell (C99 6.7.2).
     pub fn basic(basic: BasicType) -> SpecifierType
         ensures { result ≡ nodes.Basic basic }
     {
@@ -41,6 +42,7 @@ impl SpecifierType {
         }
     }
 
+    /// The type that a name of a type stands for (C99 6.7.7).
     pub fn of_name(name: Name) -> SpecifierType
         ensures { result ≡ nodes.Named name }
     {

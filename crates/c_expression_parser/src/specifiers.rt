@@ -51,6 +51,11 @@ pub fn read_words(tokens: &mut Tokens<'_>) -> SpecifierStart
 }
 
 /// Reads the name of a type.
+///
+/// # Errors
+///
+/// [`Fault::Refused`] where the grammar refuses a token, at which the cursor then stands, and
+/// [`Fault::NoMemory`], after which nothing is known of the cursor.
 #[tactic(auto, unfolding(c_grammar::specs::ParseExpr::named_type))]
 pub fn named_type(
     alloc: Global,
@@ -86,6 +91,11 @@ fn tag(alloc: Global, tokens: &mut Tokens<'_>, word: Specifier) -> Result<Specif
 }
 
 /// Reads a specifier without braces.
+///
+/// # Errors
+///
+/// [`Fault::Refused`] where the grammar refuses a token, at which the cursor then stands, and
+/// [`Fault::NoMemory`], after which nothing is known of the cursor.
 #[tactic(auto, using(crate::proofs::Deeper::plain_words))]
 pub fn plain(alloc: Global, scope: &Scope, tokens: &mut Tokens<'_>) -> Result<SpecifierType, Fault>
     ensures answers { Answers (model.plain scope.now tokens.old) result tokens.new }

@@ -1,15 +1,8 @@
--- A statement and an initialiser, a construct further in.
+-- An initialiser, a construct further in.
 use Rattle.std.proofs.Common.{◌≡◌, ℕ, zero, suc, ◌-◌, ◌<◌, List, ap, arith}
 use Rattle.c_lexer.specs.Pieces.{Lexeme}
-use Rattle.c_grammar.specs.Classes.{head_of}
-use Rattle.c_grammar.specs.Tokens.{TypeNames, kind_at}
-use Rattle.c_grammar.specs.ParseStatements.{stmt_by, stmt}
+use Rattle.c_grammar.specs.Tokens.{TypeNames}
 use Rattle.c_grammar.specs.ParseUnits.{init_by, init}
-
-pub stmt_deeper : (s : TypeNames) (n : ℕ) (ts : List Lexeme) → 0 < n → stmt s n ts ≡ stmt_by s n (stmt s (n - 1)) (head_of (kind_at ts)) ts
-unfolding stmt
-stmt_deeper s zero ts some = absurd (omega arith)
-stmt_deeper s (suc n) ts some = let e : n ≡ suc n - 1 = omega arith in ap (λ m. stmt_by s (suc n) (stmt s m) (head_of (kind_at ts)) ts) e
 
 pub init_deeper : (s : TypeNames) (n : ℕ) (ts : List Lexeme) → 0 < n → init s n ts ≡ init_by s n (init s (n - 1)) ts
 unfolding init

@@ -1,5 +1,5 @@
 -- The loops: a turn more of each, and none. A turn is what the grammar's function of that name does with one more than it has left.
-use Rattle.std.proofs.Common.{◌≡◌, ℕ, zero, suc, ◌+◌, ◌-◌, ◌<◌, ◌≤◌, List, [], ◌∷◌, ◌++◌, length, Option, Ok, Err, refl, ap, ◌∙◌, arith}
+use Rattle.std.proofs.Common.{◌≡◌, ℕ, zero, suc, ◌+◌, ◌-◌, ◌<◌, ◌≤◌, List, [], ◌∷◌, ◌++◌, length, Option, Ok, Err, refl, ◌∙◌, arith}
 use Rattle.std.specs.Prelude.{if◌then◌else◌}
 use Rattle.c_lexer.specs.Pieces.{Lexeme}
 use Rattle.c_lexer.specs.declared.token.Punct.TheVariants as p
@@ -7,70 +7,43 @@ use Rattle.c_tree.specs.declared.types.TypeNode.{TypeNode}
 use Rattle.c_tree.specs.declared.declarations.Storage.{Storage}
 use Rattle.c_tree.specs.declared.declarations.External.{External}
 use Rattle.c_tree.specs.declared.declarations.External.TheVariants as x
-use Rattle.c_tree.specs.declared.statements.Stmt.{Stmt}
-use Rattle.c_tree.specs.declared.statements.Section.{Section}
 use Rattle.c_grammar.specs.declared.shapes.Naming.TheVariants as nm
 use Rattle.c_grammar.specs.Types.{bare}
 use Rattle.c_grammar.specs.Units.{with_type}
-use Rattle.c_grammar.specs.Tokens.{TypeNames, is_mark, kind_at, behind, begins_type}
-use Rattle.c_grammar.specs.Statements.{locals_of}
-use Rattle.c_grammar.specs.Parser.{Parser, and_then, ◌>>=◌}
+use Rattle.c_grammar.specs.Tokens.{TypeNames, is_mark, kind_at, behind}
+use Rattle.c_grammar.specs.Parser.{ParseOutcome, Parser, and_then, ◌>>=◌, pure}
 use Rattle.c_grammar.specs.ParseExpr.{declarator}
 use Rattle.c_grammar.specs.ParseSpecifiers.{declaration}
-use Rattle.c_grammar.specs.ParseStatements.{line, items_from, ends_section, stmts_from, section, sections_from}
 use Rattle.c_grammar.specs.ParseUnits.{typedefs_from, object_named, objects_from, external, externals_behind, externals_from}
+use Rattle.c_parser.specs.model.Parts.{typedef_declarator, object_declarator}
+use Rattle.c_expression_parser.proofs.Loops.{turn, end}
 
-turn : {X : Type 0} (f : ℕ → X) (n at : ℕ) → at < n → f (n - at) ≡ f (suc (n - (at + 1)))
-turn f n at below = let e : n - at ≡ suc (n - (at + 1)) = omega arith in ap f e
-
-end : {X : Type 0} (f : ℕ → X) (n at : ℕ) → n ≤ at → f (n - at) ≡ f 0
-end f n at done = let e : n - at ≡ 0 = omega arith in ap f e
-
-pub items_turn : (s : TypeNames) (depth : ℕ) (stmt : Parser Stmt) (n at : ℕ) (found : List Stmt) (ts : List Lexeme) → at < n
-    → items_from s depth stmt (n - at) found ts ≡ (if is_mark p.RightBrace (kind_at ts) then Ok (found, behind ts)
-    else if begins_type s ts then and_then (line s depth ts) (λ xs. items_from s depth stmt (n - (at + 1)) (found ++ locals_of xs))
-    else and_then (stmt ts) (λ x. items_from s depth stmt (n - (at + 1)) (found ++ x ∷ [])))
-unfolding items_from
-items_turn s depth stmt n at found ts = turn (λ m. items_from s depth stmt m found ts) n at
-
-pub items_end : (s : TypeNames) (depth : ℕ) (stmt : Parser Stmt) (n at : ℕ) (found : List Stmt) (ts : List Lexeme) → n ≤ at → items_from s depth stmt (n - at) found ts ≡ Err ts
-unfolding items_from
-items_end s depth stmt n at found ts = end (λ m. items_from s depth stmt m found ts) n at
-
-pub stmts_turn : (s : TypeNames) (depth : ℕ) (stmt : Parser Stmt) (n at : ℕ) (found : List Stmt) (ts : List Lexeme) → at < n
-    → stmts_from s depth stmt (n - at) found ts ≡ (if ends_section ts then Ok (found, ts) else and_then (stmt ts) (λ x. stmts_from s depth stmt (n - (at + 1)) (found ++ x ∷ [])))
-unfolding stmts_from
-stmts_turn s depth stmt n at found ts = turn (λ m. stmts_from s depth stmt m found ts) n at
-
-pub stmts_end : (s : TypeNames) (depth : ℕ) (stmt : Parser Stmt) (n at : ℕ) (found : List Stmt) (ts : List Lexeme) → n ≤ at → stmts_from s depth stmt (n - at) found ts ≡ Err ts
-unfolding stmts_from
-stmts_end s depth stmt n at found ts = end (λ m. stmts_from s depth stmt m found ts) n at
-
-pub sections_turn : (s : TypeNames) (depth : ℕ) (stmt : Parser Stmt) (n at : ℕ) (found : List Section) (ts : List Lexeme) → at < n
-    → sections_from s depth stmt (n - at) found ts ≡ (if is_mark p.RightBrace (kind_at ts) then Ok (found, behind ts) else and_then (section s depth stmt ts) (λ x. sections_from s depth stmt (n - (at + 1)) (found ++ x ∷ [])))
-unfolding sections_from
-sections_turn s depth stmt n at found ts = turn (λ m. sections_from s depth stmt m found ts) n at
-
-pub sections_end : (s : TypeNames) (depth : ℕ) (stmt : Parser Stmt) (n at : ℕ) (found : List Section) (ts : List Lexeme) → n ≤ at → sections_from s depth stmt (n - at) found ts ≡ Err ts
-unfolding sections_from
-sections_end s depth stmt n at found ts = end (λ m. sections_from s depth stmt m found ts) n at
+-- one after another, from the left or from the right
+then_then : {A B C : Type 0} (o : ParseOutcome A) (f : A → Parser B) (g : B → Parser C) → and_then o (λ a r. and_then (f a r) g) ≡ and_then (and_then o f) g
+then_then (Ok p) f g = refl
+then_then (Err r) f g = refl
 
 pub typedefs_turn : (s : TypeNames) (depth n at : ℕ) (ty : TypeNode) (found : List External) (ts : List Lexeme) → at < n
-    → typedefs_from s depth (n - at) ty found ts ≡ and_then (declaration s depth nm.Required ty ts) (λ d r.
-    if is_mark p.Comma (kind_at r) then typedefs_from (with_type s d.name) depth (n - (at + 1)) (bare ty) (found ++ x.Typedef d ∷ []) (behind r)
-    else Ok ((found ++ x.Typedef d ∷ [], with_type s d.name), r))
-unfolding typedefs_from
-typedefs_turn s depth n at ty found ts = turn (λ m. typedefs_from s depth m ty found ts) n at
+    → typedefs_from s depth (n - at) ty found ts ≡ and_then (typedef_declarator s depth ty ts) (λ q r.
+    if is_mark p.Comma (kind_at r) then typedefs_from q.1 depth (n - (at + 1)) (bare ty) (found ++ q.0 ∷ []) (behind r)
+    else Ok ((found ++ q.0 ∷ [], q.1), r))
+unfolding typedefs_from typedef_declarator
+typedefs_turn s depth n at ty found ts below = turn (λ m. typedefs_from s depth m ty found ts) n at below
+    ∙ then_then (declaration s depth nm.Required ty ts) (λ d. pure (x.Typedef d, with_type s d.name)) (λ q r.
+    if is_mark p.Comma (kind_at r) then typedefs_from q.1 depth (n - (at + 1)) (bare ty) (found ++ q.0 ∷ []) (behind r)
+    else Ok ((found ++ q.0 ∷ [], q.1), r))
 
 pub typedefs_end : (s : TypeNames) (depth n at : ℕ) (ty : TypeNode) (found : List External) (ts : List Lexeme) → n ≤ at → typedefs_from s depth (n - at) ty found ts ≡ Err ts
 unfolding typedefs_from
 typedefs_end s depth n at ty found ts = end (λ m. typedefs_from s depth m ty found ts) n at
 
 pub objects_turn : (s : TypeNames) (depth : ℕ) (storage : Option Storage) (n at : ℕ) (ty : TypeNode) (found : List External) (ts : List Lexeme) → at < n
-    → objects_from s depth storage (n - at) ty found ts ≡ and_then (declarator s depth nm.Required ts) (λ d. object_named s depth storage ty d.name d.shapes >>= λ v r.
+    → objects_from s depth storage (n - at) ty found ts ≡ and_then (object_declarator s depth storage ty ts) (λ v r.
     if is_mark p.Comma (kind_at r) then objects_from s depth storage (n - (at + 1)) (bare ty) (found ++ v ∷ []) (behind r) else Ok (found ++ v ∷ [], r))
-unfolding objects_from
-objects_turn s depth storage n at ty found ts = turn (λ m. objects_from s depth storage m ty found ts) n at
+unfolding objects_from object_declarator
+objects_turn s depth storage n at ty found ts below = turn (λ m. objects_from s depth storage m ty found ts) n at below
+    ∙ then_then (declarator s depth nm.Required ts) (λ d. object_named s depth storage ty d.name d.shapes) (λ v r.
+    if is_mark p.Comma (kind_at r) then objects_from s depth storage (n - (at + 1)) (bare ty) (found ++ v ∷ []) (behind r) else Ok (found ++ v ∷ [], r))
 
 pub objects_end : (s : TypeNames) (depth : ℕ) (storage : Option Storage) (n at : ℕ) (ty : TypeNode) (found : List External) (ts : List Lexeme) → n ≤ at
     → objects_from s depth storage (n - at) ty found ts ≡ Err ts
@@ -97,3 +70,5 @@ unfolding externals_from
 externals_none zero s found ts none = refl
 externals_none (suc j) s found [] none = refl
 externals_none (suc j) s found (t ∷ ts) none = absurd (omega arith)
+
+pub ruleset externals_loop = (externals_turn, externals_end, externals_none)

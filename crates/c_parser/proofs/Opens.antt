@@ -1,14 +1,6 @@
--- Functions of the grammar that have the names of keywords, under names that attributes can write.
-use Rattle.c_grammar.specs.ParseStatements.{while, for, return}
+-- The parts of the grammar's initialiser, under one name.
+use Rattle.c_grammar.specs.ParseUnits.{init, init_list, init_value}
 
-unfoldable pub while_loop : Unit {0}
-unfolding while
-while_loop = tt
-
-unfoldable pub for_loop : Unit {0}
-unfolding for
-for_loop = tt
-
-unfoldable pub return_behind : Unit {0}
-unfolding return
-return_behind = tt
+unfoldable pub initialiser : Unit {0}
+unfolding init init_list init_value
+initialiser = tt

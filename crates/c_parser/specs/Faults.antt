@@ -1,22 +1,8 @@
--- Why a text is not read, by why its parts are not.
+-- Why the nesting of a text is not given.
 use Rattle.std.specs.Prelude.{ℕ, List}
 use Rattle.c_lexer.specs.Pieces.{FaultAt}
-use Rattle.c_nesting.specs.declared.fault.ScanFault.{ScanFault}
-use Rattle.c_nesting.specs.declared.fault.ScanFault.TheVariants as scan
-use Rattle.c_expression_parser.specs.declared.cursor.Fault.{Fault}
-use Rattle.c_expression_parser.specs.declared.cursor.Fault.TheVariants as stop
 use Rattle.c_parser.specs.declared.fault.ParseFault.{ParseFault}
 use Rattle.c_parser.specs.declared.fault.ParseFault.TheVariants.{Lex, Nesting, Syntax, NoMemory}
-
--- a text that gives no tokens
-abbrev pub of_scan : ScanFault → ParseFault
-of_scan (scan.Lex at) = Lex at
-of_scan scan.NoMemory = NoMemory
-
--- a reading that has stopped at this offset
-abbrev pub of_stop : Fault → ℕ → ParseFault
-of_stop stop.Refused at = Syntax at
-of_stop stop.NoMemory at = NoMemory
 
 -- The text has a place at which no token begins, and this is the first; or memory ran out.
 abbrev pub HasNoNesting : List ℕ → ParseFault → Type 0

@@ -18,8 +18,9 @@ pub record IsRead (text : List ℕ) (tree : TranslationUnit) : Type 0 where
   pub within : nesting_of toks.items ≤ most_nesting
   pub reads : Reads toks tree
 
--- The text is all tokens, of a nesting within the limit, but they have no reading: the refused token, which stands at this
--- offset, is the first that ends no front of a list with a reading. Where each front can go on, it is the text's length.
+-- The text is all tokens, of a nesting within the limit, but they have no reading: the refused token, which stands at
+-- this offset, is the first that ends no front of a list with a reading. Where each front can go on, it is the text's
+-- length.
 pub record HasNoReading (text : List ℕ) (at : ℕ) : Type 0 where
   pub toks : Toks
   pub are_tokens : Tokens text toks

@@ -1,7 +1,7 @@
 //! Why a text is not read.
 
 ghost use Rattle.std.specs.Prelude.{◌≡◌};
-ghost use Rattle.c_parser.specs.Faults as faults;
+ghost use Rattle.c_parser.specs.model.Faults as faults;
 
 use c_expression_parser::Fault;
 use c_nesting::ScanFault;

@@ -1,15 +1,14 @@
 //! The parser of C units: from the text to its syntax tree.
 //!
-//! What a text's tree is, the grammar says (the crate `c_grammar`). Each function here reads what the
-//! function of that name in the grammar's model reads, from the tokens at a cursor. [`parse`] reads a
-//! whole text, and [`nest`] gives the nesting of its tokens (the crate `c_nesting`).
+//! What a text's tree is, the grammar says (the crate `c_grammar`). [`parse`] reads a whole text, one external
+//! declaration (C99 6.9) after another, and [`nest`] gives the nesting of its tokens (the crate `c_nesting`).
+//! Statements are read by the crate `c_statement_parser`, expressions by `c_expression_parser`.
 #![tactic(auto)]
 
 mod fault;
 pub mod laws;
 mod nesting;
 mod parsing;
-mod statements;
 mod units;
 
 pub use fault::ParseFault;

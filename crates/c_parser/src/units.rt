@@ -4,22 +4,21 @@ ghost use Rattle.std.specs.Prelude.{◌≡◌, [], length, IfOk};
 ghost use Rattle.c_grammar.specs.ParseSpecifiers.{braced_list_from};
 ghost use Rattle.c_grammar.specs.Types as types;
 ghost use Rattle.c_grammar.specs.ParseUnits as model;
-ghost use Rattle.c_expression_parser.specs.Answers.{Answers, AnswersIn, AnswersUnit};
+ghost use Rattle.c_expression_parser.specs.Answers.{Answers};
+ghost use Rattle.c_parser.specs.model.Answers.{AnswersIn, AnswersUnit};
+ghost use Rattle.c_parser.specs.model.Parts as parts;
 ghost use Rattle.c_grammar.specs.Units.{external_of, is_function};
 
-use crate::statements::items;
-use c_expression_parser::{
-    Fault, Scope, SpecifierType, Tokens, append, declaration, declarator, expr, specifier,
-    with_shapes,
-};
+use c_expression_parser::{Fault, Scope, SpecifierType, Tokens, declarator, expr, with_shapes};
 use c_grammar::{Declarator, DeclaredName, Naming, Opening, Shape, levels, opening_of};
 use c_lexer::Punct;
+use c_statement_parser::{append, declaration, items, specifier};
 use c_tree::{Declaration, External, FunctionEnd, Init, Seq, Storage, TypeNode};
 use std::alloc::{AllocError, Global};
 
 /// Reads initialisers with commas between them, one or more, and perhaps a comma behind.
 #[cycle(init)]
-#[tactic(auto, using(c_expression_parser::proofs::Loops::braced_turn, c_expression_parser::proofs::Loops::braced_end))]
+#[tactic(auto, using(c_statement_parser::proofs::Loops::braced_turn, c_statement_parser::proofs::Loops::braced_end))]
 fn inits(
     alloc: Global,
     scope: &Scope,
@@ -45,7 +44,7 @@ fn inits(
 
 /// Reads an initialiser. The depth bounds how deep it goes: as much as there are tokens is enough.
 #[cycle(init)]
-#[tactic(auto, using(crate::proofs::Deeper::init_deeper), unfolding(c_grammar::specs::ParseUnits::init, c_grammar::specs::ParseUnits::init_list, c_grammar::specs::ParseUnits::init_value))]
+#[tactic(auto, using(crate::proofs::Deeper::init_deeper), unfolding(crate::proofs::Opens::initialiser))]
 fn init(alloc: Global, scope: &Scope, tokens: &mut Tokens<'_>, depth: usize) -> Result<Init, Fault>
     ensures { Answers (model.init scope.now depth tokens.old) result tokens.new }
 {
@@ -61,6 +60,22 @@ fn init(alloc: Global, scope: &Scope, tokens: &mut Tokens<'_>, depth: usize) -> 
     let items = inits(alloc, scope, tokens, depth - 1)?;
     tokens.expect(Punct::RightBrace)?;
     Ok(Init::List { at, items })
+}
+
+/// Reads one declarator of a `typedef` behind its type. Its name is that of a type from then on.
+#[tactic(auto, unfolding(crate::specs::model::Parts::typedef_declarator))]
+fn typedef_declarator(
+    alloc: Global,
+    scope: &mut Scope,
+    tokens: &mut Tokens<'_>,
+    depth: usize,
+    ty: TypeNode,
+) -> Result<External, Fault>
+    ensures { AnswersIn (parts.typedef_declarator scope.old depth ty tokens.old) result scope.new tokens.new }
+{
+    let declaration = declaration(alloc, scope, tokens, depth, Naming::Required, ty)?;
+    scope.add_type(alloc, declaration.name.copy()?)?;
+    Ok(External::Typedef(declaration))
 }
 
 /// Reads the declarators of a `typedef` behind their type. The names of types grow from one to the next.
@@ -80,9 +95,7 @@ fn typedef_declarators(
     for _turn in 0..tokens.left() {
         let bare = ty.bare()?;
         let first = ty.into_type();
-        let declaration = declaration(alloc, scope, tokens, depth, Naming::Required, first)?;
-        scope.add_type(alloc, declaration.name.copy()?)?;
-        found.push(External::Typedef(declaration))?;
+        found.push(typedef_declarator(alloc, scope, tokens, depth, first)?)?;
         ty = bare;
         if !tokens.sees(Punct::Comma) {
             return Ok(found);
@@ -192,6 +205,32 @@ fn object(
     Ok(typed.into_external(alloc, storage, Some(value))?)
 }
 
+/// Reads one declarator, behind its type, and its initialiser.
+#[tactic(auto, unfolding(crate::specs::model::Parts::object_declarator))]
+fn object_declarator(
+    alloc: Global,
+    scope: &Scope,
+    tokens: &mut Tokens<'_>,
+    depth: usize,
+    storage: Option<Storage>,
+    ty: TypeNode,
+) -> Result<External, Fault>
+    ensures { Answers (parts.object_declarator scope.now depth storage ty tokens.old) result tokens.new }
+{
+    let Declarator { name, shapes } = declarator(alloc, scope, tokens, depth, Naming::Required)?;
+    let Some(named) = name else {
+        return Err(Fault::Refused);
+    };
+    object(
+        alloc,
+        scope,
+        tokens,
+        depth,
+        storage,
+        TypedDeclarator { ty, named, shapes },
+    )
+}
+
 /// Reads declarators with commas between them, each with its initialiser, behind those that were found.
 #[tactic(auto, using(crate::proofs::Loops::objects_turn, crate::proofs::Loops::objects_end))]
 fn objects(
@@ -209,24 +248,9 @@ fn objects(
     let mut found = found;
     let mut ty = base;
     for _turn in 0..tokens.left() {
-        let Declarator { name, shapes } = declarator(
-            alloc,
-            scope,
-            tokens,
-            depth,
-            Naming::Required,
-        )?;
-        let Some(named) = name else {
-            return Err(Fault::Refused);
-        };
         let bare = ty.bare()?;
-        let ty_here = ty.into_type();
-        let typed = TypedDeclarator {
-            ty: ty_here,
-            named,
-            shapes,
-        };
-        found.push(object(alloc, scope, tokens, depth, storage, typed)?)?;
+        let first = ty.into_type();
+        found.push(object_declarator(alloc, scope, tokens, depth, storage, first)?)?;
         ty = bare;
         if !tokens.sees(Punct::Comma) {
             return Ok(found);
@@ -379,7 +403,7 @@ fn external(
 }
 
 /// Reads external declarations up to the end.
-#[tactic(auto, using(crate::proofs::Loops::externals_turn, crate::proofs::Loops::externals_end, crate::proofs::Loops::externals_none))]
+#[tactic(auto, using(crate::proofs::Loops::externals_loop))]
 pub fn externals(
     alloc: Global,
     scope: &mut Scope,

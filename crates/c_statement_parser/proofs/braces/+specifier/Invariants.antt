@@ -1,6 +1,6 @@
 use Rattle.std.proofs.Common.{◌≡◌, [], length, ◌+◌, ◌-◌, ◌*◌}
 use Rattle.c_grammar.specs.ParseSpecifiers.{members_from, specifier}
-use Rattle.c_expression_parser.proofs.braces.+specifier.Given as goal
+use Rattle.c_statement_parser.proofs.braces.+specifier.Given as goal
 
 abbrev pub invariant-members-loop-turn : goal.invariant-members-loop-turn
 invariant-members-loop-turn l = members_from l.scope l.depth (specifier l.scope l.depth) (length l.fn.tokens) [] l.fn.tokens ≡ members_from l.scope l.depth (specifier l.scope l.depth) (l._turn-end - l._turn) l.found l.tokens

@@ -1,6 +1,6 @@
 use Rattle.std.proofs.Common.{◌≡◌, [], length, ◌+◌, ◌-◌, ◌*◌}
 use Rattle.c_grammar.specs.ParseStatements.{items_from, stmts_from, sections_from, stmt}
-use Rattle.c_parser.proofs.statements.+stmt.Given as goal
+use Rattle.c_statement_parser.proofs.statements.+stmt.Given as goal
 
 abbrev pub invariant-items-loop-turn : goal.invariant-items-loop-turn
 invariant-items-loop-turn l = items_from l.scope l.depth (stmt l.scope l.inner) (length l.fn.tokens) [] l.fn.tokens ≡ items_from l.scope l.depth (stmt l.scope l.inner) (l._turn-end - l._turn) l.found l.tokens

@@ -1,15 +1,12 @@
-//! Specifiers with braces, and declarations.
+//! Declarations (C99 6.7), and the specifiers with braces that stand in them.
 
 ghost use Rattle.std.specs.Prelude.{◌≡◌, ◌++◌, [], length, IfOk};
 ghost use Rattle.c_grammar.specs.ParseSpecifiers as model;
 ghost use Rattle.c_expression_parser.specs.Answers.{Answers};
 
-use crate::cursor::{Fault, Tokens};
-use crate::expressions::{declarator, expr};
-use crate::scope::Scope;
-use crate::shapes::with_shapes;
-use crate::specifier_type::SpecifierType;
-use crate::specifiers::{named_type, read_words};
+use c_expression_parser::{
+    Fault, Scope, SpecifierType, Tokens, declarator, expr, named_type, read_words, with_shapes,
+};
 use c_grammar::{Declarator, Naming, Specifier, SpecifierStart, levels};
 use c_lexer::Punct;
 use c_tree::{Constant, Declaration, Name, Seq, TypeNode};
@@ -26,6 +23,11 @@ pub fn append<T: Drop>(found: Seq<T>, more: Seq<T>) -> Result<Seq<T>, AllocError
 }
 
 /// Reads a declarator that has a name, behind its type.
+///
+/// # Errors
+///
+/// [`Fault::Refused`] where the grammar refuses a token, at which the cursor then stands, and
+/// [`Fault::NoMemory`], after which nothing is known of the cursor.
 #[tactic(auto, unfolding(c_grammar::specs::ParseSpecifiers::declaration))]
 pub fn declaration(
     alloc: Global,
@@ -236,6 +238,11 @@ fn tag_or_body(
 }
 
 /// Reads a specifier. The depth bounds how deep it goes: as much as there are tokens is enough.
+///
+/// # Errors
+///
+/// [`Fault::Refused`] where the grammar refuses a token, at which the cursor then stands, and
+/// [`Fault::NoMemory`], after which nothing is known of the cursor.
 #[cycle(specifier)]
 #[tactic(auto, using(crate::proofs::Deeper::specifier_deeper), unfolding(c_grammar::specs::ParseSpecifiers::specifier))]
 pub fn specifier(

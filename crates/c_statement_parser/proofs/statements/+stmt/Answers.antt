@@ -1,7 +1,7 @@
 use Rattle.std.proofs.Common.{◌<◌, rules, arith}
 use Rattle.std.proofs.lemmas.Grind.{common_steps}
-use Rattle.c_parser.proofs.Deeper.{stmt_deeper}
-use Rattle.c_parser.proofs.statements.+stmt.Goals as goal
+use Rattle.c_statement_parser.proofs.Deeper.{stmt_deeper}
+use Rattle.c_statement_parser.proofs.statements.+stmt.Goals as goal
 
 pub stmt-returns-in_err-items-in-Block : goal.stmt-returns-in_err-items-in-Block
 stmt-returns-in_err-items-in-Block t c =

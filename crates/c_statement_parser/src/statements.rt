@@ -7,7 +7,8 @@ ghost use Rattle.c_grammar.specs.ParseExpr.{list_from};
 ghost use Rattle.c_grammar.specs.ParseStatements as model;
 ghost use Rattle.c_expression_parser.specs.Answers.{Answers};
 
-use c_expression_parser::{Fault, Scope, SpecifierType, Tokens, declaration, expr, plain, whole};
+use crate::braces::declaration;
+use c_expression_parser::{Fault, Scope, SpecifierType, Tokens, expr, plain, whole};
 use c_grammar::{Head, Naming, head_of, levels};
 use c_lexer::{Keyword, Punct};
 use c_tree::{Box, Expr, ForFirst, Label, Local, Section, Seq, Stmt, TypeNode};
@@ -235,6 +236,11 @@ fn push_locals(found: &mut Seq<Stmt>, locals: Seq<Local>) -> Result<(), AllocErr
 }
 
 /// Reads what stands in a block behind its brace, and the brace that closes it.
+///
+/// # Errors
+///
+/// [`Fault::Refused`] where the grammar refuses a token, at which the cursor then stands, and
+/// [`Fault::NoMemory`], after which nothing is known of the cursor.
 #[cycle(stmt)]
 #[tactic(auto, using(crate::proofs::Loops::items_turn, crate::proofs::Loops::items_end))]
 pub fn items(
@@ -456,8 +462,13 @@ fn switch(
 }
 
 /// Reads a statement. The depth bounds how deep it goes: as much as there are tokens is enough.
+///
+/// # Errors
+///
+/// [`Fault::Refused`] where the grammar refuses a token, at which the cursor then stands, and
+/// [`Fault::NoMemory`], after which nothing is known of the cursor.
 #[cycle(stmt)]
-#[tactic(auto, using(crate::proofs::Deeper::stmt_deeper), unfolding(c_grammar::specs::ParseStatements::stmt, crate::proofs::Opens::return_behind, c_grammar::specs::ParseStatements::value))]
+#[tactic(auto, using(crate::proofs::Deeper::stmt_deeper), unfolding(crate::proofs::Opens::statement))]
 pub fn stmt(
     alloc: Global,
     scope: &Scope,

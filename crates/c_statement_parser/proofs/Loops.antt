@@ -1,0 +1,76 @@
+-- The loops: a turn more of each, and none. A turn is what the grammar's function of that name does with one more than it has left.
+use Rattle.std.proofs.Common.{◌≡◌, ℕ, ◌+◌, ◌-◌, ◌<◌, ◌≤◌, List, [], ◌∷◌, ◌++◌, Ok, Err}
+use Rattle.std.specs.Prelude.{if◌then◌else◌}
+use Rattle.c_lexer.specs.Pieces.{Lexeme}
+use Rattle.c_lexer.specs.declared.token.Punct.TheVariants as p
+use Rattle.c_tree.specs.declared.types.TypeNode.{TypeNode}
+use Rattle.c_tree.specs.declared.types.Declaration.{Declaration}
+use Rattle.c_grammar.specs.declared.shapes.Naming.TheVariants as nm
+use Rattle.c_grammar.specs.Types.{bare}
+use Rattle.c_grammar.specs.Tokens.{TypeNames, is_mark, kind_at, behind, begins_type}
+use Rattle.c_grammar.specs.Parser.{Parser, and_then}
+use Rattle.c_grammar.specs.ParseSpecifiers.{declaration, braced_list_from, declarators_from, member, members_from}
+use Rattle.c_tree.specs.declared.statements.Stmt.{Stmt}
+use Rattle.c_tree.specs.declared.statements.Section.{Section}
+use Rattle.c_grammar.specs.Statements.{locals_of}
+use Rattle.c_grammar.specs.ParseStatements.{line, items_from, ends_section, stmts_from, section, sections_from}
+use Rattle.c_expression_parser.proofs.Loops.{turn, end}
+
+-- the same with perhaps a comma before the brace that closes
+pub braced_turn : {A : Type 0} (item : Parser A) (n at : ℕ) (found : List A) (ts : List Lexeme) → at < n
+    → braced_list_from item (n - at) found ts ≡ and_then (item ts) (λ x r. if is_mark p.Comma (kind_at r) then (if is_mark p.RightBrace (kind_at (behind r)) then Ok (found ++ x ∷ [], behind r) else braced_list_from item (n - (at + 1)) (found ++ x ∷ []) (behind r)) else Ok (found ++ x ∷ [], r))
+unfolding braced_list_from
+braced_turn item n at found ts = turn (λ m. braced_list_from item m found ts) n at
+
+pub braced_end : {A : Type 0} (item : Parser A) (n at : ℕ) (found : List A) (ts : List Lexeme) → n ≤ at → braced_list_from item (n - at) found ts ≡ Err ts
+unfolding braced_list_from
+braced_end item n at found ts = end (λ m. braced_list_from item m found ts) n at
+
+pub declarators_turn : (s : TypeNames) (depth n at : ℕ) (ty : TypeNode) (found : List Declaration) (ts : List Lexeme) → at < n
+    → declarators_from s depth (n - at) ty found ts ≡ and_then (declaration s depth nm.Member ty ts) (λ d r. if is_mark p.Comma (kind_at r) then declarators_from s depth (n - (at + 1)) (bare ty) (found ++ d ∷ []) (behind r) else Ok (found ++ d ∷ [], r))
+unfolding declarators_from
+declarators_turn s depth n at ty found ts = turn (λ m. declarators_from s depth m ty found ts) n at
+
+pub declarators_end : (s : TypeNames) (depth n at : ℕ) (ty : TypeNode) (found : List Declaration) (ts : List Lexeme) → n ≤ at
+    → declarators_from s depth (n - at) ty found ts ≡ Err ts
+unfolding declarators_from
+declarators_end s depth n at ty found ts = end (λ m. declarators_from s depth m ty found ts) n at
+
+pub members_turn : (s : TypeNames) (depth : ℕ) (specifier : Parser TypeNode) (n at : ℕ) (found : List Declaration) (ts : List Lexeme) → at < n
+    → members_from s depth specifier (n - at) found ts ≡ and_then (member s depth specifier ts) (λ ds r. if is_mark p.RightBrace (kind_at r) then Ok (found ++ ds, r) else members_from s depth specifier (n - (at + 1)) (found ++ ds) r)
+unfolding members_from
+members_turn s depth specifier n at found ts = turn (λ m. members_from s depth specifier m found ts) n at
+
+pub members_end : (s : TypeNames) (depth : ℕ) (specifier : Parser TypeNode) (n at : ℕ) (found : List Declaration) (ts : List Lexeme) → n ≤ at
+    → members_from s depth specifier (n - at) found ts ≡ Err ts
+unfolding members_from
+members_end s depth specifier n at found ts = end (λ m. members_from s depth specifier m found ts) n at
+
+pub items_turn : (s : TypeNames) (depth : ℕ) (stmt : Parser Stmt) (n at : ℕ) (found : List Stmt) (ts : List Lexeme) → at < n
+    → items_from s depth stmt (n - at) found ts ≡ (if is_mark p.RightBrace (kind_at ts) then Ok (found, behind ts)
+    else if begins_type s ts then and_then (line s depth ts) (λ xs. items_from s depth stmt (n - (at + 1)) (found ++ locals_of xs))
+    else and_then (stmt ts) (λ x. items_from s depth stmt (n - (at + 1)) (found ++ x ∷ [])))
+unfolding items_from
+items_turn s depth stmt n at found ts = turn (λ m. items_from s depth stmt m found ts) n at
+
+pub items_end : (s : TypeNames) (depth : ℕ) (stmt : Parser Stmt) (n at : ℕ) (found : List Stmt) (ts : List Lexeme) → n ≤ at → items_from s depth stmt (n - at) found ts ≡ Err ts
+unfolding items_from
+items_end s depth stmt n at found ts = end (λ m. items_from s depth stmt m found ts) n at
+
+pub stmts_turn : (s : TypeNames) (depth : ℕ) (stmt : Parser Stmt) (n at : ℕ) (found : List Stmt) (ts : List Lexeme) → at < n
+    → stmts_from s depth stmt (n - at) found ts ≡ (if ends_section ts then Ok (found, ts) else and_then (stmt ts) (λ x. stmts_from s depth stmt (n - (at + 1)) (found ++ x ∷ [])))
+unfolding stmts_from
+stmts_turn s depth stmt n at found ts = turn (λ m. stmts_from s depth stmt m found ts) n at
+
+pub stmts_end : (s : TypeNames) (depth : ℕ) (stmt : Parser Stmt) (n at : ℕ) (found : List Stmt) (ts : List Lexeme) → n ≤ at → stmts_from s depth stmt (n - at) found ts ≡ Err ts
+unfolding stmts_from
+stmts_end s depth stmt n at found ts = end (λ m. stmts_from s depth stmt m found ts) n at
+
+pub sections_turn : (s : TypeNames) (depth : ℕ) (stmt : Parser Stmt) (n at : ℕ) (found : List Section) (ts : List Lexeme) → at < n
+    → sections_from s depth stmt (n - at) found ts ≡ (if is_mark p.RightBrace (kind_at ts) then Ok (found, behind ts) else and_then (section s depth stmt ts) (λ x. sections_from s depth stmt (n - (at + 1)) (found ++ x ∷ [])))
+unfolding sections_from
+sections_turn s depth stmt n at found ts = turn (λ m. sections_from s depth stmt m found ts) n at
+
+pub sections_end : (s : TypeNames) (depth : ℕ) (stmt : Parser Stmt) (n at : ℕ) (found : List Section) (ts : List Lexeme) → n ≤ at → sections_from s depth stmt (n - at) found ts ≡ Err ts
+unfolding sections_from
+sections_end s depth stmt n at found ts = end (λ m. sections_from s depth stmt m found ts) n at
