@@ -14,7 +14,8 @@ site turn does = record { does = λ own vs o. does vs o; turn = turn; targets = 
 abbrev pub functions : List (List (Site ℕ (List ℕ)))
 functions =
     (site true (λ vs o. Calls 1 [] o) ∷ site false (λ vs o. Returns vs o) ∷ [])
-    ∷ (site true (λ vs o. Writes vs o) ∷ site false (λ vs o. Writes (7 ∷ []) (put_byte o 65)) ∷ site false (λ vs o. Returns vs o) ∷ [])
+    ∷ (site true (λ vs o. Writes vs o) ∷ site false (λ vs o. Writes (7 ∷ []) (put_byte o 65)) ∷ site false
+    (λ vs o. Returns vs o) ∷ [])
     ∷ []
 
 abbrev pub code : Code ℕ (List ℕ)

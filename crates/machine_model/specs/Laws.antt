@@ -68,7 +68,8 @@ OneEnding V S =
 -- with more turns an ending is the same, after the same steps, with so many turns more left
 abbrev pub TurnsKeepEndings : (V S : Type 0) → Type 0
 TurnsKeepEndings V S =
-    (rooms : Rooms) (c : Code V S) (n more : ℕ) (k : Config S) (e : Ending) → exec V S rooms c n k ≡ Over e → IsFinal e →
+    (rooms : Rooms) (c : Code V S) (n more : ℕ) (k : Config S) (e : Ending) → exec V S rooms c n k ≡ Over e
+    → IsFinal e →
     exec V S rooms c n (config_with_turns more k) ≡ Over (ending_with_turns more e)
 
 -- the peak only rises

@@ -47,14 +47,16 @@ stop_ending HasNoMeaning at w = Undefined w at
 module _ (V S : Type 0) (rooms : Rooms) (c : Code V S) where
   -- the frame of a function at its entry
   abbrev pub entry_frame : (function : ℕ) → List V → Outer → Frame S
-  entry_frame function vs o = record { point = entry_point function; own = length o.memory; store = c.entry function vs }
+  entry_frame function vs o =
+      record { point = entry_point function; own = length o.memory; store = c.entry function vs }
 
   -- a frame after its instruction wrote values, and after it jumped to a block
   abbrev pub frame_after : Site V S → List V → Frame S → Frame S
   frame_after s vs f = record { point = next_point f.point; own = f.own; store = s.put vs f.store }
 
   abbrev pub frame_at : Site V S → (block : ℕ) → Frame S → Frame S
-  frame_at s block f = record { point = block_point f.point block; own = f.own; store = c.edge f.point block (s.put [] f.store) }
+  frame_at s block f =
+      record { point = block_point f.point block; own = f.own; store = c.edge f.point block (s.put [] f.store) }
 
   abbrev pub jump_to : Config S → World → Site V S → Option ℕ → Next S
   jump_to k w s None = Over (Undefined w (c.number k.here.point))
@@ -75,7 +77,8 @@ module _ (V S : Type 0) (rooms : Rooms) (c : Code V S) where
 
   -- what an instruction does; m is the meter after its turn
   abbrev pub act_on : Config S → Meter → Site V S → Act V → Next S
-  act_on k m s (Writes vs o) = Goes (record { here = frame_after s vs k.here; callers = k.callers; world = world_of o m })
+  act_on k m s (Writes vs o) =
+      Goes (record { here = frame_after s vs k.here; callers = k.callers; world = world_of o m })
   act_on k m s (Jumps target o) = jump_to k (world_of o m) s (slice_get s.targets target)
   act_on k m s (Calls function vs o) =
       Goes (record {
@@ -85,7 +88,8 @@ module _ (V S : Type 0) (rooms : Rooms) (c : Code V S) where
       })
   act_on k m s (Returns vs o) =
       return_to (c.number k.here.point) vs
-      (world_of (end_locals o k.here.own (length (c.locals k.here.point.function))) (leave_call rooms k.here.point.function m)) k.callers
+      (world_of (end_locals o k.here.own (length (c.locals k.here.point.function)))
+      (leave_call rooms k.here.point.function m)) k.callers
   act_on k m s (Stops e o) = Over (stop_ending e (c.number k.here.point) (world_of o m))
 
   abbrev pub step_with : Config S → Site V S → Option Meter → Next S

@@ -12,7 +12,8 @@ use Rattle.mem_model.specs.Pointers.{ptr_plus}
 -- a range of so many bytes shares none with another one
 abbrev pub Apart : Ptr → (size : ℕ) → Ptr → (other : ℕ) → Type 0
 Apart p size q other =
-    (p.object ≢ q.object) ⊎ (place_of p.offset + size ≤ place_of q.offset) ⊎ (place_of q.offset + other ≤ place_of p.offset)
+    (p.object ≢ q.object) ⊎ (place_of p.offset + size ≤ place_of q.offset) ⊎
+    (place_of q.offset + other ≤ place_of p.offset)
 
 -- one object has other cells, as many as before; all else is as before, and each object keeps its number
 pub record ChangesCells (old new : Memory) (id : ℕ) : Type 0 where
@@ -43,7 +44,8 @@ PutKeepsRows =
 
 abbrev pub PutKeepsLoads : Type 0
 PutKeepsLoads =
-    (m : Memory) (p q : Ptr) (row : List Cell) (other : ℕ) (pointer : Bool) → CanPut m p row → Apart p (length row) q other →
+    (m : Memory) (p q : Ptr) (row : List Cell) (other : ℕ) (pointer : Bool) → CanPut m p row
+    → Apart p (length row) q other →
     load_at (put_row m p row) q other pointer ≡ load_at m q other pointer
 
 -- a memory is another one with a row put
@@ -60,11 +62,13 @@ StorePuts =
 
 abbrev pub CopyPuts : Type 0
 CopyPuts =
-    (m new : Memory) (to from : Ptr) (size align : ℕ) → copy_at m to from size align ≡ Ok new → IsPut m new to size (row_at m from size)
+    (m new : Memory) (to from : Ptr) (size align : ℕ) → copy_at m to from size align ≡ Ok new
+    → IsPut m new to size (row_at m from size)
 
 abbrev pub InitPuts : Type 0
 InitPuts =
-    (m new : Memory) (p : Ptr) (values : List Value) → init_at m p values ≡ Ok new → IsPut m new p (length values) (map byte_of values)
+    (m new : Memory) (p : Ptr) (values : List Value) → init_at m p values ≡ Ok new
+    → IsPut m new p (length values) (map byte_of values)
 
 -- where one object has other cells, each access has the fault that it had
 pub record SameFaults (old new : Memory) : Type 0 where
@@ -82,7 +86,8 @@ pub record IsLoad (m : Memory) (p : Ptr) (width : ℕ) (pointer : Bool) (v : Val
 
 abbrev pub LoadTells : Type 0
 LoadTells =
-    (m : Memory) (p : Ptr) (width : ℕ) (pointer : Bool) (v : Value) → load_at m p width pointer ≡ Ok v → IsLoad m p width pointer v
+    (m : Memory) (p : Ptr) (width : ℕ) (pointer : Bool) (v : Value) → load_at m p width pointer ≡ Ok v
+    → IsLoad m p width pointer v
 
 -- a number that was stored is loaded as what its width holds of it
 abbrev pub LoadsNumber : Type 0
@@ -92,7 +97,8 @@ LoadsNumber =
 
 -- a pointer that was stored is loaded whole
 abbrev pub LoadsPointer : Type 0
-LoadsPointer = (m new : Memory) (p q : Ptr) → store_at m p 8 (Address q) ≡ Ok new → load_at new p 8 true ≡ Ok (Address q)
+LoadsPointer =
+    (m new : Memory) (p q : Ptr) → store_at m p 8 (Address q) ≡ Ok new → load_at new p 8 true ≡ Ok (Address q)
 
 -- eight zero bytes are loaded as null
 abbrev pub LoadsNull : Type 0
@@ -101,18 +107,21 @@ LoadsNull = (m new : Memory) (p : Ptr) → store_at m p 8 (Word 0) ≡ Ok new �
 -- no part of a pointer that was stored is loaded as a number
 abbrev pub PartsAreNoNumber : Type 0
 PartsAreNoNumber =
-    (m new : Memory) (p q : Ptr) (k width : ℕ) → store_at m p 8 (Address q) ≡ Ok new → IsWidth width → k + width ≤ 8 → k % width ≡ 0 →
+    (m new : Memory) (p q : Ptr) (k width : ℕ) → store_at m p 8 (Address q) ≡ Ok new → IsWidth width → k + width ≤ 8
+    → k % width ≡ 0 →
     load_at new (ptr_plus p (pos k)) width false ≡ Err PartPointer
 
 -- a copy gives the target the cells of the source, whatever they hold
 abbrev pub CopyGivesCells : Type 0
 CopyGivesCells =
-    (m new : Memory) (to from : Ptr) (size align : ℕ) → copy_at m to from size align ≡ Ok new → row_at new to size ≡ row_at m from size
+    (m new : Memory) (to from : Ptr) (size align : ℕ) → copy_at m to from size align ≡ Ok new
+    → row_at new to size ≡ row_at m from size
 
 -- so a load within the target reads what one within the source read
 abbrev pub CopyGivesLoads : Type 0
 CopyGivesLoads =
-    (m new : Memory) (to from : Ptr) (size align k width : ℕ) (pointer : Bool) → copy_at m to from size align ≡ Ok new → 0 < width → k + width ≤ size →
+    (m new : Memory) (to from : Ptr) (size align k width : ℕ) (pointer : Bool) → copy_at m to from size align ≡ Ok new
+    → 0 < width → k + width ≤ size →
     (place_of to.offset + k) % width ≡ 0 → (place_of from.offset + k) % width ≡ 0 →
     load_at new (ptr_plus to (pos k)) width pointer ≡ load_at m (ptr_plus from (pos k)) width pointer
 
@@ -135,8 +144,10 @@ pub record BeginChanges (m : Memory) (size : ℕ) (writable : Bool) : Type 0 whe
 -- several objects begin with the next numbers in order, and leave the others
 pub record BeginsChange (m : Memory) (sizes : List ℕ) : Type 0 where
   pub count : length (begin_objects m sizes) ≡ length m + length sizes
-  pub here : (k : ℕ) → k < length sizes → object_at (begin_objects m sizes) (length m + k) ≡ fresh_object (slice_index sizes k) true
-  pub others : (k : ℕ) → (k < length m) ⊎ (length m + length sizes ≤ k) → object_at (begin_objects m sizes) k ≡ object_at m k
+  pub here : (k : ℕ) → k < length sizes
+      → object_at (begin_objects m sizes) (length m + k) ≡ fresh_object (slice_index sizes k) true
+  pub others : (k : ℕ) → (k < length m) ⊎ (length m + length sizes ≤ k)
+      → object_at (begin_objects m sizes) k ≡ object_at m k
 
 -- several objects end, and leave the others
 pub record EndsChange (m : Memory) (first count : ℕ) : Type 0 where

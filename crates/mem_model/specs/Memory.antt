@@ -96,7 +96,8 @@ read_fault m p size align =
 
 abbrev pub write_fault : Memory → Ptr → (size align : ℕ) → Option MemFault
 write_fault m p size align =
-    first_fault ((is_gone m p, NoObject) ∷ (is_outside m p size, Outside) ∷ (is_misaligned p align, Misaligned) ∷ (is_read_only m p, ReadOnly) ∷ [])
+    first_fault ((is_gone m p, NoObject) ∷ (is_outside m p size, Outside) ∷ (is_misaligned p align, Misaligned) ∷
+    (is_read_only m p, ReadOnly) ∷ [])
 
 -- the fault of a copy of so many bytes
 abbrev pub copy_fault : Memory → (to from : Ptr) → (size align : ℕ) → Option MemFault
@@ -115,7 +116,8 @@ row_at m p size = take size (drop (place_of p.offset) (object_at m p.object).cel
 -- the memory with a row of cells put there
 abbrev pub put_row : Memory → Ptr → List Cell → Memory
 put_row m p row =
-    slice_set m p.object (record (object_at m p.object) { cells = with_row (object_at m p.object).cells (place_of p.offset) row })
+    slice_set m p.object (record (object_at m p.object)
+    { cells = with_row (object_at m p.object).cells (place_of p.offset) row })
 
 -- a fault, where there is one, and else what is answered
 abbrev pub unless : {A : Type 0} → Option MemFault → Result A MemFault → Result A MemFault

@@ -46,7 +46,8 @@ pub record IsObjectOf (f : Names) (n : Memory) (x : Object) (o : ℕ) : Type 0 w
 -- not made yet
 pub record IsMemoryOf (f : Names) (m n : Memory) : Type 0 where
   pub each : (o : ℕ) → (object_at m o).live ≡ true → IsObjectOf f n (object_at m o) o
-  pub apart : (o p q : ℕ) → (object_at m o).live ≡ true → (object_at m p).live ≡ true → f o ≡ Some q → f p ≡ Some q → o ≡ p
+  pub apart : (o p q : ℕ) → (object_at m o).live ≡ true → (object_at m p).live ≡ true → f o ≡ Some q → f p ≡ Some q
+      → o ≡ p
   pub known : (o q : ℕ) → f o ≡ Some q → o < length m
 
 -- one name more

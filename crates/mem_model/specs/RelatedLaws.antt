@@ -12,7 +12,9 @@ abbrev pub RowsAreAsLong : Type 0
 RowsAreAsLong = (f : Names) (cs ds : List Cell) → IsRowOf f cs ds → length ds ≡ length cs
 
 abbrev pub RowsHaveParts : Type 0
-RowsHaveParts = (f : Names) (at size : ℕ) (cs ds : List Cell) → IsRowOf f cs ds → IsRowOf f (take size (drop at cs)) (take size (drop at ds))
+RowsHaveParts =
+    (f : Names) (at size : ℕ) (cs ds : List Cell) → IsRowOf f cs ds → IsRowOf f (take size (drop at cs))
+    (take size (drop at ds))
 
 -- what is read from the first row is read, as it corresponds, from the second
 abbrev pub RowsAreRead : Type 0
@@ -23,11 +25,13 @@ RowsAreRead =
 -- the rows of values that correspond do, and rows written into rows
 abbrev pub ValuesHaveRows : Type 0
 ValuesHaveRows =
-    (f : Names) (width : ℕ) (v w : Value) → IsValueOf f v w → IsStorable width v → IsRowOf f (cells_of width v) (cells_of width w)
+    (f : Names) (width : ℕ) (v w : Value) → IsValueOf f v w → IsStorable width v
+    → IsRowOf f (cells_of width v) (cells_of width w)
 
 abbrev pub RowsAreWritten : Type 0
 RowsAreWritten =
-    (f : Names) (at : ℕ) (cs ds row new : List Cell) → IsRowOf f cs ds → IsRowOf f row new → IsRowOf f (with_row cs at row) (with_row ds at new)
+    (f : Names) (at : ℕ) (cs ds row new : List Cell) → IsRowOf f cs ds → IsRowOf f row new
+    → IsRowOf f (with_row cs at row) (with_row ds at new)
 
 -- for a new object any cells will do
 abbrev pub FreshRows : Type 0

@@ -8,13 +8,16 @@ use Rattle.mem_model.specs.Related.{Names, IsPointerOf, IsValueOf, IsMemoryOf, w
 
 abbrev pub LoadsCorrespond : Type 0
 LoadsCorrespond =
-    (f : Names) (m n : Memory) (p q : Ptr) (width : ℕ) (pointer : Bool) (v : Value) → IsMemoryOf f m n → IsPointerOf f p q →
+    (f : Names) (m n : Memory) (p q : Ptr) (width : ℕ) (pointer : Bool) (v : Value) → IsMemoryOf f m n
+    → IsPointerOf f p q →
     load_at m p width pointer ≡ Ok v → (w : Value) × (load_at n q width pointer ≡ Ok w) × IsValueOf f v w
 
 abbrev pub StoresCorrespond : Type 0
 StoresCorrespond =
-    (f : Names) (m n m1 : Memory) (p q : Ptr) (width : ℕ) (v w : Value) → IsMemoryOf f m n → IsPointerOf f p q → IsValueOf f v w →
-    IsStorable width v → store_at m p width v ≡ Ok m1 → (n1 : Memory) × (store_at n q width w ≡ Ok n1) × IsMemoryOf f m1 n1
+    (f : Names) (m n m1 : Memory) (p q : Ptr) (width : ℕ) (v w : Value) → IsMemoryOf f m n → IsPointerOf f p q
+    → IsValueOf f v w →
+    IsStorable width v → store_at m p width v ≡ Ok m1
+    → (n1 : Memory) × (store_at n q width w ≡ Ok n1) × IsMemoryOf f m1 n1
 
 abbrev pub CopiesCorrespond : Type 0
 CopiesCorrespond =
@@ -37,13 +40,15 @@ SecondBegins = (f : Names) (m n : Memory) (sizes : List ℕ) → IsMemoryOf f m 
 
 abbrev pub SecondEnds : Type 0
 SecondEnds =
-    (f : Names) (m n : Memory) (first count : ℕ) → ((k : ℕ) → k < count → IsFreeName f m (first + k)) → IsMemoryOf f m n →
+    (f : Names) (m n : Memory) (first count : ℕ) → ((k : ℕ) → k < count → IsFreeName f m (first + k))
+    → IsMemoryOf f m n →
     IsMemoryOf f m (end_objects n first count)
 
 -- the operators on pointers
 abbrev pub MovesCorrespond : Type 0
 MovesCorrespond =
-    (f : Names) (m n : Memory) (v w u : Value) (by : ℤ) → IsMemoryOf f m n → IsValueOf f v w → pointer_plus m v by ≡ Some u →
+    (f : Names) (m n : Memory) (v w u : Value) (by : ℤ) → IsMemoryOf f m n → IsValueOf f v w
+    → pointer_plus m v by ≡ Some u →
     (x : Value) × (pointer_plus n w by ≡ Some x) × IsValueOf f u x
 
 pub record SameAnswers (m n : Memory) (v1 v2 w1 w2 : Value) : Type 0 where

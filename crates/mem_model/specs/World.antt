@@ -64,7 +64,8 @@ take_turn m = turn_from m.turns m
 
 -- a function is entered, and left
 abbrev pub enter_call : Rooms → (function : ℕ) → Meter → Meter
-enter_call rooms function m = record m { room = m.room + room_of rooms function; peak = max m.peak (m.room + room_of rooms function) }
+enter_call rooms function m =
+    record m { room = m.room + room_of rooms function; peak = max m.peak (m.room + room_of rooms function) }
 
 abbrev pub leave_call : Rooms → (function : ℕ) → Meter → Meter
 leave_call rooms function m = record m { room = m.room - room_of rooms function }

@@ -47,10 +47,10 @@ pub enum MemFault {
     #[error("the offset is not aligned")]
     Misaligned,
     /// The object may not be written, as that of a text (C99 6.4.5).
-    #[error("the object may not be with_row")]
+    #[error("the object may not be written")]
     ReadOnly,
     /// A cell that was read was never written (C99 6.7.8).
-    #[error("a cell was never with_row")]
+    #[error("a cell was never written")]
     Never,
     /// The cells are neither a number nor a whole pointer, as the load asks for (C99 6.2.6.1).
     #[error("a pointer was read in part, or as a number")]

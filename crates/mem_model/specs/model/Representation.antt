@@ -22,7 +22,9 @@ cell_of pointers homes at (Stray k) = Part (pointer_at pointers (homes + at)) k
 
 -- the cells that are kept
 unfoldable pub cells_kept : List Mark → List Ptr → List Cell
-cells_kept marks pointers = map (λ at. cell_of pointers (homes_of (length marks)) at (slice_index_or marks at Unwritten)) (range_with_len 0 (length marks))
+cells_kept marks pointers =
+    map (λ at. cell_of pointers (homes_of (length marks)) at (slice_index_or marks at Unwritten))
+    (range_with_len 0 (length marks))
 
 -- a cell other than this one holds a part at home in the group of the two
 pub record IsOtherHome (marks : List Mark) (at k : ℕ) : Type 0 where

@@ -19,7 +19,9 @@ pointer_of_rank pointers (suc i) k = pointer_at pointers (8 * i + k)
 
 -- the whole table
 unfoldable pub table_of : (ranks : List ℕ) → (pointers : List Ptr) → List Ptr
-table_of ranks pointers = map (λ slot. pointer_of_rank pointers (slice_index ranks (slot / 8)) (slot % 8)) (range_with_len 0 (8 * length ranks))
+table_of ranks pointers =
+    map (λ slot. pointer_of_rank pointers (slice_index ranks (slot / 8)) (slot % 8))
+    (range_with_len 0 (8 * length ranks))
 
 -- how many blocks are not in use
 abbrev pub free_blocks : List ℕ → ℕ
