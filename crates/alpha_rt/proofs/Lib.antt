@@ -5,3 +5,7 @@ pub mod Common
 pub mod Stack
 pub mod Routines
 pub mod Unsigned
+pub mod Signed
+pub mod Long
+pub mod Assembled
+pub mod Found

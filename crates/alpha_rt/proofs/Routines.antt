@@ -12,7 +12,7 @@ use Rattle.alpha_isa.specs.Program.{Program, IsLawful, word_address, data_start,
 use Rattle.alpha_isa.specs.State.{State}
 use Rattle.alpha_isa.specs.Step.{Goes}
 use Rattle.alpha_rt.specs.Routine.{Routine, Divq, Remq, Divqu, Remqu, Divl, Reml, Divlu, Remlu}
-use Rattle.alpha_rt.specs.Code.{saving, leaving, common, test_of, operands_of, answer_of, entry, opening, call_place, exit_place, routine_code, code}
+use Rattle.alpha_rt.specs.Code.{prologue, epilogue, common, test_of, operands_of, answer_of, entry, opening, call_place, exit_place, routine_code, code}
 use Rattle.alpha_rt.specs.Calls.{StandsAt, IsCall, Returns, TrapsWith}
 use Rattle.alpha_rt.proofs.Runs.{Reaches, then_reaches, at_most, one_reaches, Placed, placed_from, front, behind, at, after, straight_reaches}
 use Rattle.alpha_rt.proofs.Registers.{RegisterFile, listed}
@@ -35,10 +35,10 @@ routine_placed Divlu p a h = part p a (take 93 code) (routine_code Divlu) (drop 
 routine_placed Remlu p a h = part p a (take 102 code) (routine_code Remlu) (drop 111 code) h
 
 common_placed : (p : Program) (a : ℕ) → Placed p a code → Placed p (a + 444) common
-common_placed p a h = part p a (take 111 code) common leaving h
+common_placed p a h = part p a (take 111 code) common epilogue h
 
-leaving_placed : (p : Program) (a : ℕ) → Placed p a code → Placed p (a + 604) leaving
-leaving_placed p a h = behind p a (take 151 code) leaving h
+epilogue_placed : (p : Program) (a : ℕ) → Placed p a code → Placed p (a + 604) epilogue
+epilogue_placed p a h = behind p a (take 151 code) epilogue h
 
 calls_early : (r : Routine) → call_place r + 1 ≤ 111
 calls_early Divq = omega arith
@@ -87,16 +87,16 @@ code_fits p word lawful h =
     omega (arith, got_below p.words (word + 155) (Jump Ret 31 23) last, lawful.words)
 
 -- where a routine at an address has the common part and the part that leaves
-record Site (p : Program) (r : Routine) (a common_at leaving_at : ℕ) : Type 0 where
+record Site (p : Program) (r : Routine) (a common_at epilogue_at : ℕ) : Type 0 where
   routine : Placed p a (routine_code r)
   common_code : Placed p common_at common
-  leaving_code : Placed p leaving_at leaving
+  epilogue_code : Placed p epilogue_at epilogue
   calls : a + 4 * length (opening r) + 4 + 4 * (111 - (call_place r + 1)) ≡ common_at
-  exits : a + 4 * length (opening r) + 4 + 4 * length (answer_of r) + 4 + 4 * (151 - (exit_place r + 1)) ≡ leaving_at
+  exits : a + 4 * length (opening r) + 4 + 4 * length (answer_of r) + 4 + 4 * (151 - (exit_place r + 1)) ≡ epilogue_at
   whole : a % 4 ≡ 0
   low : a < 2 ^ 40
   common_low : common_at < 2 ^ 40
-  leaving_low : leaving_at < 2 ^ 40
+  epilogue_low : epilogue_at < 2 ^ 40
 
 site_of : (r : Routine) (p : Program) (word a : ℕ) → IsLawful p → StandsAt p word → a ≡ word_address (word + entry r) → Site p r a (word_address word + 444) (word_address word + 604)
 site_of r p word a lawful h e =
@@ -106,14 +106,21 @@ site_of r p word a lawful h e =
     record {
       routine = subst (λ n. Placed p n (routine_code r)) here (routine_placed r p (word_address word) h1);
       common_code = common_placed p (word_address word) h1;
-      leaving_code = leaving_placed p (word_address word) h1;
+      epilogue_code = epilogue_placed p (word_address word) h1;
       calls = omega (arith, calls_early r);
       exits = omega (arith, exits_early r);
       whole = omega arith;
       low = omega (arith, calls_early r);
       common_low = omega arith;
-      leaving_low = omega arith;
+      epilogue_low = omega arith;
     }
+
+-- the test that a routine begins with, at an address from which no later one wraps
+pub test_at : (r : Routine) (p : Program) (word a : ℕ) → IsLawful p → StandsAt p word → a ≡ word_address (word + entry r) → Placed p a (test_of r) × (a < 2 ^ 40)
+test_at r p word a lawful h e =
+    let site : Site p r a (word_address word + 444) (word_address word + 604) = site_of r p word a lawful h e in
+    let behind_opening : List Fields = Branch Bsr 4 (pos (111 - (call_place r + 1))) ∷ (answer_of r ++ Branch Br 31 (pos (151 - (exit_place r + 1))) ∷ []) in
+    (front p a (test_of r) (prologue ++ operands_of r) (front p a (opening r) behind_opening site.routine), site.low)
 
 -- ---- what a routine's own parts do
 
@@ -136,10 +143,10 @@ record Entered (p : Program) (s t : State) (a to n d link : ℕ) (x : RegisterFi
 saved_stack : State → RegisterFile → List ℕ → List ℕ → State
 saved_stack s x f b = over s (frame f (spelled x.r4) (spelled x.r3) (spelled x.r2) (spelled x.r1) b)
 
-entered : (r : Routine) (p : Program) (s : State) (a common_at leaving_at : ℕ) (x : RegisterFile) (n d answer : ℕ) (f m4 m3 m2 m1 b : List ℕ) → Site p r a common_at leaving_at → Parts r p s a x n d answer → IsFrame p s x.r30 f m4 m3 m2 m1 b →
+entered : (r : Routine) (p : Program) (s : State) (a common_at epilogue_at : ℕ) (x : RegisterFile) (n d answer : ℕ) (f m4 m3 m2 m1 b : List ℕ) → Site p r a common_at epilogue_at → Parts r p s a x n d answer → IsFrame p s x.r30 f m4 m3 m2 m1 b →
     Entered p s (saved_stack s x f b) a common_at n d (a + 4 * length (opening r) + 4) x
 unfolding saved_stack
-entered r p s a common_at leaving_at x n d answer f m4 m3 m2 m1 b site parts stack =
+entered r p s a common_at epilogue_at x n d answer f m4 m3 m2 m1 b site parts stack =
     let t : List Fields = test_of r in
     let o : List Fields = operands_of r in
     let s1 : State = over s (frame f (spelled x.r4) (spelled x.r3) (spelled x.r2) (spelled x.r1) b) in
@@ -150,14 +157,14 @@ entered r p s a common_at leaving_at x n d answer f m4 m3 m2 m1 b site parts sta
     let x2 : RegisterFile = record x { r2 = d; r4 = call + 4; r27 = n; r28 = loaded.0 } in
     let behind_opening : List Fields = Branch Bsr 4 (pos (111 - (call_place r + 1))) ∷ (answer_of r ++ Branch Br 31 (pos (151 - (exit_place r + 1))) ∷ []) in
     let h1 : Placed p a (opening r) = front p a (opening r) behind_opening site.routine in
-    let h2 : Placed p (a + 4 * length t) (saving ++ o) = behind p a t (saving ++ o) h1 in
-    let h3 : Placed p (a + 4 * length t + 16) o = behind p (a + 4 * length t) saving o h2 in
+    let h2 : Placed p (a + 4 * length t) (prologue ++ o) = behind p a t (prologue ++ o) h1 in
+    let h3 : Placed p (a + 4 * length t + 16) o = behind p (a + 4 * length t) prologue o h2 in
     let h4 : Placed p call behind_opening = behind p a (opening r) behind_opening site.routine in
     let saves : Reaches p 4 (at s (a + 4 * length t) (listed x0)) (at s1 (a + 4 * length t + 16) (listed x0)) =
-    saved p s (a + 4 * length t) x0 f m4 m3 m2 m1 b (front p (a + 4 * length t) saving o h2) stack in
+    saved p s (a + 4 * length t) x0 f m4 m3 m2 m1 b (front p (a + 4 * length t) prologue o h2) stack in
     let loads : Reaches p (length o) (at s1 (a + 4 * length t + 16) (listed x0)) (at s1 (a + 4 * length t + 16 + 4 * length o) (listed x1)) =
     straight_reaches p o (a + 4 * length t + 16) (listed x0) (listed x1) s1 h3 loaded.1 in
-    let there : a + 4 * length t + 16 + 4 * length o ≡ call = omega (arith, length-append t (saving ++ o), length-append saving o) in
+    let there : a + 4 * length t + 16 + 4 * length o ≡ call = omega (arith, length-append t (prologue ++ o), length-append prologue o) in
     let target : word_at (call + 4 + (111 - (call_place r + 1)) * 4) ≡ common_at = omega (arith, site.calls, site.common_low) in
     let calls : Reaches p 1 (at s1 call (listed x1)) (at s1 common_at (listed x2)) =
     one_reaches p (Branch Bsr 4 (pos (111 - (call_place r + 1)))) (at s1 call (listed x1)) (at s1 common_at (listed x2)) h4.0 (ap (λ n. Goes (at s1 n (listed x2))) target) in
@@ -179,17 +186,17 @@ record FourWords (x : RegisterFile) : Type 0 where
   third : x.r3 < 2 ^ 64
   fourth : x.r4 < 2 ^ 64
 
-left : (r : Routine) (p : Program) (s : State) (a common_at leaving_at : ℕ) (x : RegisterFile) (n d answer : ℕ) (f m4 m3 m2 m1 b : List ℕ) → Site p r a common_at leaving_at → Parts r p s a x n d answer → IsFrame p s x.r30 f m4 m3 m2 m1 b → FourWords x → 0 < d →
+left : (r : Routine) (p : Program) (s : State) (a common_at epilogue_at : ℕ) (x : RegisterFile) (n d answer : ℕ) (f m4 m3 m2 m1 b : List ℕ) → Site p r a common_at epilogue_at → Parts r p s a x n d answer → IsFrame p s x.r30 f m4 m3 m2 m1 b → FourWords x → 0 < d →
     Left p s (saved_stack s x f b) a answer x
 unfolding saved_stack
-left r p s a common_at leaving_at x n d answer f m4 m3 m2 m1 b site parts stack words some =
+left r p s a common_at epilogue_at x n d answer f m4 m3 m2 m1 b site parts stack words some =
     let w : List Fields = answer_of r in
     let s1 : State = over s (frame f (spelled x.r4) (spelled x.r3) (spelled x.r2) (spelled x.r1) b) in
     let call : ℕ = a + 4 * length (opening r) in
     let link : ℕ = call + 4 in
     let leave : List Fields = Branch Br 31 (pos (151 - (exit_place r + 1))) ∷ [] in
     let behind_opening : List Fields = Branch Bsr 4 (pos (111 - (call_place r + 1))) ∷ (w ++ leave) in
-    let go : Entered p s s1 a common_at n d link x = entered r p s a common_at leaving_at x n d answer f m4 m3 m2 m1 b site parts stack in
+    let go : Entered p s s1 a common_at n d link x = entered r p s a common_at epilogue_at x n d answer f m4 m3 m2 m1 b site parts stack in
     let x2 : RegisterFile = record x { r2 = d; r4 = link; r27 = n; r28 = go.scratch } in
     let divided : Divided p s1 common_at x2 = common_divides p s1 common_at x2 site.common_code (omega (arith, site.common_low)) parts.dividend_word parts.divisor_word some in
     let x3 : RegisterFile = record x { r1 = n % d; r2 = d; r3 = 0; r4 = link; r27 = n / d; r28 = divided.scratch } in
@@ -202,12 +209,12 @@ left r p s a common_at leaving_at x n d answer f m4 m3 m2 m1 b site parts stack 
     let answers : Reaches p (length w) (at s1 link (listed x3)) (at s1 (link + 4 * length w) (listed x4)) =
     straight_reaches p w link (listed x3) (listed x4) s1 (front p link w leave h4.1) answered.2 in
     let h5 : Placed p (link + 4 * length w) leave = behind p link w leave h4.1 in
-    let target : word_at (link + 4 * length w + 4 + (151 - (exit_place r + 1)) * 4) ≡ leaving_at = omega (arith, site.exits, site.leaving_low) in
-    let exits : Reaches p 1 (at s1 (link + 4 * length w) (listed x4)) (at s1 leaving_at (listed x4)) =
-    one_reaches p (Branch Br 31 (pos (151 - (exit_place r + 1)))) (at s1 (link + 4 * length w) (listed x4)) (at s1 leaving_at (listed x4)) h5.0 (ap (λ n. Goes (at s1 n (listed x4))) target) in
+    let target : word_at (link + 4 * length w + 4 + (151 - (exit_place r + 1)) * 4) ≡ epilogue_at = omega (arith, site.exits, site.epilogue_low) in
+    let exits : Reaches p 1 (at s1 (link + 4 * length w) (listed x4)) (at s1 epilogue_at (listed x4)) =
+    one_reaches p (Branch Br 31 (pos (151 - (exit_place r + 1)))) (at s1 (link + 4 * length w) (listed x4)) (at s1 epilogue_at (listed x4)) h5.0 (ap (λ n. Goes (at s1 n (listed x4))) target) in
     let framed : IsFrame p s1 x.r30 f (spelled x.r4) (spelled x.r3) (spelled x.r2) (spelled x.r1) b = record { aligned = stack.aligned; word = stack.word; data_below = stack.data_below; top_is = stack.top_is; eight4 = refl; eight3 = refl; eight2 = refl; eight1 = refl; stack = refl } in
-    let leaves : Reaches p 5 (at s1 leaving_at (listed x4)) (at s1 (x.r23 / 4 * 4) (listed (record x { r27 = answer; r28 = answered.1 }))) =
-    restored p s1 leaving_at x4 x.r1 x.r2 x.r3 x.r4 f b site.leaving_code framed words.first words.second words.third words.fourth in
+    let leaves : Reaches p 5 (at s1 epilogue_at (listed x4)) (at s1 (x.r23 / 4 * 4) (listed (record x { r27 = answer; r28 = answered.1 }))) =
+    restored p s1 epilogue_at x4 x.r1 x.r2 x.r3 x.r4 f b site.epilogue_code framed words.first words.second words.third words.fourth in
     record {
       scratch = answered.1;
       reaches = at_most p (14 + 548 + length w + 1 + 5) 599 _ _ (omega (arith, (short_parts r).1))

@@ -10,7 +10,7 @@ use Rattle.alpha_isa.specs.Arithmetic.{word_at, word_from}
 use Rattle.alpha_isa.specs.Program.{Program, instruction_at, data_start, stack_start}
 use Rattle.alpha_isa.specs.State.{State, with_register, with_part, part_of, lies_in, bytes_at, with_bytes}
 use Rattle.alpha_isa.specs.Step.{Goes, next_instruction, load_into, go_on_stored}
-use Rattle.alpha_rt.specs.Code.{saving, leaving}
+use Rattle.alpha_rt.specs.Code.{prologue, epilogue}
 use Rattle.alpha_rt.proofs.Runs.{Reaches, then_reaches, one_reaches, Placed, at, register_of, put, put_step}
 use Rattle.alpha_rt.proofs.Registers.{RegisterFile, listed}
 
@@ -176,7 +176,7 @@ slot1 p s top f m4 m3 m2 m1 b h = record { aligned = omega arith; data_below = h
 abbrev pub over : State → List ℕ → State
 over s l = record s { stack_bytes = l }
 
-pub saved : (p : Program) (s : State) (a : ℕ) (x : RegisterFile) (f m4 m3 m2 m1 b : List ℕ) → Placed p a saving → IsFrame p s x.r30 f m4 m3 m2 m1 b →
+pub saved : (p : Program) (s : State) (a : ℕ) (x : RegisterFile) (f m4 m3 m2 m1 b : List ℕ) → Placed p a prologue → IsFrame p s x.r30 f m4 m3 m2 m1 b →
     Reaches p 4 (at s a (listed x)) (at (over s (frame f (spelled x.r4) (spelled x.r3) (spelled x.r2) (spelled x.r1) b)) (a + 16) (listed x))
 saved p s a x f m4 m3 m2 m1 b h k =
     let room : 32 ≤ x.r30 = omega (arith, k.top_is) in
@@ -203,7 +203,7 @@ saved p s a x f m4 m3 m2 m1 b h k =
     (then_reaches p 3 1 _ _ _ (then_reaches p 2 1 _ _ _ (then_reaches p 1 1 _ _ _ first next) then) last)
 
 -- the four words come back, and the machine goes on at the address in register 23
-pub restored : (p : Program) (s : State) (a : ℕ) (y : RegisterFile) (v1 v2 v3 v4 : ℕ) (f b : List ℕ) → Placed p a leaving → IsFrame p s y.r30 f (spelled v4) (spelled v3) (spelled v2) (spelled v1) b → v1 < 2 ^ 64 → v2 < 2 ^ 64 → v3 < 2 ^ 64 → v4 < 2 ^ 64 →
+pub restored : (p : Program) (s : State) (a : ℕ) (y : RegisterFile) (v1 v2 v3 v4 : ℕ) (f b : List ℕ) → Placed p a epilogue → IsFrame p s y.r30 f (spelled v4) (spelled v3) (spelled v2) (spelled v1) b → v1 < 2 ^ 64 → v2 < 2 ^ 64 → v3 < 2 ^ 64 → v4 < 2 ^ 64 →
     Reaches p 5 (at s a (listed y)) (at s (y.r23 / 4 * 4) (listed (record y { r1 = v1; r2 = v2; r3 = v3; r4 = v4 })))
 restored p s a y v1 v2 v3 v4 f b h k w1 w2 w3 w4 =
     let room : 32 ≤ y.r30 = omega (arith, k.top_is) in

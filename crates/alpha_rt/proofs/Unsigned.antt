@@ -30,7 +30,7 @@ by_divisor r p word s a x n d answer call parts false e = routine_returns r p wo
 or_zero : (n : ℕ) → n < 2 ^ 64 → bit_or 0 n ≡ n
 or_zero n word = let none : 0 + n ≡ n = omega arith in or_shifted 0 64 n word ∙ none
 
-untested : (p : Program) (s : State) (a : ℕ) (x : RegisterFile) → Reaches p 3 (at s a (listed x)) (at s (a + 0) (listed x))
+pub untested : (p : Program) (s : State) (a : ℕ) (x : RegisterFile) → Reaches p 3 (at s a (listed x)) (at s (a + 0) (listed x))
 untested p s a x =
     let none : a ≡ a + 0 = omega arith in
     subst (λ n. Reaches p 3 (at s a (listed x)) (at s n (listed x))) none (at_most p 0 3 (at s a (listed x)) (at s a (listed x)) (omega arith) (stays p (at s a (listed x))))

@@ -1,5 +1,6 @@
 -- A call of a division routine: what the machine's state has to be, and what the routine does with it.
-use Rattle.std.specs.Prelude.{◌≡◌, ℕ, ◌+◌, ◌-◌, ◌*◌, ◌/◌, ◌%◌, ◌^◌, ◌<◌, ◌≤◌, List, length, slice_get, slice_set}
+use Rattle.std.specs.Prelude.{◌≡◌, ℕ, ◌+◌, ◌-◌, ◌*◌, ◌/◌, ◌%◌, ◌^◌, ◌<◌, ◌≤◌, List, ◌++◌, length, map, slice_get, slice_set}
+use Rattle.alpha_isa.specs.Words.{word_of}
 use Rattle.alpha_isa.specs.Program.{Program, IsLawful, data_start, stack_start, word_address, instruction_at}
 use Rattle.alpha_isa.specs.State.{State, register, with_part}
 use Rattle.alpha_isa.specs.Step.{Goes, Over, Trap, exec}
@@ -9,6 +10,10 @@ use Rattle.alpha_rt.specs.Code.{entry, code}
 -- the routines stand in the text from a word on
 abbrev pub StandsAt : Program → ℕ → Type 0
 StandsAt p word = (i : ℕ) → i < length code → instruction_at p (word_address (word + i)) ≡ slice_get code i
+
+-- a text that has the words of the code has the code there, whatever stands before and behind
+abbrev pub CodeStands : Type 0
+CodeStands = (p : Program) (front back : List ℕ) → p.words ≡ front ++ (map word_of code ++ back) → StandsAt p (length front)
 
 -- how many bytes below the stack's top a routine may write, and how many steps it may take
 abbrev pub scratch_size : ℕ
@@ -33,8 +38,8 @@ pub record IsCall (p : Program) (word : ℕ) (r : Routine) (s : State) : Type 0 
   pub divisor : IsOperand r (register s 25)
 
 -- the state behind a routine: only registers 27 and 28, the place and the scratch bytes have changed
-abbrev pub returned : Program → State → ℕ → ℕ → List ℕ → State
-returned p s word rest scratch = record s {
+abbrev pub state_behind : Program → State → ℕ → ℕ → List ℕ → State
+state_behind p s word rest scratch = record s {
   pc = register s 23 / 4 * 4;
   registers = slice_set (slice_set s.registers 27 word) 28 rest;
   stack_bytes = with_part s.stack_bytes (register s 30 - scratch_size - stack_start p) scratch;
@@ -47,7 +52,7 @@ pub record Returns (p : Program) (s : State) (word : ℕ) : Type 0 where
   pub rest : ℕ
   pub scratch : List ℕ
   pub scratch_length : length scratch ≡ scratch_size
-  pub run : exec p steps s ≡ Goes (returned p s word rest scratch)
+  pub run : exec p steps s ≡ Goes (state_behind p s word rest scratch)
 
 -- in a number of steps the routine traps, and neither input nor output has changed
 pub record TrapsWith (p : Program) (s : State) (code : ℕ) : Type 0 where
@@ -64,4 +69,6 @@ Does p s (Traps code) = TrapsWith p s code
 
 -- a call does what its routine makes of the words in registers 24 and 25
 abbrev pub Divides : Routine → Type 0
-Divides r = (p : Program) (word : ℕ) (s : State) → IsCall p word r s → Does p s (outcome r (register s 24) (register s 25))
+Divides r =
+    (p : Program) (word : ℕ) (s : State) →
+    IsCall p word r s → Does p s (outcome r (register s 24) (register s 25))

@@ -48,13 +48,18 @@ turn = Operate Subq 3 (Literal 1) 3 ∷ Branch Bne 3 (negsuc 33) ∷ []
 abbrev pub common : List Fields
 common = refusal ++ (preparation ++ (place ++ (place ++ (place ++ (place ++ (turn ++ Jump Ret 31 4 ∷ []))))))
 
--- ---- entering and leaving
+-- ---- the way in and the way out
 
-abbrev pub saving : List Fields
-saving = Memory Stq 1 30 (negsuc 7) ∷ Memory Stq 2 30 (negsuc 15) ∷ Memory Stq 3 30 (negsuc 23) ∷ Memory Stq 4 30 (negsuc 31) ∷ []
+abbrev pub prologue : List Fields
+prologue =
+    Memory Stq 1 30 (negsuc 7)
+    ∷ Memory Stq 2 30 (negsuc 15)
+    ∷ Memory Stq 3 30 (negsuc 23)
+    ∷ Memory Stq 4 30 (negsuc 31)
+    ∷ []
 
-abbrev pub leaving : List Fields
-leaving =
+abbrev pub epilogue : List Fields
+epilogue =
     Memory Ldq 1 30 (negsuc 7)
     ∷ Memory Ldq 2 30 (negsuc 15)
     ∷ Memory Ldq 3 30 (negsuc 23)
@@ -66,11 +71,19 @@ leaving =
 
 -- where the divisor is -1 the dividend is negated, which traps with the code 3 for the least number
 abbrev pub least_test : OperateOp → List Fields
-least_test negation = Operate Addq 25 (Literal 1) 28 ∷ Branch Bne 28 (pos 1) ∷ Operate negation 31 (Reg 24) 28 ∷ []
+least_test negation =
+    Operate Addq 25 (Literal 1) 28
+    ∷ Branch Bne 28 (pos 1)
+    ∷ Operate negation 31 (Reg 24) 28
+    ∷ []
 
 -- the absolute values; the numbers themselves; and the numbers in their low 32 bits
 abbrev pub magnitude : ℕ → ℕ → List Fields
-magnitude from to = Operate Cmplt from (Reg 31) 28 ∷ Operate Subq 31 (Reg from) to ∷ Operate Cmoveq 28 (Reg from) to ∷ []
+magnitude from to =
+    Operate Cmplt from (Reg 31) 28
+    ∷ Operate Subq 31 (Reg from) to
+    ∷ Operate Cmoveq 28 (Reg from) to
+    ∷ []
 
 abbrev pub magnitudes : List Fields
 magnitudes = magnitude 24 27 ++ magnitude 25 2
@@ -92,7 +105,11 @@ signed_quotient =
     ∷ []
 
 abbrev pub signed_remainder : List Fields
-signed_remainder = Operate Cmplt 24 (Reg 31) 28 ∷ Operate Subq 31 (Reg 1) 27 ∷ Operate Cmoveq 28 (Reg 1) 27 ∷ []
+signed_remainder =
+    Operate Cmplt 24 (Reg 31) 28
+    ∷ Operate Subq 31 (Reg 1) 27
+    ∷ Operate Cmoveq 28 (Reg 1) 27
+    ∷ []
 
 abbrev pub plain_remainder : List Fields
 plain_remainder = Operate Bis 31 (Reg 1) 27 ∷ []
@@ -143,12 +160,12 @@ entry Remlu = 102
 abbrev pub common_entry : ℕ
 common_entry = 111
 
-abbrev pub leaving_entry : ℕ
-leaving_entry = 151
+abbrev pub epilogue_entry : ℕ
+epilogue_entry = 151
 
 -- the part of a routine up to the common part, and the part behind it
 abbrev pub opening : Routine → List Fields
-opening r = test_of r ++ (saving ++ operands_of r)
+opening r = test_of r ++ (prologue ++ operands_of r)
 
 abbrev pub call_place : Routine → ℕ
 call_place r = entry r + length (opening r)
@@ -160,7 +177,7 @@ abbrev pub routine_code : Routine → List Fields
 routine_code r =
     opening r
     ++ (Branch Bsr 4 (pos (common_entry - (call_place r + 1)))
-    ∷ (answer_of r ++ Branch Br 31 (pos (leaving_entry - (exit_place r + 1))) ∷ []))
+    ∷ (answer_of r ++ Branch Br 31 (pos (epilogue_entry - (exit_place r + 1))) ∷ []))
 
 abbrev pub code : List Fields
 code =
@@ -172,4 +189,4 @@ code =
     ++ (routine_code Reml
     ++ (routine_code Divlu
     ++ (routine_code Remlu
-    ++ (common ++ leaving))))))))
+    ++ (common ++ epilogue))))))))

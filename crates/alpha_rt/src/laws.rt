@@ -1,10 +1,40 @@
 //! That the routines divide. Each law is the contract of a function that does nothing.
 
-ghost use Rattle.alpha_rt.specs.Routine.{Divqu, Remqu};
-ghost use Rattle.alpha_rt.specs.Calls.{Divides};
+ghost use Rattle.std.specs.Prelude.{◌≡◌};
+ghost use Rattle.alpha_items.specs.Layout.{label_place};
+ghost use Rattle.alpha_rt.specs.Code.{entry};
+ghost use Rattle.alpha_rt.specs.Items.{GiveCode, all_items, all_near, entry_label};
+ghost use Rattle.alpha_rt.specs.Routine.{Routine, Divq, Remq, Divqu, Remqu, Divl, Reml, Divlu, Remlu};
+ghost use Rattle.alpha_rt.specs.Calls.{CodeStands, Divides};
 
 /// The routines on unsigned words leave the quotient and the remainder, or trap with the code 1 where the divisor is 0.
 pub fn unsigned_words_divide()
     ensures quotient { Divides Divqu }
     ensures remainder { Divides Remqu }
+{}
+
+/// Those on signed words round toward zero, and trap with the code 3 besides where the least number is divided by -1.
+pub fn signed_words_divide()
+    ensures quotient { Divides Divq }
+    ensures remainder { Divides Remq }
+{}
+
+/// The same of words that stand for unsigned numbers of 32 bits.
+pub fn unsigned_longs_divide()
+    ensures quotient { Divides Divlu }
+    ensures remainder { Divides Remlu }
+{}
+
+/// The same of words that stand for signed numbers of 32 bits.
+pub fn signed_longs_divide()
+    ensures quotient { Divides Divl }
+    ensures remainder { Divides Reml }
+{}
+
+/// The items of the routines give their code wherever they stand in a text, whose words stand for its instructions.
+/// The first eight labels are the entries.
+pub fn items_give_code()
+    ensures code { GiveCode }
+    ensures words { CodeStands }
+    ensures entries { (r : Routine) → label_place all_items all_near (entry_label r) ≡ entry r }
 {}

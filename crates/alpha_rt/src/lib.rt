@@ -2,4 +2,5 @@
 //! instructions, and that a call of one does what it answers.
 #![tactic(auto)]
 
+pub mod items;
 pub mod laws;
