@@ -1,0 +1,6 @@
+pub mod Insns
+pub mod Functions
+pub mod Live
+pub mod Programs
+pub mod Text
+pub mod model
