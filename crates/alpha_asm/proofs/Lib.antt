@@ -1,0 +1,6 @@
+pub mod Targets
+pub mod Places
+pub mod Judge
+pub mod Steps
+pub mod Text
+pub mod Whole
