@@ -1,4 +1,5 @@
 pub mod LowBits
+pub mod Bits
 pub mod Results
 pub mod Comparisons
 pub mod Sums

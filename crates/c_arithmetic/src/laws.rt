@@ -1,12 +1,12 @@
 //! Laws of integers and their words that crates above rest on. Each is the contract of a function that does nothing.
 
-ghost use Rattle.std.specs.Prelude.{◌≡◌, ℕ, ℤ, ◌+◌, ◌-◌, ◌*◌, ◌^◌, ◌<◌, ◌≤◌, ◌+ℤ◌, ◌-ℤ◌, ◌*ℤ◌, neg_ℤ, ◌==◌, nat_lt, true, false};
+ghost use Rattle.std.specs.Prelude.{◌≡◌, ℕ, ℤ, ◌+◌, ◌-◌, ◌*◌, ◌^◌, ◌<◌, ◌≤◌, ◌+ℤ◌, ◌-ℤ◌, ◌*ℤ◌, neg_ℤ, ◌==◌, nat_lt, bit_and, bit_or, bit_xor, true, false};
 ghost use Rattle.c_arithmetic.specs.declared.integer_type.IntegerType.{IntegerType};
 ghost use Rattle.c_arithmetic.specs.declared.integer_type.IntegerType.TheVariants.{Long};
 ghost use Rattle.c_arithmetic.specs.declared.outcome.Outcome.TheVariants.{Word};
 ghost use Rattle.c_arithmetic.specs.IntegerTypes.{bytes, is_signed, fits, promoted};
 ghost use Rattle.c_arithmetic.specs.Words.{value, word, extension, is_word};
-ghost use Rattle.c_arithmetic.specs.Operations.{conversion, sum, difference, product, negation, quotient, remainder, left_shift, right_shift, is_equal, is_less};
+ghost use Rattle.c_arithmetic.specs.Operations.{conversion, sum, difference, product, negation, quotient, remainder, left_shift, right_shift, conjunction, disjunction, exclusive_disjunction, is_equal, is_less};
 ghost use Rattle.c_arithmetic.specs.Outcomes.{IsWordOf};
 
 /// A value fits its type, and each number that fits is the value of its word. A word of a type has the value
@@ -69,5 +69,14 @@ pub fn words_compare()
     ensures equal { (t : IntegerType) (a b : ℕ) → value t a ≡ value t b → is_equal t a b ≡ true }
     ensures words { (t : IntegerType) (a b : ℕ) → is_equal t a b ≡ (extension t a == extension t b) }
     ensures long { (t : IntegerType) (n : ℕ) → is_signed t ≡ true → value Long (extension t n) ≡ value t n }
-    ensures less { (t : IntegerType) (a b : ℕ) → is_signed t ≡ false → is_less t a b ≡ nat_lt (extension t a) (extension t b) }
+    ensures less { (t : IntegerType) (a b : ℕ) →
+        is_signed t ≡ false → is_less t a b ≡ nat_lt (extension t a) (extension t b) }
+{}
+
+/// The operators on bits give words of a type where their operands are such words.
+pub fn bits_of_words()
+    ensures and { (t : IntegerType) (a b : ℕ) → conjunction t (extension t a) (extension t b) ≡ bit_and (extension t a) (extension t b) }
+    ensures or { (t : IntegerType) (a b : ℕ) → disjunction t (extension t a) (extension t b) ≡ bit_or (extension t a) (extension t b) }
+    ensures exclusive_or { (t : IntegerType) (a b : ℕ) →
+        exclusive_disjunction t (extension t a) (extension t b) ≡ bit_xor (extension t a) (extension t b) }
 {}
