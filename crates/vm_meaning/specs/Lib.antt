@@ -1,0 +1,4 @@
+pub mod Operations
+pub mod Effect
+pub mod Behave
+pub mod Laws

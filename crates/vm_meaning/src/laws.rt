@@ -1,0 +1,25 @@
+//! Laws of the meaning, each the contract of a function that does nothing.
+
+ghost use Rattle.vm_meaning.specs.Laws.{OneVmEnding, MoreTurnsKeepEnding, MoreTurnsExtendOutput, VmPeakRises, VmKeepsOutput, OnlyTheseTrap};
+
+/// A run has one ending at most.
+pub fn one_ending()
+    ensures { OneVmEnding }
+{}
+
+/// More turns keep an ending.
+pub fn turns_keep_endings()
+    ensures { MoreTurnsKeepEnding }
+{}
+
+/// An output only grows, and the peak only rises.
+pub fn runs_go_on()
+    ensures output { MoreTurnsExtendOutput }
+    ensures kept { VmKeepsOutput }
+    ensures peak { VmPeakRises }
+{}
+
+/// What traps is an instruction that may.
+pub fn only_these_trap()
+    ensures { OnlyTheseTrap }
+{}
