@@ -66,3 +66,18 @@ module _ {T : Type 0} where
       let head : x ≡ y = cons_head x y _ _ same in
       let rest = one_split before after before' after' id item item' apart.1 tail in
       record { before_is = ap (λ p. p ∷ before) head ∙ ap (λ ps. y ∷ ps) rest.before_is; item_is = rest.item_is; after_is = rest.after_is }
+
+  -- an id behind a pair
+  pub has_id_cons : (p : ℕ × T) (pairs : List (ℕ × T)) (id : ℕ) → HasId pairs id → HasId (p ∷ pairs) id
+  has_id_cons p pairs id has =
+      record { before = p ∷ has.before; item = has.item; after = has.after; split = ap (λ ps. p ∷ ps) has.split }
+
+  -- an id in front
+  pub has_id_head : (p : ℕ × T) (pairs : List (ℕ × T)) (id : ℕ) → p.0 ≡ id → HasId (p ∷ pairs) id
+  has_id_head p pairs id same =
+      record { before = []; item = p.1; after = pairs; split = ap (λ k. (k, p.1) ∷ pairs) same }
+
+  -- an id of a list that is the same
+  pub has_id_along : (xs ys : List (ℕ × T)) (id : ℕ) → xs ≡ ys → HasId xs id → HasId ys id
+  has_id_along xs ys id same has =
+      record { before = has.before; item = has.item; after = has.after; split = sym same ∙ has.split }

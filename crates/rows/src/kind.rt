@@ -1,6 +1,8 @@
 //! The kinds of rows, each with its file.
 
-use crate::{calls, encodings, integers, memory, outcomes, places, runs, steps, tokens, trees};
+use crate::{
+    calls, encodings, integers, lists, memory, outcomes, places, runs, steps, tokens, trees,
+};
 use anyhow::Result;
 use mem_model::memory::Mem;
 use std::alloc::Global;
@@ -16,6 +18,7 @@ pub enum Kind {
     Steps,
     Runs,
     Memory,
+    Lists,
     Trees,
     Completions,
     Places,
@@ -27,7 +30,7 @@ pub enum Kind {
 }
 
 /// The kinds in the order in which they are checked.
-pub static KINDS: [Kind; 16] = [
+pub static KINDS: [Kind; 17] = [
     Kind::Tokens,
     Kind::TokenKinds,
     Kind::MarkPairs,
@@ -36,6 +39,7 @@ pub static KINDS: [Kind; 16] = [
     Kind::Steps,
     Kind::Runs,
     Kind::Memory,
+    Kind::Lists,
     Kind::Trees,
     Kind::Completions,
     Kind::Places,
@@ -58,6 +62,7 @@ impl Kind {
             Kind::Steps => "steps.rows",
             Kind::Runs => "runs.rows",
             Kind::Memory => "memory.rows",
+            Kind::Lists => "lists.rows",
             Kind::Trees => "trees.rows",
             Kind::Completions => "completions.rows",
             Kind::Places => "places.rows",
@@ -79,6 +84,7 @@ impl Kind {
             Kind::Steps => steps::answer(alloc, given),
             Kind::Runs => runs::answer(alloc, given),
             Kind::Memory => memory::answer(alloc, mem, given),
+            Kind::Lists => lists::answer(alloc, given),
             Kind::Trees => trees::tree(alloc, given),
             Kind::Completions => trees::completion(alloc, given),
             Kind::Places => places::answer(alloc, given),

@@ -8,6 +8,7 @@ mod encodings;
 mod escape;
 mod integers;
 mod kind;
+mod lists;
 mod memory;
 mod number;
 mod outcomes;
