@@ -9,3 +9,4 @@ pub mod Signed
 pub mod Long
 pub mod Assembled
 pub mod Found
+pub mod Operands

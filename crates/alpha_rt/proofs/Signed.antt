@@ -147,7 +147,7 @@ fits_pos w (suc n) some h = ap (fits w) (minus_suc n) ∙ lt-ltb n (2 ^ hbits w)
 fits_negsuc : (w : Width) (m : ℕ) → suc m < 2 ^ hbits w → fits w (pos 0 -ℤ negsuc m) ≡ true
 fits_negsuc w m h = ap (fits w) (minus_negsuc m) ∙ lt-ltb (suc m) (2 ^ hbits w) h
 
-strictly_from : (m k : ℕ) → m ≤ k → (m ≡ k → ⊥) → (m < k) ⊎ (k ≤ m) → m < k
+pub strictly_from : (m k : ℕ) → m ≤ k → (m ≡ k → ⊥) → (m < k) ⊎ (k ≤ m) → m < k
 strictly_from m k le other (inl lt) = lt
 strictly_from m k le other (inr ge) = let same : m ≡ k = omega arith in absurd (other same)
 
