@@ -1,6 +1,6 @@
 -- The items of the routines, wherever they stand in a text, are its code.
-use Rattle.std.proofs.Common.{◌≡◌, ℕ, zero, suc, ◌+◌, ◌≤◌, pos, List, [], ◌∷◌, ◌++◌, length, Bool, true, false, ◌&&◌, leb, refl, sym, ap, ◌∙◌, arith}
-use Rattle.std.specs.Prelude.{◌-ℤ◌, replicate}
+use Rattle.std.proofs.Common.{◌≡◌, ℕ, ◌+◌, ◌≤◌, List, [], ◌∷◌, length, Bool, true, false, ◌&&◌, leb, refl, ap, ◌∙◌, arith}
+use Rattle.std.specs.Prelude.{replicate}
 use Rattle.std.specs.List.{list_all}
 use Rattle.std.proofs.lemmas.Bool.{and_parts, leb-true}
 use Rattle.std.proofs.lemmas.Int.{ints}
@@ -10,7 +10,7 @@ use Rattle.alpha_items.specs.declared.item.AsmItem.TheVariants.{Label, Name, Pla
 use Rattle.alpha_items.specs.Layout.{displacement, label_place}
 use Rattle.alpha_items.specs.Words.{text_insns}
 use Rattle.alpha_rt.specs.Routine.{Routine, Divq, Remq, Divqu, Remqu, Divl, Reml, Divlu, Remlu}
-use Rattle.alpha_rt.specs.Code.{entry, code}
+use Rattle.alpha_rt.specs.Code.{entry}
 use Rattle.alpha_rt.specs.model.Written.{behind, signed_behind, unsigned_behind, long_behind, quads_behind, longs_behind, common_behind, all_behind}
 use Rattle.alpha_rt.specs.Items.{all_items, all_near, entry_label, last_label, GiveCode}
 

@@ -1,5 +1,5 @@
 -- The words of the code, as a text has them, stand for its instructions.
-use Rattle.std.proofs.Common.{◌≡◌, ℕ, zero, suc, ◌+◌, ◌-◌, ◌*◌, ◌/◌, ◌^◌, ◌<◌, ℤ, pos, negsuc, List, [], ◌∷◌, ◌++◌, length, map, Bool, true, false, not, ◌&&◌, cond, ltb, Option, Some, None, refl, sym, ap, ◌∙◌, arith}
+use Rattle.std.proofs.Common.{◌≡◌, ℕ, zero, suc, ◌+◌, ◌-◌, ◌/◌, ◌^◌, ◌<◌, ℤ, pos, negsuc, List, [], ◌∷◌, ◌++◌, length, map, Bool, true, false, not, ◌&&◌, cond, ltb, Option, None, refl, ap, ◌∙◌, arith}
 use Rattle.std.specs.Prelude.{slice_get, option_and_then}
 use Rattle.std.specs.List.{list_all}
 use Rattle.std.proofs.lemmas.Bool.{and_parts, ltb-true, le-ltb, not-true}
@@ -12,7 +12,7 @@ use Rattle.alpha_isa.specs.declared.insn.OperateOp.{OperateOp}
 use Rattle.alpha_isa.specs.declared.insn.OperateOp.TheVariants.{Sextb, Sextw}
 use Rattle.alpha_isa.specs.Lawful.{IsLawful, IsFirstOperand, is_call}
 use Rattle.alpha_isa.specs.Words.{word_of, insn_of, extends}
-use Rattle.alpha_isa.specs.Program.{Program, word_address}
+use Rattle.alpha_isa.specs.Program.{word_address}
 use Rattle.alpha_rt.specs.Code.{code}
 use Rattle.alpha_rt.specs.Calls.{CodeStands}
 

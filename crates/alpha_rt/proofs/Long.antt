@@ -1,5 +1,5 @@
 -- The routines on unsigned words of 32 bits.
-use Rattle.std.proofs.Common.{◌≡◌, ℕ, ◌+◌, ◌-◌, ◌/◌, ◌%◌, ◌^◌, ◌<◌, ◌≤◌, Bool, cond, eqb, Option, Some, refl, sym, ap, ◌∙◌, subst, arith}
+use Rattle.std.proofs.Common.{◌≡◌, ℕ, ◌+◌, ◌-◌, ◌/◌, ◌%◌, ◌^◌, ◌<◌, ◌≤◌, cond, eqb, Some, refl, sym, ap, ◌∙◌, subst, arith}
 use Rattle.std.specs.Int.{w32}
 use Rattle.std.proofs.lemmas.Bool.{ne_eqb}
 use mathlib.Core.Logic.{◌⊎◌, inl, inr}
@@ -7,7 +7,7 @@ use Rattle.alpha_isa.proofs.Arithmetic.{kept_bytes-long}
 use Rattle.alpha_isa.specs.Arithmetic.{sign_extension, kept_bytes}
 use Rattle.alpha_isa.specs.Program.{Program}
 use Rattle.alpha_isa.specs.State.{State}
-use Rattle.alpha_rt.specs.Routine.{Routine, Answers, Traps, Divlu, Remlu, outcome}
+use Rattle.alpha_rt.specs.Routine.{Routine, Answers, Traps, Divlu, Remlu}
 use Rattle.alpha_rt.specs.Code.{low_numbers, long_quotient, long_remainder}
 use Rattle.alpha_rt.specs.Calls.{IsCall, Does, Divides}
 use Rattle.alpha_rt.proofs.Runs.{at, after}

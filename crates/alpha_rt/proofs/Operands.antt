@@ -7,7 +7,7 @@ use Rattle.std.proofs.lemmas.Bool.{eqb-true, eqb-false, ltb-true, ltb-false, eq-
 use Rattle.std.proofs.lemmas.Nat.{div_below}
 use Rattle.alpha_isa.proofs.Arithmetic.{sign_extended-again, signed-word_from}
 use Rattle.alpha_isa.specs.Arithmetic.{word_from, signed_value, sign_extension}
-use Rattle.alpha_rt.specs.Routine.{Routine, Outcome, Answers, Traps, Divq, Remq, Divqu, Remqu, Divl, Reml, Divlu, Remlu, IsOperand, outcome, is_least_by_minus_one}
+use Rattle.alpha_rt.specs.Routine.{Routine, Answers, Traps, Divq, Remq, Divqu, Remqu, Divl, Reml, Divlu, Remlu, IsOperand, outcome, is_least_by_minus_one}
 use Rattle.alpha_rt.proofs.Signed.{strictly_from}
 
 -- an answer comes only where nothing traps

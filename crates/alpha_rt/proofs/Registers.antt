@@ -60,6 +60,7 @@ all_read (suc n) (r ∷ rs) e = ap (λ l. r ∷ l) (all_read n rs (omega arith))
 
 -- a list of 32 words is a register file
 pub file_of : (rs : List ℕ) → length rs ≡ 32 → (x : RegisterFile) × (rs ≡ listed x)
-file_of rs e =
-    (record { r0 = reading 0 rs; r1 = reading 1 rs; r2 = reading 2 rs; r3 = reading 3 rs; r4 = reading 4 rs; r5 = reading 5 rs; r6 = reading 6 rs; r7 = reading 7 rs; r8 = reading 8 rs; r9 = reading 9 rs; r10 = reading 10 rs; r11 = reading 11 rs; r12 = reading 12 rs; r13 = reading 13 rs; r14 = reading 14 rs; r15 = reading 15 rs; r16 = reading 16 rs; r17 = reading 17 rs; r18 = reading 18 rs; r19 = reading 19 rs; r20 = reading 20 rs; r21 = reading 21 rs; r22 = reading 22 rs; r23 = reading 23 rs; r24 = reading 24 rs; r25 = reading 25 rs; r26 = reading 26 rs; r27 = reading 27 rs; r28 = reading 28 rs; r29 = reading 29 rs; r30 = reading 30 rs; r31 = reading 31 rs },
-    all_read 32 rs e)
+file_of rs e = (
+  record { r0 = reading 0 rs; r1 = reading 1 rs; r2 = reading 2 rs; r3 = reading 3 rs; r4 = reading 4 rs; r5 = reading 5 rs; r6 = reading 6 rs; r7 = reading 7 rs; r8 = reading 8 rs; r9 = reading 9 rs; r10 = reading 10 rs; r11 = reading 11 rs; r12 = reading 12 rs; r13 = reading 13 rs; r14 = reading 14 rs; r15 = reading 15 rs; r16 = reading 16 rs; r17 = reading 17 rs; r18 = reading 18 rs; r19 = reading 19 rs; r20 = reading 20 rs; r21 = reading 21 rs; r22 = reading 22 rs; r23 = reading 23 rs; r24 = reading 24 rs; r25 = reading 25 rs; r26 = reading 26 rs; r27 = reading 27 rs; r28 = reading 28 rs; r29 = reading 29 rs; r30 = reading 30 rs; r31 = reading 31 rs },
+  all_read 32 rs e,
+)

@@ -1,5 +1,5 @@
 -- The routines on signed words: absolute values, signs, and the least number by -1.
-use Rattle.std.proofs.Common.{◌≡◌, ℕ, zero, suc, ◌+◌, ◌-◌, ◌*◌, ◌/◌, ◌%◌, ◌^◌, ◌<◌, ◌≤◌, ℤ, pos, negsuc, List, [], ◌∷◌, length, Bool, true, false, not, ◌&&◌, cond, eqb, ltb, Option, Some, None, refl, sym, ap, ◌∙◌, subst, arith}
+use Rattle.std.proofs.Common.{◌≡◌, ℕ, zero, suc, ◌+◌, ◌-◌, ◌/◌, ◌%◌, ◌^◌, ◌<◌, ◌≤◌, ℤ, pos, negsuc, List, [], ◌∷◌, Bool, true, false, not, cond, eqb, ltb, Option, Some, refl, sym, ap, ◌∙◌, subst, arith}
 use Rattle.std.specs.Prelude.{◌-ℤ◌, neg_ℤ, int_lt, option_and_then}
 use Rattle.std.specs.Int.{Width, w32, w64, cast_signed}
 use Rattle.std.specs.Int.RustNames.{int_div, int_rem}
@@ -9,16 +9,16 @@ use mathlib.Core.Logic.{◌⊎◌, inl, inr}
 use mir.Val.{hbits}
 use Rattle.alpha_isa.proofs.Arithmetic.{signed-sign_extended}
 use Rattle.alpha_isa.specs.declared.insn.Fields.{Fields}
-use Rattle.alpha_isa.specs.declared.insn.Fields.TheVariants.{Branch, Operate}
+use Rattle.alpha_isa.specs.declared.insn.Fields.TheVariants.{Operate}
 use Rattle.alpha_isa.specs.declared.insn.Operand.TheVariants.{Reg, Literal}
 use Rattle.alpha_isa.specs.declared.insn.BranchOp.TheVariants.{Bne}
 use Rattle.alpha_isa.specs.declared.insn.OperateOp.{OperateOp}
 use Rattle.alpha_isa.specs.declared.insn.OperateOp.TheVariants.{Addq, Subq, SublV, SubqV, Cmplt, Xor, Cmoveq, Cmovne}
-use Rattle.alpha_isa.specs.Arithmetic.{OperationEffect, Gives, Keeps, Overflows, operation_effect, fits, word_at, word_from, difference, signed_value, sign_extension}
+use Rattle.alpha_isa.specs.Arithmetic.{Gives, Overflows, operation_effect, fits, word_at, word_from, difference, signed_value, sign_extension}
 use Rattle.alpha_isa.specs.Program.{Program}
 use Rattle.alpha_isa.specs.State.{State}
-use Rattle.alpha_isa.specs.Step.{Over, Trap, operate_step, go_on, exec, step, fetched_step}
-use Rattle.alpha_rt.specs.Routine.{Routine, Outcome, Answers, Traps, Divq, Remq, Divl, Reml, outcome, signed_outcome, is_least_by_minus_one}
+use Rattle.alpha_isa.specs.Step.{operate_step, go_on, exec, step, fetched_step}
+use Rattle.alpha_rt.specs.Routine.{Routine, Answers, Traps, Divq, Remq, Divl, Reml, signed_outcome, is_least_by_minus_one}
 use Rattle.alpha_rt.specs.Code.{least_test, magnitude, magnitudes, signed_quotient, signed_remainder}
 use Rattle.alpha_rt.specs.Calls.{IsCall, Does, Divides, TrapsWith}
 use Rattle.alpha_rt.proofs.Runs.{Reaches, then_reaches, at_most, Placed, at, after, effect_on, straight_reaches, taken, passed}
@@ -196,7 +196,7 @@ passes_other : (op : OperateOp) (p : Program) (s : State) (a : ℕ) (x : Registe
 passes_other op p s a x h room word other =
     let y : RegisterFile = record x { r28 = word_at (x.r25 + 1) } in
     let over : Reaches p 1 (at s (a + 4) (listed y)) (at s (a + 12) (listed y)) =
-        taken p Bne 28 (a + 4) (a + 12) (pos 1) (listed y) s h.1.0 refl (ap not (ne_eqb (word_at (x.r25 + 1)) 0 (λ e. let same : x.r25 ≡ 2 ^ 64 - 1 = omega arith in other same))) (omega arith) in
+    taken p Bne 28 (a + 4) (a + 12) (pos 1) (listed y) s h.1.0 refl (ap not (ne_eqb (word_at (x.r25 + 1)) 0 (λ e. let same : x.r25 ≡ 2 ^ 64 - 1 = omega arith in other same))) (omega arith) in
     at_most p 2 3 (at s a (listed x)) (at s (a + 12) (listed y)) (omega arith) (then_reaches p 1 1 (at s a (listed x)) (at s (a + 4) (listed y)) (at s (a + 12) (listed y)) (tested op p s a x h) over)
 
 comes_to_negation : (op : OperateOp) (p : Program) (s : State) (a : ℕ) (x : RegisterFile) → Placed p a (least_test op) → x.r25 ≡ 2 ^ 64 - 1 → Reaches p 2 (at s a (listed x)) (at s (a + 4 + 4) (listed (record x { r28 = word_at (x.r25 + 1) })))
@@ -211,7 +211,7 @@ passes_negated op p s a x word h minus e =
     let y : RegisterFile = record x { r28 = word_at (x.r25 + 1) } in
     let z : RegisterFile = record x { r28 = word } in
     let made : Reaches p 1 (at s (a + 4 + 4) (listed y)) (at s (a + 4 + 4 + 4) (listed z)) =
-        straight_reaches p (Operate op 31 (Reg 24) 28 ∷ []) (a + 4 + 4) (listed y) (listed z) s (h.1.1.0, tt) (ap (λ o. option_and_then (after []) (effect_on o 28 (listed y))) e) in
+    straight_reaches p (Operate op 31 (Reg 24) 28 ∷ []) (a + 4 + 4) (listed y) (listed z) s (h.1.1.0, tt) (ap (λ o. option_and_then (after []) (effect_on o 28 (listed y))) e) in
     let end : a + 4 + 4 + 4 ≡ a + 12 = omega arith in
     subst (λ to. Reaches p 3 (at s a (listed x)) (at s to (listed z))) end
     (then_reaches p 2 1 (at s a (listed x)) (at s (a + 4 + 4) (listed y)) (at s (a + 4 + 4 + 4) (listed z)) (comes_to_negation op p s a x h minus) made)
@@ -242,9 +242,9 @@ passes_by : (op : OperateOp) (w : Width) (p : Program) (s : State) (a : ℕ) (x 
 passes_by op w p s a x h room word n other false e = record { word = word_at (x.r25 + 1); reaches = passes_other op p s a x h room word (eqb-false x.r25 (2 ^ 64 - 1) e) }
 passes_by op w p s a x h room word n other true e = record { word = n.word; reaches = passes_negated op p s a x n.word h (eqb-true x.r25 (2 ^ 64 - 1) e) (n.gives (not_least (and_cases (eqb x.r24 (2 ^ 64 - 2 ^ hbits w)) (eqb x.r25 (2 ^ 64 - 1)) other))) }
   where
-  not_least : (eqb x.r24 (2 ^ 64 - 2 ^ hbits w) ≡ false) ⊎ (eqb x.r25 (2 ^ 64 - 1) ≡ false) → x.r24 ≡ 2 ^ 64 - 2 ^ hbits w → ⊥
-  not_least (inl f) same = eqb-false x.r24 (2 ^ 64 - 2 ^ hbits w) f same
-  not_least (inr f) same = let clash : true ≡ false = sym e ∙ f in let impossible : ⊥ = cc in impossible
+    not_least : (eqb x.r24 (2 ^ 64 - 2 ^ hbits w) ≡ false) ⊎ (eqb x.r25 (2 ^ 64 - 1) ≡ false) → x.r24 ≡ 2 ^ 64 - 2 ^ hbits w → ⊥
+    not_least (inl f) same = eqb-false x.r24 (2 ^ 64 - 2 ^ hbits w) f same
+    not_least (inr f) same = let clash : true ≡ false = sym e ∙ f in let impossible : ⊥ = cc in impossible
 
 -- ---- the operands and the answers
 

@@ -59,7 +59,11 @@ fn write_quads(alloc: Global, items: &mut Vec<AsmItem>) -> Result<(), AllocError
     write_unsigned(alloc, items, 3)?;
     write(alloc, items, [leave()])?;
     write_unsigned(alloc, items, 4)?;
-    write(alloc, items, [operate(OperateOp::Bis, 31, Reg(1), 27), leave()])?;
+    write(
+        alloc,
+        items,
+        [operate(OperateOp::Bis, 31, Reg(1), 27), leave()],
+    )?;
     Ok(())
 }
 
@@ -73,9 +77,17 @@ fn write_longs(alloc: Global, items: &mut Vec<AsmItem>) -> Result<(), AllocError
     write_signed(alloc, items, 6, OperateOp::SublV, 20)?;
     write(alloc, items, signed_remainder())?;
     write_long(alloc, items, 7)?;
-    write(alloc, items, [operate(OperateOp::Addl, 27, Literal(0), 27), leave()])?;
+    write(
+        alloc,
+        items,
+        [operate(OperateOp::Addl, 27, Literal(0), 27), leave()],
+    )?;
     write_long(alloc, items, 8)?;
-    write(alloc, items, [operate(OperateOp::Addl, 1, Literal(0), 27), leave()])?;
+    write(
+        alloc,
+        items,
+        [operate(OperateOp::Addl, 1, Literal(0), 27), leave()],
+    )?;
     Ok(())
 }
 
@@ -137,7 +149,11 @@ fn write_long(alloc: Global, items: &mut Vec<AsmItem>, entry: u32) -> Result<(),
 
 /// Puts items behind others.
 #[tactic(auto, unfolding(crate::specs::model::Written::behind))]
-fn write<const N: usize>(alloc: Global, items: &mut Vec<AsmItem>, part: [AsmItem; N]) -> Result<(), AllocError>
+fn write<const N: usize>(
+    alloc: Global,
+    items: &mut Vec<AsmItem>,
+    part: [AsmItem; N],
+) -> Result<(), AllocError>
     ensures { OnOk result (items.new.items ≡ written.behind items.old.items part.entry) }
 {
     let mut more = Vec::from_array(alloc, part)?;

@@ -1,6 +1,5 @@
 -- Items with others written behind them, in the order in which the code writes them.
 use Rattle.std.specs.Prelude.{ℕ, List, [], ◌∷◌, ◌++◌}
-use Rattle.alpha_isa.specs.declared.insn.Fields.{Fields}
 use Rattle.alpha_isa.specs.declared.insn.OperateOp.{OperateOp}
 use Rattle.alpha_isa.specs.declared.insn.OperateOp.TheVariants.{SublV, SubqV}
 use Rattle.alpha_items.specs.declared.item.AsmItem.{AsmItem}
