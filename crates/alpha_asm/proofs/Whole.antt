@@ -1,11 +1,11 @@
 -- What a whole assembly gives its image.
-use Rattle.std.proofs.Common.{◌≡◌, ℕ, zero, suc, ◌+◌, ◌*◌, ◌<◌, ◌≤◌, Bool, true, false, not, cond, ◌||◌, List, [], ◌∷◌, length, map, drop, get_or, Option, Some, refl, sym, ◌∙◌, ap, subst, ⊎_elim, arith}
+use Rattle.std.proofs.Common.{◌≡◌, ◌≢◌, ℕ, zero, suc, ◌+◌, ◌*◌, ◌<◌, ◌≤◌, Bool, true, false, not, cond, ◌||◌, List, [], ◌∷◌, length, map, drop, get_or, Option, Some, refl, sym, ◌∙◌, ap, subst, ⊎_elim, arith}
 use Rattle.std.specs.Prelude.{unwrap_or}
 use Rattle.std.specs.List.{sum, list_any, position_from}
 use Rattle.std.proofs.lemmas.Bool.{cases_lt}
 use Rattle.std.proofs.lemmas.List.{drop_all, take_all, length-map}
 use Rattle.alpha_isa.specs.declared.insn.BranchOp.TheVariants.{Br, Bsr, Blbc, Beq, Blt, Ble, Blbs, Bne, Bge, Bgt}
-use Rattle.alpha_isa.specs.Program.{Program, most_bytes, most_words, next_part, text_start, data_start}
+use Rattle.alpha_isa.specs.Program.{Program, data_of, last_byte, most_bytes, most_words, next_part, text_start, data_start}
 use Rattle.alpha_isa.specs.Words.{word_of}
 use Rattle.alpha_items.specs.declared.item.AsmItem.{AsmItem}
 use Rattle.alpha_items.specs.declared.item.AsmItem.TheVariants.{Label, Name, Plain, Branch, TextAddress, DataAddress}
@@ -165,8 +165,8 @@ text_length items far start =
 pub assembled : (a : Assembly) (far : List Bool) (start : ℕ) (p : Program) → IsLeastFar a.items far →
     start ≡ next_part (text_start + 4 * text_words a.items far) →
     p.words ≡ map word_of (text_insns (label_place a.items far) start 0 a.items far) →
-    p.bytes ≡ fixed_data start a.bytes a.fixes → p.entry ≡ label_place a.items far 0 → Words a p
-assembled a far start p least begins words bytes entry =
+    data_of p ≡ fixed_data start a.bytes a.fixes → last_byte p.bytes ≢ Some 0 → p.entry ≡ label_place a.items far 0 → Words a p
+assembled a far start p least begins words bytes last entry =
     let count : length p.words ≡ text_words a.items far = ap length words ∙ text_length a.items far start in
     let same : start ≡ data_start p = begins ∙ ap (λ n. next_part (text_start + 4 * n)) (sym count) in
     record {
@@ -174,6 +174,7 @@ assembled a far start p least begins words bytes entry =
       least = least;
       words = words ∙ ap (λ s. map word_of (text_insns (label_place a.items far) s 0 a.items far)) same;
       data_bytes = bytes ∙ ap (λ s. fixed_data s a.bytes a.fixes) same;
+      last = last;
       entry = entry;
     }
 

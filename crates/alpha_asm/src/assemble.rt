@@ -142,11 +142,13 @@ fn image_of(
     let start = data_start(count);
     let words = text_of(alloc, items, &plan, start)?;
     let data = data_of(alloc, bytes, fixes, start)?;
-    Ok(Image::new(words, data, entry_of(&plan) as u32))
+    let image = Image::new(words, data, 0, entry_of(&plan) as u32);
+    Ok(image.cut_zeros())
 }
 
 /// The image of an assembly: its labels are places in the text, its far branches the least that leave the
-/// others reach, its address items and fixes have the addresses of the machine, and label 0 is the entry.
+/// others reach, its address items and fixes have the addresses of the machine, label 0 is the entry, and the
+/// zeros at the end of its data are counted.
 ///
 /// `CodeTooLong` comes exactly where the text has more than 2^28 words.
 pub fn assemble(alloc: Global, asm: &Asm) -> Result<Image, AsmFault>

@@ -1,3 +1,4 @@
 pub mod Arithmetic
 pub mod Runs
 pub mod Words
+pub mod Zeros

@@ -1,6 +1,6 @@
 -- The behaviour of an image: what it writes and how it ends, within a number of steps.
 use Rattle.std.specs.Prelude.{ℕ, ◌+◌, ◌%◌, ◌≡◌, ◌≤◌, List, [], replicate, slice_set}
-use Rattle.alpha_isa.specs.Program.{Program, word_address, stack_start}
+use Rattle.alpha_isa.specs.Program.{Program, data_of, word_address, stack_start}
 use Rattle.alpha_isa.specs.State.{State}
 use Rattle.alpha_isa.specs.Step.{Halt, Next, exec}
 use Rattle.alpha_isa.specs.Step as step
@@ -11,12 +11,12 @@ pub record IsStack (size : ℕ) : Type 0 where
   pub most : size ≤ 268435456
   pub whole : size % 16 ≡ 0
 
--- where a run begins: register 30 stands at the end of the stack, all else is zero
+-- where a run begins: the data is that of the image, register 30 stands at the end of the stack, all else is zero
 abbrev pub start : Program → ℕ → List ℕ → State
 start p stack input = record {
   pc = word_address p.entry;
   registers = slice_set (replicate 32 0) 30 (stack_start p + stack);
-  data_bytes = p.bytes;
+  data_bytes = data_of p;
   stack_bytes = replicate stack 0;
   input = input;
   output = [];

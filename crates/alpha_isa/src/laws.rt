@@ -1,11 +1,12 @@
-//! Laws of words that crates above rest on. Each is the contract of a function that does nothing.
+//! Laws of words and of runs that crates above rest on. Each is the contract of a function that does nothing.
 
-ghost use Rattle.std.specs.Prelude.{◌≡◌, ℕ, ◌+◌, ◌*◌, ◌%◌, ◌^◌, ◌<◌, ◌≤◌, ℤ, ◌+ℤ◌, ◌*ℤ◌, FitsSigned};
+ghost use Rattle.std.specs.Prelude.{◌≡◌, ℕ, ◌+◌, ◌*◌, ◌%◌, ◌^◌, ◌<◌, ◌≤◌, List, ℤ, ◌+ℤ◌, ◌*ℤ◌, FitsSigned};
 ghost use Rattle.std.specs.Int.{Width, w64, int_wrap};
 ghost use mir.Val.{bits};
-ghost use Rattle.alpha_isa.specs.Program.{Program};
+ghost use Rattle.alpha_isa.specs.Program.{Program, HoldsSame, HasZerosCut};
 ghost use Rattle.alpha_isa.specs.State.{State};
 ghost use Rattle.alpha_isa.specs.Step.{exec, go_on};
+ghost use Rattle.alpha_isa.specs.Behave.{behave_a};
 ghost use Rattle.alpha_isa.specs.Laws.{Extends, output_at};
 ghost use Rattle.alpha_isa.specs.Arithmetic.{word_from, signed_value, sign_extension, kept_bytes};
 
@@ -33,4 +34,15 @@ pub fn words_wrap()
 pub fn runs_compose()
     ensures split { (p : Program) (k n : ℕ) (s : State) → exec p (k + n) s ≡ go_on (exec p k s) (exec p n) }
     ensures grows { (p : Program) (k n : ℕ) (s : State) → k ≤ n → Extends (output_at (exec p k s)) (output_at (exec p n s)) }
+{}
+
+/// Images that hold the same behave alike: it does not show which of the zeros at the end of the data are
+/// bytes of the image.
+pub fn zeros_do_not_show()
+    ensures { (p q : Program) (stack : ℕ) (input : List ℕ) (m : ℕ) → HoldsSame p q → behave_a q stack input m ≡ behave_a p stack input m }
+{}
+
+/// An image has one form in which its zeros are cut.
+pub fn zeros_are_cut_in_one_way()
+    ensures { (p q r : Program) → HasZerosCut p q → HasZerosCut p r → q ≡ r }
 {}

@@ -3,7 +3,8 @@ use Rattle.std.proofs.Common.{◌≡◌, ℕ, ◌+◌, ◌*◌, Bool, true, fals
 use Rattle.std.proofs.lemmas.List.{ext_get_or, length-append, length-map}
 use Rattle.alpha_isa.specs.declared.insn.BranchOp.TheVariants.{Br, Bsr, Blbc, Beq, Blt, Ble, Blbs, Bne, Bge, Bgt}
 use Rattle.alpha_isa.specs.Words.{word_of}
-use Rattle.alpha_isa.specs.Program.{Program, data_start, next_part, text_start}
+use Rattle.alpha_isa.specs.Program.{Program, data_of, data_start, next_part, text_start}
+use Rattle.alpha_isa.proofs.Zeros.{same_bytes_cut}
 use Rattle.alpha_items.specs.declared.item.AsmItem.{AsmItem}
 use Rattle.alpha_items.specs.declared.item.AsmItem.TheVariants.{Label, Name, Plain, Branch, TextAddress, DataAddress}
 use Rattle.alpha_items.specs.Assembly.{Assembly}
@@ -61,12 +62,13 @@ length-words a p w =
     ap length w.words ∙ length-map insns word_of ∙ length-text_insns (label_place a.items w.far) (data_start p) 0 a.items w.far
 
 -- images are equal where their parts are
-abbrev program : List ℕ → List ℕ → ℕ → Program
-program words bytes entry = record { words = words; bytes = bytes; entry = entry }
+abbrev program : List ℕ → List ℕ → ℕ → ℕ → Program
+program words bytes z entry = record { words = words; bytes = bytes; zeros = z; entry = entry }
 
-same_program : (p q : Program) → p.words ≡ q.words → p.bytes ≡ q.bytes → p.entry ≡ q.entry → p ≡ q
-same_program p q words bytes entry =
-    ap (λ w. program w p.bytes p.entry) words ∙ ap (λ b. program q.words b p.entry) bytes ∙ ap (program q.words q.bytes) entry
+same_program : (p q : Program) → p.words ≡ q.words → p.bytes ≡ q.bytes → p.zeros ≡ q.zeros → p.entry ≡ q.entry → p ≡ q
+same_program p q words bytes z entry =
+    ap (λ w. program w p.bytes p.zeros p.entry) words ∙ ap (λ b. program q.words b p.zeros p.entry) bytes
+    ∙ ap (λ n. program q.words q.bytes n p.entry) z ∙ ap (program q.words q.bytes q.zeros) entry
 
 pub image_unique : (a : Assembly) (p q : Program) → Words a p → Words a q → p ≡ q
 image_unique a p q v w =
@@ -75,6 +77,7 @@ image_unique a p q v w =
     let starts : data_start p ≡ data_start q = ap (λ n. next_part (text_start + 4 * n)) counts in
     let words : p.words ≡ q.words = v.words ∙ ap (λ f. map word_of (text_insns (label_place a.items f) (data_start p) 0 a.items f)) far
     ∙ ap (λ s. map word_of (text_insns (label_place a.items w.far) s 0 a.items w.far)) starts ∙ sym w.words in
-    let bytes : p.bytes ≡ q.bytes = v.data_bytes ∙ ap (λ s. fixed_data s a.bytes a.fixes) starts ∙ sym w.data_bytes in
+    let held : data_of p ≡ data_of q = v.data_bytes ∙ ap (λ s. fixed_data s a.bytes a.fixes) starts ∙ sym w.data_bytes in
+    let bytes = same_bytes_cut p.bytes q.bytes p.zeros q.zeros held v.last w.last in
     let entry : p.entry ≡ q.entry = v.entry ∙ ap (λ f. label_place a.items f 0) far ∙ sym w.entry in
-    same_program p q words bytes entry
+    same_program p q words bytes.0 bytes.1 entry

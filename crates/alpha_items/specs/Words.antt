@@ -1,5 +1,5 @@
 -- The image of an assembly.
-use Rattle.std.specs.Prelude.{◌≡◌, ℕ, ◌+◌, ◌*◌, ◌/◌, pos, ◌-ℤ◌, Bool, true, false, List, [], ◌∷◌, ◌++◌, map}
+use Rattle.std.specs.Prelude.{◌≡◌, ◌≢◌, Some, ℕ, ◌+◌, ◌*◌, ◌/◌, pos, ◌-ℤ◌, Bool, true, false, List, [], ◌∷◌, ◌++◌, map}
 use Rattle.std.specs.Int.{w64, to_le_bytes}
 use Rattle.std.specs.List.{fold}
 use Rattle.alpha_isa.specs.declared.insn.Fields.{Fields}
@@ -9,7 +9,7 @@ use Rattle.alpha_isa.specs.declared.insn.JumpOp.TheVariants.{Jmp, Jsr}
 use Rattle.alpha_isa.specs.declared.insn.BranchOp.{BranchOp}
 use Rattle.alpha_isa.specs.declared.insn.BranchOp.TheVariants.{Br, Bsr, Blbc, Beq, Blt, Ble, Blbs, Bne, Bge, Bgt}
 use Rattle.alpha_isa.specs.Words.{word_of}
-use Rattle.alpha_isa.specs.Program.{Program, data_start, word_address}
+use Rattle.alpha_isa.specs.Program.{Program, data_of, last_byte, data_start, word_address}
 use Rattle.alpha_isa.specs.State.{with_part}
 use Rattle.alpha_items.specs.declared.item.AsmItem.{AsmItem}
 use Rattle.alpha_items.specs.declared.item.AsmItem.TheVariants.{Label, Name, Plain, Branch, TextAddress, DataAddress}
@@ -77,10 +77,12 @@ abbrev pub fixed_data : ℕ → List ℕ → List Fix → List ℕ
 fixed_data start bytes fixes = fold (fixed start) bytes fixes
 
 -- the image is the assembly: its far branches are the least that can be, its words those of the items, its data
--- has the addresses of the fixes, and its entry is label 0
+-- with the zeros has the addresses of the fixes, its bytes are none or do not end with a zero, and its entry is
+-- label 0
 pub record Words (a : Assembly) (p : Program) : Type 0 where
   pub far : List Bool
   pub least : IsLeastFar a.items far
   pub words : p.words ≡ map word_of (text_insns (label_place a.items far) (data_start p) 0 a.items far)
-  pub data_bytes : p.bytes ≡ fixed_data (data_start p) a.bytes a.fixes
+  pub data_bytes : data_of p ≡ fixed_data (data_start p) a.bytes a.fixes
+  pub last : last_byte p.bytes ≢ Some 0
   pub entry : p.entry ≡ label_place a.items far 0

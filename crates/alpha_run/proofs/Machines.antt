@@ -2,7 +2,7 @@
 use Rattle.std.proofs.Common.{◌≡◌, ℕ, ◌+◌, ◌*◌, ◌^◌, ◌<◌, min, List, [], ◌∷◌, ◌++◌, length, map, drop, true, false, Option, Some, None, option_map, refl, sym, ap, ◌∙◌, subst, arith, append-nil}
 use Rattle.std.proofs.lemmas.List.{length-map}
 use Rattle.alpha_isa.specs.Words.{insn_of}
-use Rattle.alpha_isa.specs.Program.{Program, text_start, data_start, next_part}
+use Rattle.alpha_isa.specs.Program.{Program, data_size, text_start, data_start, next_part}
 use Rattle.alpha_isa.specs.State.{State}
 use Rattle.alpha_isa.specs.Step.{Next, Goes, Over, next_instruction, step, exec}
 use Rattle.alpha_isa.specs.Step as step
@@ -26,7 +26,7 @@ use Rattle.alpha_run.proofs.Runs.{exec_one, exec_none, steps_one-goes, steps_one
 pub processor_runs : (p : Program) (m : Inside) (v : Snapshot) → snapshot_of m ≡ v → IsSound m → snapshot.IsMachineOf p v → IsProcessorOf p m.processor
 processor_runs p m v is sound r =
     let text : m.processor.text.items ≡ map insn_of p.words = ap (λ u. u.text) is ∙ r.text in
-    let size : length m.processor.memory.data.items ≡ length p.bytes = ap (λ u. length u.data_bytes) is ∙ r.size in
+    let size : length m.processor.memory.data.items ≡ data_size p = ap (λ u. length u.data_bytes) is ∙ r.size in
     let words : length m.processor.text.items ≡ length p.words = ap length text ∙ length-map p.words insn_of in
     let begins : m.processor.memory.data_start ≡ data_start p = sound.data_start ∙ ap (λ n. next_part (text_start + 4 * n)) words in
     record {

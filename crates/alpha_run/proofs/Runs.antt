@@ -2,6 +2,7 @@
 use Rattle.std.proofs.Common.{◌≡◌, ℕ, zero, suc, ◌+◌, ◌-◌, ◌≤◌, List, [], ◌++◌, length, Bool, true, false, cond, Option, Some, None, option_map, refl, sym, ap, ◌∙◌, subst, arith, append_assoc, append-nil, length-append}
 use Rattle.alpha_isa.specs.Program.{Program}
 use Rattle.alpha_isa.specs.State.{State}
+use Rattle.alpha_isa.proofs.Zeros.{size_is}
 use Rattle.alpha_isa.specs.Step.{Halt, Next, Goes, Over, step, go_on, exec}
 use Rattle.alpha_isa.specs.Step as step
 use Rattle.alpha_isa.specs.Behave.{start, behaviour}
@@ -244,7 +245,7 @@ ran_gives p stack input n WriteFault old new told after r = (r.tried, r.stops.0,
 
 -- a machine that was just loaded runs its image, and has not come to an end
 pub loaded_runs : (p : Program) (stack : ℕ) (v : Snapshot) → v ≡ first_snapshot p stack → IsMachineOf p v × (v.halt ≡ None)
-loaded_runs p stack v e = (record { text = ap (λ u. u.text) e; size = ap (λ u. length u.data_bytes) e }, ap (λ u. u.halt) e)
+loaded_runs p stack v e = (record { text = ap (λ u. u.text) e; size = ap (λ u. length u.data_bytes) e ∙ size_is p }, ap (λ u. u.halt) e)
 
 pub ran_behaves : (p : Program) (stack : ℕ) (input : List ℕ) (n : ℕ) (e : Ending) (old new : Snapshot) (told after : Traffic) → old ≡ first_snapshot p stack → IsRun p n e (snapshot_state old input []) old new told after → Behaves p stack input n e told after
 ran_behaves p stack input n e old new told after same r =

@@ -1,8 +1,9 @@
 //! The machine: an image is loaded into it, and it runs.
 
-ghost use Rattle.std.specs.Prelude.{◌≡◌, ℕ, ◌+◌, ◌*◌, ◌/◌, ◌<◌, ◌^◌, List, map, length, replicate, [], IfOk, IfSome, IsTrue, Option, Some, None, unwrap_or};
+ghost use Rattle.std.specs.Prelude.{◌≡◌, ℕ, ◌+◌, ◌*◌, ◌/◌, ◌<◌, ◌≤◌, ◌^◌, List, map, length, replicate, [], IfOk, OnOk, IfSome, IsTrue, Option, Some, None, unwrap_or};
 ghost use Rattle.alpha_isa.specs.Words.{insn_of};
-ghost use Rattle.alpha_isa.specs.Program.{Program, next_part};
+ghost use Rattle.alpha_isa.specs.Program.{Program, data_size, most_bytes, next_part};
+ghost use Rattle.alpha_isa.specs.Program as spec;
 ghost use Rattle.alpha_isa.specs.Behave.{IsStack, start};
 
 use crate::ending::{Ending, Halt};
@@ -49,6 +50,18 @@ fn part_from(address: u64) -> u64
     (address + 65_535) / 65_536 * 65_536
 }
 
+/// The bytes of an image's data, with its zeros.
+fn data_of(alloc: Global, image: &Image) -> Result<Vec<u8>, AllocError>
+    ensures bytes { IfOk result (λ bytes. bytes.items ≡ spec.data_of image.now) }
+    ensures size { IfOk result (λ bytes. length bytes.items ≡ data_size image.now) }
+    ensures few { OnOk result (data_size image.now ≤ most_bytes) }
+{
+    let mut data = Vec::with_capacity(alloc, image.bytes.len() + image.zeros as usize)?;
+    data.extend_from_slice(image.bytes.as_slice())?;
+    data.resize(image.bytes.len() + image.zeros as usize, 0)?;
+    Ok(data)
+}
+
 /// The instructions of the words, none where a word stands for none.
 fn decode_all(alloc: Global, words: &[u32]) -> Result<Vec<Option<Insn32>>, AllocError>
     ensures { IfOk result (λ text. text.items ≡ map insn_of words.now) }
@@ -70,7 +83,7 @@ impl Machine {
         ensures runs { IfOk result (λ m. IsMachineOf image.now m) }
     {
         let text = decode_all(alloc, image.words.as_slice())?;
-        let data = Vec::from_slice(alloc, image.bytes.as_slice())?;
+        let data = data_of(alloc, image)?;
         let data_start = part_from(TEXT_START + 4 * text.len() as u64);
         let stack_start = part_from(data_start + data.len() as u64);
         let mut registers = Registers::new();

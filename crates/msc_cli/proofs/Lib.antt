@@ -1,8 +1,7 @@
 pub mod Compile
 pub mod Fronts
-pub mod ImageFaults
 pub mod ImageFronts
-pub mod ImageLaws
+pub mod MigrateImages
 pub mod Numbers
 pub mod RunImages
 pub mod PrintTrees

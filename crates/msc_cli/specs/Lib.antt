@@ -6,9 +6,8 @@ pub mod Outcome
 pub mod Request
 pub mod FromFile
 pub mod BuildImage
-pub mod ImageFault
-pub mod ReadImage
 pub mod RunImage
+pub mod MigrateImage
 pub mod PrintTree
 pub mod Call
 pub mod model

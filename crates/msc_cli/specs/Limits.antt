@@ -20,4 +20,4 @@ abbrev pub source_limit : ℕ
 source_limit = 4194305
 
 abbrev pub image_limit : ℕ
-image_limit = 1140850709
+image_limit = 1140850713

@@ -27,4 +27,4 @@ small_code puts status = flat_map put_code puts ++ end_code status
 
 -- the image of a program that puts these bytes and has this status
 abbrev pub small_program : List ℕ → ℕ → Program
-small_program puts status = record { words = map word_of (small_code puts status); bytes = []; entry = 0 }
+small_program puts status = record { words = map word_of (small_code puts status); bytes = []; zeros = 0; entry = 0 }

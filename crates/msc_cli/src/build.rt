@@ -7,8 +7,8 @@ ghost use Rattle.msc_cli.specs.BuildImage.{Builds, WritesImage, PutsBytes};
 ghost use Rattle.msc_cli.specs.Output.{file_faults_after, output_faults_after};
 
 use crate::from_file::compile_file;
-use crate::image_format::image_bytes;
 use crate::outcome::Outcome;
+use alpha_image::image_bytes;
 use alpha_isa::image::Image;
 use bk_io::outside::{Files, Sink};
 use std::alloc::Global;
@@ -29,7 +29,7 @@ pub fn build<F: Files, O: Sink>(alloc: Global, name: &str, files: &mut F, out: &
 }
 
 /// Writes the bytes of an image.
-fn write_image<O: Sink>(alloc: Global, image: &Image, out: &mut O) -> Outcome
+pub(crate) fn write_image<O: Sink>(alloc: Global, image: &Image, out: &mut O) -> Outcome
     ensures answer { WritesImage image.now result (O.taken out.old) (O.taken out.new) }
     ensures count { O.faults out.new ≡ output_faults_after result (O.faults out.old) }
     ensures no_file { result ≢ Outcome.FileFault }

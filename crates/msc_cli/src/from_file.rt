@@ -10,9 +10,9 @@ ghost use Rattle.msc_cli.specs.RunImage.{RefusesBytes, Holds};
 ghost use Rattle.msc_cli.specs.Output.{file_faults_unless};
 
 use crate::outcome::{Outcome, SourceFault};
-use crate::read_image::{ImageFault, read_image};
 use crate::read_small::{ReadFault, read_small};
 use crate::small_image::small_image;
+use alpha_image::{ImageFault, read_image};
 use alpha_isa::image::Image;
 use bk_io::outside::{FileFault, Files};
 use std::alloc::Global;
@@ -21,7 +21,7 @@ use std::alloc::Global;
 const SMALL_LIMIT: u64 = 4_097;
 
 /// How many bytes of an image are read: one more than the longest image has.
-const IMAGE_LIMIT: u64 = 1_140_850_709;
+const IMAGE_LIMIT: u64 = 1_140_850_713;
 
 /// The outcome where a file is not read.
 fn outcome_of_file_fault(fault: FileFault) -> Outcome

@@ -1,29 +1,19 @@
-//! Laws of the image format, of runs, and of trees.
+//! Laws of runs and of trees.
 
-ghost use Rattle.std.specs.Prelude.{◌≡◌, ◌≢◌, List, ℕ, None, Some};
+ghost use Rattle.std.specs.Prelude.{◌≡◌, ◌≢◌, ◌⊎◌, List, ℕ, Option, Some};
 ghost use Rattle.bk_io.specs.Outside.{taken_with};
 ghost use Rattle.c_tree.specs.declared.declarations.TranslationUnit.{TranslationUnit};
 ghost use Rattle.alpha_isa.specs.Program.{Program};
-ghost use Rattle.alpha_isa.specs.ImageFormat.{IsImage};
-ghost use Rattle.msc_cli.specs.ImageFault.{image_fault};
 ghost use Rattle.alpha_run.specs.Run.{Traffic};
+ghost use Rattle.alpha_isa.specs.ImageFormat.{IsImage};
 ghost use Rattle.msc_cli.specs.RunImage.{RunsBy, Runs, EndsWith};
+ghost use Rattle.msc_cli.specs.MigrateImage.{Migrates};
 ghost use Rattle.msc_cli.specs.PrintTree.{Spells, SpellsNone};
 ghost use Rattle.msc_cli.specs.declared.outcome.Outcome.{Outcome as Answer};
 ghost use Rattle.msc_cli.specs.BuildImage.{IsCompiled, DoesAlike};
-ghost use Rattle.msc_cli.specs.declared.outcome.Outcome.TheVariants.{FileFault};
+ghost use Rattle.msc_cli.specs.declared.outcome.Outcome.TheVariants.{Built, FileFault, WriteFault, NoMemory};
 ghost use Rattle.c_mean.specs.Small.{SmallUnit, IsSmall, status_of};
 ghost use Rattle.alpha_run.specs.declared.ending.Ending.TheVariants.{Done};
-
-/// The bytes of an image have no place at which they stop being one.
-pub fn images_have_no_fault()
-    ensures { (bytes : List ℕ) (p : Program) → IsImage bytes p → image_fault bytes ≡ None }
-{}
-
-/// Bytes are those of at most one image.
-pub fn one_image()
-    ensures { (bytes : List ℕ) (p q : Program) → IsImage bytes p → IsImage bytes q → p ≡ q }
-{}
 
 /// What a run of a compiled text put, and its status, are those of the program.
 pub fn a_run_is_the_program()
@@ -38,6 +28,13 @@ pub fn a_small_program_ends()
     ensures { (text input : List ℕ) (u : SmallUnit) (answer : Answer) (before after : Traffic) → IsSmall text u →
         before.left ≡ Some input → Runs (Some text) answer before after → answer ≢ FileFault →
         EndsWith (status_of u) answer }
+{}
+
+/// Bytes that hold an image are migrated, unless the outside fails or memory is short.
+pub fn an_image_is_migrated()
+    ensures { (bytes : List ℕ) (p : Program) (answer : Answer) (old new : Option (List ℕ)) → IsImage bytes p →
+        Migrates (Some bytes) answer old new → answer ≢ FileFault → answer ≢ WriteFault →
+        (answer ≡ Built) ⊎ (answer ≡ NoMemory) }
 {}
 
 /// A text that spells a tree is refused by `print` for no cause.

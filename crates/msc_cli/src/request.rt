@@ -12,6 +12,8 @@ pub enum Command {
     Run,
     /// To read an image, and run it.
     Exec,
+    /// To read an image, and write it in the version that is written today.
+    Migrate,
     /// To read a C file, and write its syntax tree.
     Print,
 }
@@ -50,6 +52,7 @@ fn command_of(word: &str) -> Option<Command>
         "build" => Some(Command::Build),
         "run" => Some(Command::Run),
         "exec" => Some(Command::Exec),
+        "migrate" => Some(Command::Migrate),
         _ => None,
     }
 }

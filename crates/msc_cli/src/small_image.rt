@@ -29,7 +29,7 @@ pub fn small_image(alloc: Global, small: &Small) -> Result<Image, AllocError>
         call_service(&mut words, *byte, PUT)?;
     }
     call_service(&mut words, small.status, END)?;
-    Ok(Image::new(words, Vec::new(alloc), 0))
+    Ok(Image::new(words, Vec::new(alloc), 0, 0))
 }
 
 /// Three words: register 16 gets the operand, register 0 the number of the service, and it is called.

@@ -7,6 +7,7 @@ ghost use Rattle.msc_cli.specs.Request.{request_of};
 ghost use Rattle.msc_cli.specs.Call.{AnswersCall, FailsWhereDue, told_after};
 
 use crate::build::build;
+use crate::migrate::migrate;
 use crate::outcome::{Outcome, put_line};
 use crate::print::print;
 use crate::request::{Command, read_words};
@@ -14,8 +15,8 @@ use crate::run::{exec, run};
 use bk_io::outside::{Files, Sink, Source};
 use std::alloc::Global;
 
-/// Does what the words ask for, `build FILE`, `run FILE`, `exec FILE` or `print FILE --pass tree`, and
-/// writes the outcome's line to `err`. `words[0]` is the program's name. The file that is named is read
+/// Does what the words ask for, `build FILE`, `run FILE`, `exec FILE`, `migrate FILE` or
+/// `print FILE --pass tree`, and writes the outcome's line to `err`. `words[0]` is the program's name. The file that is named is read
 /// once, and no other. A failed write to `err` changes no outcome.
 pub fn msc_main<F: Files, I: Source, O: Sink, E: Sink>(
     alloc: Global,
@@ -73,6 +74,7 @@ fn perform<F: Files, I: Source, O: Sink>(
         Command::Build => build(alloc, request.file, files, out),
         Command::Run => run(alloc, request.file, files, input, out),
         Command::Exec => exec(alloc, request.file, files, input, out),
+        Command::Migrate => migrate(alloc, request.file, files, out),
         Command::Print => print(alloc, request.file, files, out),
     }
 }

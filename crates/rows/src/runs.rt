@@ -14,13 +14,23 @@ const MOST_BYTES: usize = 67_108_864;
 
 /// The image of words, data and an entry.
 pub fn image_of(words: Vec<u32>, bytes: Vec<u8>, entry: u32) -> Result<Image> {
+    image_with_zeros(words, bytes, 0, entry)
+}
+
+/// The image of words, data with zeros behind it, and an entry.
+fn image_with_zeros(words: Vec<u32>, bytes: Vec<u8>, zeros: u32, entry: u32) -> Result<Image> {
     ensure!(!words.is_empty(), "an image has a word");
     ensure!(words.len() <= MOST_WORDS, "too many words");
     ensure!(bytes.len() <= MOST_BYTES, "too many bytes");
+    ensure!(
+        (zeros as usize) <= MOST_BYTES - bytes.len(),
+        "too many zeros"
+    );
     ensure!((entry as usize) < words.len(), "the entry is no word");
     Ok(Image {
         words,
         bytes,
+        zeros,
         entry,
     })
 }
@@ -30,6 +40,7 @@ pub fn image_of(words: Vec<u32>, bytes: Vec<u8>, entry: u32) -> Result<Image> {
 struct Run {
     words: Vec<u32>,
     data: Vec<u8>,
+    zeros: u32,
     entry: u32,
     input: Vec<u8>,
     failing_inputs: Vec<u64>,
@@ -43,6 +54,7 @@ impl Run {
         Run {
             words: Vec::new(alloc),
             data: Vec::new(alloc),
+            zeros: 0,
             entry: 0,
             input: Vec::new(alloc),
             failing_inputs: Vec::new(alloc),
@@ -62,6 +74,7 @@ impl Run {
                 }
             }
             "data" => self.data = unescape(alloc, rest)?,
+            "zeros" => self.zeros = u32::try_from(number(rest)?)?,
             "entry" => self.entry = word(rest)?,
             "input" => self.input = unescape(alloc, rest)?,
             "failing-inputs" => self.failing_inputs = numbers(alloc, rest)?,
@@ -78,6 +91,7 @@ impl Run {
         let Run {
             words,
             data,
+            zeros,
             entry,
             input,
             failing_inputs,
@@ -85,7 +99,7 @@ impl Run {
             room,
             budgets,
         } = self;
-        let image = image_of(words, data, entry)?;
+        let image = image_with_zeros(words, data, zeros, entry)?;
         let mut machine = Machine::load(alloc, &image, 4096)?;
         let mut input = MemSource::new(input, failing_inputs);
         let mut out = MemSink::new(alloc, room, failing_puts)?;

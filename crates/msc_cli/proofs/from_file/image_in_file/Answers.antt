@@ -1,6 +1,6 @@
 use Rattle.std.proofs.Common.{subst, sym}
 use Rattle.alpha_isa.specs.ImageFormat.{IsImage}
-use Rattle.msc_cli.specs.ReadImage.{IsFault}
+use Rattle.alpha_image.specs.ReadImage.{IsFault}
 use Rattle.msc_cli.specs.FromFile.{IsCause, text_of}
 use Rattle.msc_cli.specs.RunImage.{RefusesBytes}
 use Rattle.msc_cli.proofs.ImageFronts.{image_told, bytes_cause}

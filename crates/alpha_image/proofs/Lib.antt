@@ -1,0 +1,3 @@
+pub mod ImageFaults
+pub mod ImageFronts
+pub mod ImageLaws

@@ -1,0 +1,33 @@
+use Rattle.std.proofs.Common.{◌≡◌, ◌+◌, ◌*◌, drop, length, ap, ◌∙◌, sym, refl, arith, subst, Some, None, length-drop, take_all}
+use Rattle.alpha_isa.specs.Program.{Program, IsLawful}
+use Rattle.alpha_isa.specs.ImageFormat.{IsImage}
+use Rattle.alpha_image.specs.ImageFault.{length_fault, image_fault, first_of}
+use Rattle.alpha_image.proofs.ImageFaults.{found, was_read, image_fault-length}
+use Rattle.alpha_image.proofs.read.read_image.Goals as goal
+
+pub returns-in-Err-clause-bad : goal.returns-in-Err-clause-bad
+unfolding image_fault
+returns-in-Err-clause-bad c = ap (λ fault. first_of fault (length_fault c.args.bytes.now)) c.in-Err.ensures.fault
+
+pub returns-in-Some-clause-bad : goal.returns-in-Some-clause-bad
+returns-in-Some-clause-bad c =
+    let fields = c.in-Ok.ensures.fields in
+    image_fault-length c.args.bytes.now (Some c.in-Some.at) c.in-Ok.ensures.fault (sym (c.in-Some.ensures.fault fields.0 fields.1 fields.4))
+
+pub returns-in-Ok-from_slice-clause-found : goal.returns-in-Ok-from_slice-clause-found
+returns-in-Ok-from_slice-clause-found c =
+    let fields = c.in-Ok.ensures.fields in
+    let p : Program = record { words = c.in-Ok-read_numbers.words.items; bytes = c.in-Ok-from_slice.bytes.items; zeros = c.in-Ok.header.zeros; entry = c.in-Ok.header.entry } in
+    let due : length c.args.bytes.now ≡ c.in-Ok.header.text + 4 * c.in-Ok.header.words + c.in-Ok.header.bytes = c.in-None.ensures.due refl in
+    let rest : c.in-Ok-from_slice.bytes.items ≡ drop (c.in-Ok.header.text + 4 * c.in-Ok.header.words) c.args.bytes.now =
+    c.in-Ok-from_slice.ensures.items ∙ take_all _ _ (simp length-drop (omega arith)) in
+    let lawful : IsLawful p = subst IsLawful c.new.ensures.image c.new.ensures.lawful in
+    subst (IsImage c.args.bytes.now) (sym c.new.ensures.image)
+    (found c.args.bytes.now p (λ k. omega (arith, c.type_inv.bytes k)) c.in-Ok.ensures.fault fields.3
+    (was_read c.args.bytes.now c.in-Ok-read_numbers.words.items c.in-Ok-from_slice.bytes.items c.in-Ok.header.words c.in-Ok.header.bytes c.in-Ok.header.entry c.in-Ok.header.zeros c.in-Ok.header.text
+    fields.0 fields.1 fields.2 fields.4 due c.in-Ok-read_numbers.ensures.numbers c.in-Ok-read_numbers.ensures.count rest) lawful)
+
+pub returns-in-Ok-from_slice-clause-good : goal.returns-in-Ok-from_slice-clause-good
+returns-in-Ok-from_slice-clause-good c =
+    let fields = c.in-Ok.ensures.fields in
+    image_fault-length c.args.bytes.now None c.in-Ok.ensures.fault (sym (c.in-None.ensures.fault fields.0 fields.1 fields.4))

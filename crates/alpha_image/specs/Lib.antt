@@ -1,0 +1,2 @@
+pub mod ImageFault
+pub mod ReadImage

@@ -1,0 +1,50 @@
+//! Images as bytes.
+
+ghost use Rattle.std.specs.Prelude.{◌≡◌, ◌++◌, flat_map, IfOk, OnOk};
+ghost use Rattle.alpha_isa.specs.Program.{IsLawful};
+ghost use Rattle.alpha_isa.specs.ImageFormat.{number, image_spelling};
+
+use alpha_isa::image::Image;
+use std::alloc::{AllocError, Global};
+
+/// The first four bytes of an image.
+pub(crate) const MARK: &[u8; 4] = b"MSA1";
+
+/// The version of the format that is written.
+const VERSION: u32 = 2;
+
+/// The bytes of an image in version 2: the mark, the version, how many words and bytes there are, the
+/// entry, how many zeros stand behind the bytes, the words, and the bytes. Each number has four bytes, the
+/// lowest first. It fails only where memory is short.
+#[tactic(auto, unfolding(alpha_isa::specs::ImageFormat::image_spelling))]
+pub fn image_bytes(alloc: Global, image: &Image) -> Result<Vec<u8>, AllocError>
+    ensures bytes { IfOk result (λ bytes. bytes.items ≡ image_spelling image.now) }
+    ensures lawful { OnOk result (IsLawful image.now) }
+{
+    let mut bytes = Vec::from_slice(alloc, MARK)?;
+    push_number(&mut bytes, VERSION)?;
+    push_number(&mut bytes, image.words.len() as u32)?;
+    push_number(&mut bytes, image.bytes.len() as u32)?;
+    push_number(&mut bytes, image.entry)?;
+    push_number(&mut bytes, image.zeros)?;
+    push_numbers(&mut bytes, image.words.as_slice())?;
+    bytes.extend_from_slice(image.bytes.as_slice())?;
+    Ok(bytes)
+}
+
+/// Appends numbers, each in four bytes.
+fn push_numbers(bytes: &mut Vec<u8>, numbers: &[u32]) -> Result<(), AllocError>
+    ensures { OnOk result (bytes.new.items ≡ bytes.old.items ++ flat_map number numbers.now) }
+{
+    for n in numbers {
+        push_number(bytes, *n)?;
+    }
+    Ok(())
+}
+
+/// Appends a number in four bytes, the lowest first.
+fn push_number(bytes: &mut Vec<u8>, n: u32) -> Result<(), AllocError>
+    ensures { OnOk result (bytes.new.items ≡ bytes.old.items ++ number n) }
+{
+    bytes.extend_from_slice(&n.to_le_bytes())
+}
