@@ -7,6 +7,8 @@
 
 pub mod insn;
 pub mod pass;
+#[cfg(test)]
+mod tests;
 
 pub use insn::Insn;
 pub use pass::{Pass, Then};
