@@ -1,14 +1,14 @@
 -- What each instruction reads, writes and goes to.
-use Rattle.std.specs.Prelude.{ℕ, zero, suc, Bool, true, false, List, [], ◌∷◌, Option, Some, None}
+use Rattle.std.specs.Prelude.{ℕ, zero, Bool, true, false, List, [], ◌∷◌, Option, Some, None}
 use Rattle.suifvm_ir.specs.declared.types.VmType.{VmType}
 use Rattle.suifvm_ir.specs.declared.types.VmType.TheVariants.{S32, U32, S64, U64, P64}
 use Rattle.suifvm_ir.specs.declared.insn.UnaryOp.{UnaryOp}
 use Rattle.suifvm_ir.specs.declared.insn.UnaryOp.TheVariants.{Move, Negate, Complement}
 use Rattle.suifvm_ir.specs.declared.insn.BinaryOp.{BinaryOp}
 use Rattle.suifvm_ir.specs.declared.insn.BinaryOp.TheVariants.{Add, Subtract, Multiply, Divide, Remainder, And, Or, ExclusiveOr}
-use Rattle.suifvm_ir.specs.declared.insn.Builtin.TheVariants.{PutChar, GetChar, Abort, Exit}
+use Rattle.suifvm_ir.specs.declared.insn.Builtin.TheVariants.{Abort}
 use Rattle.suifvm_ir.specs.declared.insn.Callee.{Callee}
-use Rattle.suifvm_ir.specs.declared.insn.Callee.TheVariants.{Function, Builtin}
+use Rattle.suifvm_ir.specs.declared.insn.Callee.TheVariants.{Builtin}
 use Rattle.suifvm_ir.specs.declared.insn.TypedRegister.{TypedRegister}
 use Rattle.suifvm_ir.specs.declared.insn.VmInsn.{VmInsn}
 use Rattle.suifvm_ir.specs.declared.insn.VmInsn.TheVariants.{LoadConstant, LoadAddress, Load, Store, Copy, Unary, Binary, Shift, Convert, Compare, Branch, Jump, Call, Return, Mark, Nop}

@@ -1,5 +1,5 @@
 -- What every program keeps, and its size.
-use Rattle.std.specs.Prelude.{◌≡◌, ℕ, ◌+◌, ◌*◌, ◌%◌, ◌<◌, ◌≤◌, ◌==◌, ◌&&◌, ◌||◌, nat_lt, nat_le, Bool, true, false, List, [], ◌∷◌, All, IsTrue, length, sum_by, count_by, slice_get, slice_index_or, Option, Some, None, codes, bytes_eq, if◌then◌else◌}
+use Rattle.std.specs.Prelude.{◌≡◌, ℕ, ◌+◌, ◌*◌, ◌%◌, ◌<◌, ◌≤◌, ◌==◌, ◌||◌, nat_lt, nat_le, Bool, true, false, List, [], All, IsTrue, length, sum_by, count_by, slice_get, slice_index_or, Option, Some, None, codes, bytes_eq}
 use Rattle.std.specs.List.{list_all}
 use Rattle.data_object.specs.declared.DataObject.{DataObject}
 use Rattle.suifvm_ir.specs.declared.types.Alignment.{Alignment}

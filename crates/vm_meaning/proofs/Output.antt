@@ -1,11 +1,11 @@
 -- No instruction takes back output.
-use Rattle.std.proofs.Common.{◌≡◌, ℕ, List, [], ◌∷◌, ◌++◌, Option, Some, None, Bool, true, false, if◌then◌else◌, refl, sym, subst, append-nil}
+use Rattle.std.proofs.Common.{ℕ, List, [], ◌∷◌, Option, Some, None, Bool, true, false, if◌then◌else◌, refl, sym, subst, append-nil}
 use Rattle.std.specs.Prelude.{slice_get}
 use Rattle.mem_model.specs.declared.value.Value.{Value}
 use Rattle.mem_model.specs.declared.value.Value.TheVariants.{Word, Address, Unset}
 use Rattle.mem_model.specs.Memory.{Memory}
-use Rattle.mem_model.specs.World.{Outer, next_byte}
-use Rattle.machine_model.specs.Code.{Act, Writes, Jumps, Returns, Site, Point}
+use Rattle.mem_model.specs.World.{Outer}
+use Rattle.machine_model.specs.Code.{Act, Writes, Jumps, Returns, Site}
 use Rattle.machine_model.specs.Laws.{IsPrefix, KeepsOutput, act_outer}
 use Rattle.suifvm_ir.specs.declared.insn.BranchOp.{BranchOp}
 use Rattle.suifvm_ir.specs.declared.insn.Builtin.{Builtin}
@@ -18,7 +18,7 @@ use Rattle.suifvm_ir.specs.declared.insn.VmInsn.TheVariants.{LoadConstant, LoadA
 use Rattle.std.specs.List.{list_all}
 use Rattle.suifvm_ir.specs.Programs.{alignment_bytes}
 use Rattle.vm_meaning.specs.Operations.{Answer, Gives, TrapsWith, Fails, is_set, is_value_of, when_value, unary_answer, convert_answer, binary_answer, shift_answer, compare_answer, value_holds, loaded_answer, stored_memory, copied_memory}
-use Rattle.vm_meaning.specs.Effect.{fails, first, second, writes, changes, is_taken, branches, puts_char, exits, builtin_act, callee_act, call_act, return_act, does}
+use Rattle.vm_meaning.specs.Effect.{fails, first, second, writes, changes, is_taken, branches, puts_char, exits, builtin_act, callee_act, return_act, does}
 use Rattle.vm_meaning.specs.Behave.{FunctionCode, Registers, vm_code, site_or_next, site_in_block, site_in_function}
 
 -- the output of an outer part is a front of the one that is left

@@ -9,7 +9,6 @@ use Rattle.mem_model.specs.World.{Outer}
 use Rattle.machine_model.specs.Code.{Exits, Traps, HasNoMeaning, Act, Writes, Jumps, Calls, Returns, Stops}
 use Rattle.c_arithmetic.specs.declared.integer_type.IntegerType.{IntegerType}
 use Rattle.c_arithmetic.specs.declared.integer_type.IntegerType.TheVariants.{Int, UnsignedInt, Long, UnsignedLong}
-use Rattle.c_arithmetic.specs.declared.outcome.Outcome.{Outcome}
 use Rattle.c_arithmetic.specs.Words.{value, is_word}
 use Rattle.c_arithmetic.specs.Operations.{shift_count, left_shift_by, right_shift_by}
 use Rattle.mem_model.specs.Pointers.{pointer_plus, pointer_minus}
@@ -25,7 +24,6 @@ use Rattle.suifvm_ir.specs.declared.insn.ShiftOp.{ShiftOp}
 use Rattle.suifvm_ir.specs.declared.insn.ShiftOp.TheVariants.{ArithmeticRight, Left, LogicalRight}
 use Rattle.suifvm_ir.specs.declared.insn.CompareOp.{CompareOp}
 use Rattle.suifvm_ir.specs.declared.insn.BranchOp.{BranchOp}
-use Rattle.suifvm_ir.specs.declared.insn.Builtin.{Builtin}
 use Rattle.suifvm_ir.specs.declared.insn.Builtin.TheVariants.{PutChar, GetChar, Abort, Exit}
 use Rattle.suifvm_ir.specs.declared.insn.Callee.{Callee}
 use Rattle.suifvm_ir.specs.declared.insn.Callee.TheVariants as callee
@@ -34,7 +32,7 @@ use Rattle.suifvm_ir.specs.declared.insn.VmInsn.{VmInsn}
 use Rattle.suifvm_ir.specs.declared.insn.VmInsn.TheVariants.{LoadConstant, LoadAddress, Load, Store, Copy, Unary, Binary, Shift, Convert, Compare, Branch, Jump, Call, Return, Mark, Nop}
 use Rattle.suifvm_ir.specs.Insns.{unary_may_trap, binary_may_trap, call_may_trap, may_trap_of}
 use Rattle.vm_meaning.specs.Operations.{Answer, Gives, TrapsWith, Fails, is_set, is_value_of, when_value, integer_of, memory_integer, access_bytes, is_pointer_access, with_sign, without_sign, compared, compare_pointer, shift_by, convert_answer, shift_answer, value_holds, loaded_answer, stored_memory, copied_memory, outcome_answer, value_answer, distance_answer, test_answer, on_number, on_numbers, unary_number, unary_answer, converted, binary_number, pointer_answer, binary_answer, shift_number, compare_answer, load_answer, load_through}
-use Rattle.vm_meaning.specs.Effect.{fails, first, second, writes, changes, is_taken, branches, puts_char, exits, builtin_act, callee_act, call_act, return_act, does}
+use Rattle.vm_meaning.specs.Effect.{fails, first, second, writes, changes, is_taken, branches, puts_char, exits, builtin_act, call_act, return_act, does}
 use Rattle.vm_meaning.specs.Laws.{OnlyTheseTrap}
 
 -- an answer, and an act, that is no trap

@@ -1,11 +1,11 @@
 -- How programs run: the machine over objects, where virtual registers keep the values.
-use Rattle.std.specs.Prelude.{◌≡◌, ℕ, suc, ◌+◌, ◌%◌, ◌==◌, Bool, true, false, List, [], ◌∷◌, take, drop, map, length, sum_by, position, slice_get, slice_index_or, Option, Some, None, unwrap_or, if◌then◌else◌}
+use Rattle.std.specs.Prelude.{◌≡◌, ℕ, suc, ◌+◌, ◌%◌, ◌==◌, false, List, [], ◌∷◌, take, drop, map, sum_by, position, slice_get, slice_index_or, Option, Some, None, unwrap_or, if◌then◌else◌}
 use Rattle.mem_model.specs.declared.value.Value.{Value}
-use Rattle.mem_model.specs.declared.value.Value.TheVariants.{Word, Address, Unset}
-use Rattle.mem_model.specs.World.{Outer, World, Rooms, meter_of}
+use Rattle.mem_model.specs.declared.value.Value.TheVariants.{Word, Unset}
+use Rattle.mem_model.specs.World.{World, Rooms, meter_of}
 use Rattle.mem_model.specs.Ending.{Ending}
-use Rattle.machine_model.specs.Code.{Act, Jumps, Site, Point, Code}
-use Rattle.machine_model.specs.Machine.{Config, Next, Over, exec, start}
+use Rattle.machine_model.specs.Code.{Jumps, Site, Point, Code}
+use Rattle.machine_model.specs.Machine.{Next, Over, exec, start}
 use Rattle.data_object.specs.declared.DataObject.{DataObject}
 use Rattle.data_object.specs.Start.{start_memory}
 use Rattle.suifvm_ir.specs.declared.insn.VmInsn.{VmInsn}

@@ -1,7 +1,6 @@
 -- What operators do with the values of registers. A value is a word, a pointer, or unset. A type of 4 bytes takes words
 -- alone that have the sign of their low 32 bits above these.
-use Rattle.std.specs.Prelude.{ℕ, ◌+◌, ◌^◌, ◌==◌, not, ℤ, pos, Bool, true, false, Option, Some, None, option_map, Result, Ok, Err, if◌then◌else◌}
-use Rattle.mem_model.specs.declared.value.Ptr.{Ptr}
+use Rattle.std.specs.Prelude.{ℕ, ◌+◌, ◌==◌, not, ℤ, pos, Bool, true, false, Option, Some, None, option_map, Result, Ok, Err, if◌then◌else◌}
 use Rattle.mem_model.specs.declared.value.Value.{Value}
 use Rattle.mem_model.specs.declared.value.Value.TheVariants.{Word, Address, Unset}
 use Rattle.mem_model.specs.declared.value.MemFault.{MemFault}
