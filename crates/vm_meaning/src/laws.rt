@@ -1,5 +1,6 @@
 //! Laws of the meaning, each the contract of a function that does nothing.
 
+ghost use Rattle.vm_meaning.specs.Examples.{ExamplesRun};
 ghost use Rattle.vm_meaning.specs.Laws.{OneVmEnding, MoreTurnsKeepEnding, MoreTurnsExtendOutput, VmPeakRises, VmKeepsOutput, OnlyTheseTrap};
 
 /// A run has one ending at most.
@@ -22,4 +23,9 @@ pub fn runs_go_on()
 /// What traps is an instruction that may.
 pub fn only_these_trap()
     ensures { OnlyTheseTrap }
+{}
+
+/// Small programs end as they should.
+pub fn examples_run()
+    ensures { ExamplesRun }
 {}
