@@ -1,0 +1,144 @@
+//! Equal statements.
+
+ghost use Rattle.std.specs.Prelude.{◌≡◌, IfOk};
+
+use crate::copy::{copy_expr, copy_optional};
+use crate::{TFirst, TLocal, TSection, TStmt};
+use c_tree::{Box, Seq};
+use std::alloc::{AllocError, Global};
+
+/// An equal declaration of a local.
+fn copy_local(alloc: Global, local: &TLocal) -> Result<TLocal, AllocError>
+    ensures { IfOk result (λ r. r ≡ local.now) }
+{
+    let init = copy_optional(alloc, &local.init)?;
+    Ok(TLocal {
+        number: local.number,
+        init,
+    })
+}
+
+fn copy_locals(alloc: Global, list: &Seq<TLocal>) -> Result<Seq<TLocal>, AllocError>
+    ensures { IfOk result (λ r. r ≡ list.now) }
+{
+    let mut copies = Seq::new(alloc);
+    for local in list.as_slice() {
+        copies.push(copy_local(alloc, local)?)?;
+    }
+    Ok(copies)
+}
+
+/// An equal first part of a `for`.
+fn copy_first(alloc: Global, first: &TFirst) -> Result<TFirst, AllocError>
+    ensures { IfOk result (λ r. r ≡ first.now) }
+{
+    match first {
+        TFirst::Nothing => Ok(TFirst::Nothing),
+        TFirst::Value(value) => Ok(TFirst::Value(copy_expr(alloc, value)?)),
+        TFirst::Locals(list) => Ok(TFirst::Locals(copy_locals(alloc, list)?)),
+    }
+}
+
+/// An equal statement. It fails only where memory is short.
+#[cycle(statement)]
+pub fn copy_stmt(alloc: Global, statement: &TStmt) -> Result<TStmt, AllocError>
+    ensures { IfOk result (λ r. r ≡ statement.now) }
+{
+    match statement {
+        TStmt::Block(statements) => Ok(TStmt::Block(copy_stmts(alloc, statements)?)),
+        TStmt::If {
+            condition,
+            then,
+            otherwise,
+        } => {
+            let condition = copy_expr(alloc, condition)?;
+            let then = Box::new(alloc, copy_stmt(alloc, then)?)?;
+            let otherwise = copy_else(alloc, otherwise)?;
+            Ok(TStmt::If {
+                condition,
+                then,
+                otherwise,
+            })
+        }
+        TStmt::While { condition, body } => {
+            let condition = copy_expr(alloc, condition)?;
+            let body = Box::new(alloc, copy_stmt(alloc, body)?)?;
+            Ok(TStmt::While { condition, body })
+        }
+        TStmt::Do { body, condition } => {
+            let body = Box::new(alloc, copy_stmt(alloc, body)?)?;
+            let condition = copy_expr(alloc, condition)?;
+            Ok(TStmt::Do { body, condition })
+        }
+        TStmt::For {
+            first,
+            condition,
+            step,
+            body,
+        } => {
+            let first = copy_first(alloc, first)?;
+            let condition = copy_optional(alloc, condition)?;
+            let step = copy_optional(alloc, step)?;
+            let body = Box::new(alloc, copy_stmt(alloc, body)?)?;
+            Ok(TStmt::For {
+                first,
+                condition,
+                step,
+                body,
+            })
+        }
+        TStmt::Switch { operand, sections } => {
+            let operand = copy_expr(alloc, operand)?;
+            let sections = copy_sections(alloc, sections)?;
+            Ok(TStmt::Switch { operand, sections })
+        }
+        TStmt::Break => Ok(TStmt::Break),
+        TStmt::Continue => Ok(TStmt::Continue),
+        TStmt::Return(value) => Ok(TStmt::Return(copy_optional(alloc, value)?)),
+        TStmt::Expression(value) => Ok(TStmt::Expression(copy_expr(alloc, value)?)),
+        TStmt::Empty => Ok(TStmt::Empty),
+        TStmt::Local(local) => Ok(TStmt::Local(copy_local(alloc, local)?)),
+    }
+}
+
+#[cycle(statement)]
+fn copy_stmts(alloc: Global, list: &Seq<TStmt>) -> Result<Seq<TStmt>, AllocError>
+    ensures { IfOk result (λ r. r ≡ list.now) }
+{
+    let mut copies = Seq::new(alloc);
+    for statement in list.as_slice() {
+        copies.push(copy_stmt(alloc, statement)?)?;
+    }
+    Ok(copies)
+}
+
+#[cycle(statement)]
+fn copy_else(
+    alloc: Global,
+    otherwise: &Option<Box<TStmt>>,
+) -> Result<Option<Box<TStmt>>, AllocError>
+    ensures { IfOk result (λ r. r ≡ otherwise.now) }
+{
+    match otherwise {
+        None => Ok(None),
+        Some(statement) => {
+            let statement = Box::new(alloc, copy_stmt(alloc, statement)?)?;
+            Ok(Some(statement))
+        }
+    }
+}
+
+#[cycle(statement)]
+fn copy_sections(alloc: Global, list: &Seq<TSection>) -> Result<Seq<TSection>, AllocError>
+    ensures { IfOk result (λ r. r ≡ list.now) }
+{
+    let mut copies = Seq::new(alloc);
+    for section in list.as_slice() {
+        let statements = copy_stmts(alloc, &section.statements)?;
+        copies.push(TSection {
+            label: section.label,
+            statements,
+        })?;
+    }
+    Ok(copies)
+}

@@ -1,0 +1,109 @@
+//! Typed expressions (C99 6.5).
+
+use crate::CType;
+use c_tree::{AssignOp, BinaryOp, Box, Seq, StepOp, UnaryOp};
+
+/// The functions that every unit has without a definition.
+#[derive(Clone, Copy, Debug, PartialEq, Eq)]
+pub enum Builtin {
+    Putchar,
+    Getchar,
+    Abort,
+    Exit,
+}
+
+/// What a call calls.
+#[derive(Clone, Copy, Debug, PartialEq, Eq)]
+pub enum Callee {
+    /// The function of the unit with this number.
+    Function(u32),
+    Builtin(Builtin),
+}
+
+/// An expression. `ty` is its type; of a place it is the type of the object there.
+///
+/// Each conversion that changes a type is a node of its own: a `Cast` where the text has one, else a `Convert`.
+/// Enumeration constants and `sizeof` are numbers, and a text is the global that holds it.
+#[derive(Drop)]
+pub enum TExpr {
+    /// An integer, as a word that its type holds.
+    Number {
+        ty: CType,
+        value: u64,
+    },
+    /// The local or parameter with this number in the function.
+    Local {
+        ty: CType,
+        number: u32,
+    },
+    /// The global with this number in the unit.
+    Global {
+        ty: CType,
+        number: u32,
+    },
+    /// A call. `ty` is the type of the result.
+    Call {
+        ty: CType,
+        callee: Callee,
+        arguments: Seq<TExpr>,
+    },
+    Unary {
+        ty: CType,
+        op: UnaryOp,
+        operand: Box<TExpr>,
+    },
+    Binary {
+        ty: CType,
+        op: BinaryOp,
+        left: Box<TExpr>,
+        right: Box<TExpr>,
+    },
+    Assign {
+        ty: CType,
+        op: AssignOp,
+        left: Box<TExpr>,
+        right: Box<TExpr>,
+    },
+    Conditional {
+        ty: CType,
+        condition: Box<TExpr>,
+        holds: Box<TExpr>,
+        fails: Box<TExpr>,
+    },
+    Cast {
+        ty: CType,
+        operand: Box<TExpr>,
+    },
+    /// A conversion that the text does not spell (C99 6.3).
+    Convert {
+        ty: CType,
+        operand: Box<TExpr>,
+    },
+    Index {
+        ty: CType,
+        left: Box<TExpr>,
+        right: Box<TExpr>,
+    },
+    /// A member, by its number in the struct of the operand.
+    Field {
+        ty: CType,
+        operand: Box<TExpr>,
+        member: u32,
+    },
+    /// A member, by its number in the struct that the operand points to.
+    Arrow {
+        ty: CType,
+        operand: Box<TExpr>,
+        member: u32,
+    },
+    Postfix {
+        ty: CType,
+        op: StepOp,
+        operand: Box<TExpr>,
+    },
+    /// The comma operator with all its operands, two or more.
+    Comma {
+        ty: CType,
+        operands: Seq<TExpr>,
+    },
+}
