@@ -1,0 +1,168 @@
+-- The meaning of expressions (C99 6.5), by recursion on the tree. What a call does is handed in: the meanings of
+-- functions one level down.
+use Rattle.std.specs.Prelude.{ℕ, pos, ◌%◌, Bool, true, false, List, [], ◌∷◌, slice_get, Option, Some, None, if◌then◌else◌}
+use Rattle.mem_model.specs.declared.value.Value.{Value}
+use Rattle.mem_model.specs.declared.value.Value.TheVariants.{Word}
+use Rattle.mem_model.specs.World.{next_byte, take_byte, put_byte}
+use Rattle.mem_model.specs.Ending.{Gives}
+use Rattle.c_tree.specs.declared.expressions.UnaryOp.TheVariants as u
+use Rattle.c_tree.specs.declared.expressions.BinaryOp.{BinaryOp}
+use Rattle.c_tree.specs.declared.expressions.BinaryOp.TheVariants as b
+use Rattle.c_tree.specs.declared.expressions.StepOp.TheVariants as s
+use Rattle.c_typed_tree.specs.declared.expressions.Builtin.{Builtin}
+use Rattle.c_typed_tree.specs.declared.expressions.Builtin.TheVariants as i
+use Rattle.c_typed_tree.specs.declared.expressions.Callee.{Callee}
+use Rattle.c_typed_tree.specs.declared.expressions.Callee.TheVariants as c
+use Rattle.c_typed_tree.specs.declared.types.StructDef.{StructDef}
+use Rattle.c_typed_tree.specs.declared.units.Local.{Local}
+use Rattle.c_typed_tree.specs.Types.{PlainType, Void, Pointer, Array, Struct}
+use Rattle.c_typed_tree.specs.Expressions.{Expr, Number, Global, Call, Unary, Binary, Assign, Conditional, Cast, Convert, Index, Field, Arrow, Postfix, Comma, Exprs, no_exprs, more_exprs, type_of}
+use Rattle.c_typed_tree.specs.Expressions as e
+use Rattle.c_semantics.specs.Reasons.{UsesNoValue, AccessesOutside}
+use Rattle.c_semantics.specs.Runs.{with_outer, Run, ◌>>=◌, ◌>>◌, pure, undefined, trap, exit, turn, used, number}
+use Rattle.c_semantics.specs.Objects.{Place, At, start_of, read_at, read, write, pointer_to, move, move_by, offset_of, Scope, local_place, integer_of}
+use Rattle.c_semantics.specs.Operators.{binary, unary, test, convert, operator_of, combined, stepped, pure_truth}
+
+-- ---- what the world outside does
+
+-- a byte is put, and is the value (C99 7.19.7.9)
+unfoldable pub put : ℕ → Run Value
+put n = λ s. Gives (Word (n % 256)) (with_outer s (put_byte s.world.outer (n % 256)))
+
+-- the word of -1 at the end of the input
+abbrev pub byte_or_end : Option ℕ → ℕ
+byte_or_end None = 18446744073709551615
+byte_or_end (Some byte) = byte
+
+-- the next byte is taken (C99 7.19.7.6)
+unfoldable pub get : Run Value
+get = λ s. Gives (Word (byte_or_end (next_byte s.world.outer))) (with_outer s (take_byte s.world.outer))
+
+-- a built-in function on its arguments. The call is a turn
+abbrev pub builtin : Builtin → List Value → Run Value
+builtin i.Putchar (v ∷ []) = number v >>= (λ n. turn >> put n)
+builtin i.Getchar [] = turn >> get
+builtin i.Abort [] = turn >> trap 2
+builtin i.Exit (v ∷ []) = number v >>= (λ n. turn >> exit n)
+builtin f vs = undefined UsesNoValue
+
+-- what the functions of the unit do on their arguments
+abbrev pub Functions : Type 0
+Functions = (function : ℕ) → List Value → Run Value
+
+abbrev pub call : Functions → Callee → List Value → Run Value
+call functions (c.Function n) vs = functions n vs
+call functions (c.Builtin f) vs = builtin f vs
+
+-- ---- places
+
+abbrev pub at : Value → Run Place
+at p = pure (At p)
+
+-- the element of a pointer with an index, in either order (C99 6.5.2.1)
+abbrev pub element : List StructDef → (left right : PlainType) → Value → Value → Run Value
+element ds (Pointer target) right v w = move_by ds target (integer_of right) v w
+element ds left (Pointer target) v w = move_by ds target (integer_of left) w v
+element ds left right v w = undefined UsesNoValue
+
+-- a member of a struct of this type that stands at a pointer (C99 6.5.2.3). The pointer is moved, also by 0
+abbrev pub member_at : List StructDef → PlainType → (member : ℕ) → Value → Run Value
+member_at ds ty member p = move p (pos (offset_of ds ty member))
+
+-- the type of what a pointer points to
+abbrev pub target_of : PlainType → PlainType
+target_of (Pointer target) = target
+target_of ty = Void
+
+-- ---- changes of a place
+
+-- the value of an assignment: that of a struct is the pointer to the left side
+abbrev pub assigned : PlainType → Place → Value → Value
+assigned (Struct n) (At p) v = p
+assigned ty place v = v
+
+-- a place is read and written; the value is picked of the old and the new one
+abbrev pub update : List StructDef → PlainType → (change : Value → Run Value) → (pick : Value → Value → Value) → Place
+    → Run Value
+update ds ty change pick p = read ty p >>= (λ v. change v >>= (λ w. write ds ty p w >> pure (pick v w)))
+
+abbrev pub new_value : Value → Value → Value
+new_value old new = new
+
+abbrev pub old_value : Value → Value → Value
+old_value old new = old
+
+-- an assignment, where the place and the right side are known
+abbrev pub assign : List StructDef → (left right : PlainType) → Option BinaryOp → Place → Value → Run Value
+assign ds left right None p v = write ds left p v >> pure (assigned left p v)
+assign ds left right (Some op) p v = update ds left (λ old. combined ds op left right old v) new_value p
+
+-- ---- choices
+
+-- the one or the other, by a test
+abbrev pub choose : {A : Type 0} → Run A → Run A → Bool → Run A
+choose holds fails t = if t then holds else fails
+
+-- a conversion: an array is converted by its place (C99 6.3.2.1)
+abbrev pub converted_from : (from to : PlainType) → Run Value → Run Place → Run Value
+converted_from (Array target n) to by_value by_place = by_place >>= pointer_to
+converted_from from to by_value by_place = by_value >>= convert from to
+
+-- ---- expressions
+
+-- the meaning of expressions in a function with these locals
+module _ (ds : List StructDef) (ls : List Local) (functions : Functions) where
+  abbrev mutual
+    pub eval : Scope → Expr → Run Value
+    eval scope (Number ty n) = pure (Word n)
+    eval scope (e.Local ty k) = local_place scope k (slice_get ls k) >>= read ty
+    eval scope (Global ty k) = read_at ty (start_of k)
+    eval scope (Call ty callee es) = evals scope es >>= call functions callee
+    eval scope (Unary ty u.Address x) = place scope x >>= pointer_to
+    eval scope (Unary ty u.Dereference x) = eval scope x >>= used UsesNoValue >>= read_at ty
+    eval scope (Unary ty u.Increment x) = place scope x >>= update ds ty (stepped ds s.Increment ty) new_value
+    eval scope (Unary ty u.Decrement x) = place scope x >>= update ds ty (stepped ds s.Decrement ty) new_value
+    eval scope (Unary ty u.Not x) = eval scope x >>= test >>= choose (pure_truth false) (pure_truth true)
+    eval scope (Unary ty u.Plus x) = eval scope x >>= unary u.Plus ty
+    eval scope (Unary ty u.Minus x) = eval scope x >>= unary u.Minus ty
+    eval scope (Unary ty u.Invert x) = eval scope x >>= unary u.Invert ty
+    eval scope (Binary ty b.LogicalAnd x y) =
+        eval scope x >>= test >>= choose (eval scope y >>= test >>= pure_truth) (pure_truth false)
+    eval scope (Binary ty b.LogicalOr x y) =
+        eval scope x >>= test >>= choose (pure_truth true) (eval scope y >>= test >>= pure_truth)
+    eval scope (Binary ty op x y) =
+        eval scope x >>= (λ v. eval scope y >>= (λ w. binary ds op (type_of x) (type_of y) v w))
+    eval scope (Assign ty op x y) =
+        place scope x >>= (λ p. eval scope y >>= assign ds ty (type_of y) (operator_of op) p)
+    eval scope (Conditional ty x y z) = eval scope x >>= test >>= choose (eval scope y) (eval scope z)
+    eval scope (Cast ty x) = converted_from (type_of x) ty (eval scope x) (place scope x)
+    eval scope (Convert ty x) = converted_from (type_of x) ty (eval scope x) (place scope x)
+    eval scope (Index ty x y) =
+        eval scope x >>= (λ v. eval scope y >>= element ds (type_of x) (type_of y) v) >>= read_at ty
+    eval scope (Field ty x member) = place scope x >>= pointer_to >>= member_at ds (type_of x) member >>= read_at ty
+    eval scope (Arrow ty x member) = eval scope x >>= member_at ds (target_of (type_of x)) member >>= read_at ty
+    eval scope (Postfix ty op x) = place scope x >>= update ds ty (stepped ds op ty) old_value
+    eval scope (Comma ty no_exprs) = undefined UsesNoValue
+    eval scope (Comma ty (more_exprs x xs)) = last_of scope (eval scope x) xs
+
+    -- where an expression stands that is a place (C99 6.3.2.1)
+    pub place : Scope → Expr → Run Place
+    place scope (e.Local ty k) = local_place scope k (slice_get ls k)
+    place scope (Global ty k) = at (start_of k)
+    place scope (Unary ty u.Dereference x) = eval scope x >>= used UsesNoValue >>= at
+    place scope (Index ty x y) =
+        eval scope x >>= (λ v. eval scope y >>= element ds (type_of x) (type_of y) v) >>= at
+    place scope (Field ty x member) = place scope x >>= pointer_to >>= member_at ds (type_of x) member >>= at
+    place scope (Arrow ty x member) = eval scope x >>= member_at ds (target_of (type_of x)) member >>= at
+    place scope _ = undefined AccessesOutside
+
+    -- arguments, from left to right; each is used
+    pub evals : Scope → Exprs → Run (List Value)
+    evals scope no_exprs = pure []
+    evals scope (more_exprs x xs) =
+        eval scope x >>= used UsesNoValue >>= (λ v. evals scope xs >>= (λ vs. pure (v ∷ vs)))
+
+    -- the last of the operands of commas, of which the first one is given (C99 6.5.17)
+    pub last_of : Scope → Run Value → Exprs → Run Value
+    last_of scope first no_exprs = first
+    last_of scope first (more_exprs x xs) = first >> last_of scope (eval scope x) xs

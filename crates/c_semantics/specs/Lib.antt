@@ -1,0 +1,10 @@
+pub mod Reasons
+pub mod Runs
+pub mod Objects
+pub mod Operators
+pub mod Evaluates
+pub mod Executes
+pub mod Behaves
+pub mod Laws
+pub mod Examples
+pub mod Refines

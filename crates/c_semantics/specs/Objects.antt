@@ -1,0 +1,169 @@
+-- Places and what they hold: reading and writing them by a type (C99 6.3.2.1), moving pointers, and the objects of
+-- locals.
+use Rattle.std.specs.Prelude.{ℕ, ◌==◌, ℤ, pos, ◌*ℤ◌, Bool, true, false, List, [], ◌∷◌, length, slice_get, Option, Some, None, Result, Ok, Err, if◌then◌else◌, unwrap_or}
+use Rattle.mem_model.specs.declared.value.Ptr.{Ptr}
+use Rattle.mem_model.specs.declared.value.Value.{Value}
+use Rattle.mem_model.specs.declared.value.Value.TheVariants.{Word, Address, Unset}
+use Rattle.mem_model.specs.declared.value.MemFault.{MemFault}
+use Rattle.mem_model.specs.Memory.{Memory, load_at, store_at, copy_at, overlaps, begin_object, end_object}
+use Rattle.mem_model.specs.Pointers.{is_live, pointer_plus}
+use Rattle.mem_model.specs.World.{with_memory}
+use Rattle.mem_model.specs.Ending.{Evaluation, Gives}
+use Rattle.c_arithmetic.specs.declared.integer_type.IntegerType.{IntegerType}
+use Rattle.c_arithmetic.specs.declared.integer_type.IntegerType.TheVariants as i
+use Rattle.c_arithmetic.specs.IntegerTypes.{integer_type}
+use Rattle.c_arithmetic.specs.Words.{value, extension}
+use Rattle.c_typed_tree.specs.declared.types.StructDef.{StructDef}
+use Rattle.c_typed_tree.specs.declared.types.Member.{Member}
+use Rattle.c_typed_tree.specs.declared.units.Local.{Local}
+use Rattle.c_typed_tree.specs.Types.{PlainType, Void, Int, Pointer, Array, Struct}
+use Rattle.c_typed_tree.specs.View.{type_view}
+use Rattle.c_typed_tree.specs.Layout.{size_of, align_of}
+use Rattle.c_semantics.specs.Reasons.{Reason, AccessesOutside, MovesOutside, UsesDeadObject, UsesNoValue, OverlapsItself, reason_of}
+use Rattle.c_semantics.specs.Runs.{State, in_world, Run, and_then, ◌>>=◌, ◌>>◌, pure, undefined, seen, set_memory, known, used, number, read_register, write_register}
+
+-- where a value stands: a local that is no object, or a pointer to it
+pub data Place : Type 0 where
+  Register : (local : ℕ) → Place
+  At : Value → Place
+
+-- the first byte of an object
+abbrev pub start_of : (object : ℕ) → Value
+start_of object = Address (record { object = object; offset = pos 0 })
+
+-- the integer type of a type; what is none has the type of a word
+abbrev pub integer_of : PlainType → IntegerType
+integer_of (Int bytes signed) = unwrap_or (integer_type bytes signed) i.UnsignedLong
+integer_of _ = i.UnsignedLong
+
+-- ---- access
+
+abbrev pub accessed : {A : Type 0} → Result A MemFault → Run A
+accessed (Ok a) = pure a
+accessed (Err fault) = undefined (reason_of fault)
+
+-- what stands at a pointer, as a number or as a pointer
+abbrev pub load : (width : ℕ) → (pointer : Bool) → Value → Run Value
+load width pointer (Address p) = seen (λ m. accessed (load_at m p width pointer))
+load width pointer (Word n) = undefined AccessesOutside
+load width pointer Unset = undefined UsesNoValue
+
+-- a value is put at a pointer
+abbrev pub store : (width : ℕ) → Value → Value → Run (Unit {0})
+store width (Address p) v = seen (λ m. accessed (store_at m p width v) >>= set_memory)
+store width (Word n) v = undefined AccessesOutside
+store width Unset v = undefined UsesNoValue
+
+-- the cells of a struct are copied, as they are (C99 6.5.16.1)
+abbrev pub copied : Memory → (to from : Ptr) → (size align : ℕ) → Run (Unit {0})
+copied m to from size align =
+    if overlaps to from size then undefined OverlapsItself else accessed (copy_at m to from size align) >>= set_memory
+
+abbrev pub copy : (size align : ℕ) → (to from : Value) → Run (Unit {0})
+copy size align (Address p) (Address q) = seen (λ m. copied m p q size align)
+copy size align to from = undefined AccessesOutside
+
+-- a number that was loaded, as its type holds it
+abbrev pub held : IntegerType → Value → Run Value
+held t v = number v >>= (λ n. pure (Word (extension t n)))
+
+-- the value at a pointer, by its type. That of a struct or an array is the pointer
+abbrev pub read_at : PlainType → Value → Run Value
+read_at Void p = undefined UsesNoValue
+read_at (Int bytes signed) p = load bytes false p >>= held (integer_of (Int bytes signed))
+read_at (Pointer target) p = load 8 true p
+read_at (Array element n) p = pure p
+read_at (Struct n) p = pure p
+
+abbrev pub read : PlainType → Place → Run Value
+read ty (Register k) = read_register k
+read ty (At p) = read_at ty p
+
+-- a value is written, by its type; it is used
+abbrev pub write_at : List StructDef → PlainType → Value → Value → Run (Unit {0})
+write_at ds Void p v = undefined UsesNoValue
+write_at ds (Int bytes signed) p v = used UsesNoValue v >>= store bytes p
+write_at ds (Pointer target) p v = used UsesNoValue v >>= store 8 p
+write_at ds (Array element n) p v = undefined UsesNoValue
+write_at ds (Struct n) p v = copy (size_of ds (Struct n)) (align_of ds (Struct n)) p v
+
+abbrev pub write : List StructDef → PlainType → Place → Value → Run (Unit {0})
+write ds ty (Register k) v = used UsesNoValue v >>= write_register k
+write ds ty (At p) v = write_at ds ty p v
+
+-- the pointer to a place; a local that is no object has none
+abbrev pub pointer_to : Place → Run Value
+pointer_to (Register k) = undefined AccessesOutside
+pointer_to (At p) = pure p
+
+-- ---- moving
+
+-- why a pointer cannot be moved
+abbrev pub move_reason : Memory → Value → Reason
+move_reason m (Address p) = if is_live m p then MovesOutside else UsesDeadObject
+move_reason m (Word n) = MovesOutside
+move_reason m Unset = UsesNoValue
+
+-- a pointer moved by a number of bytes (C99 6.5.6)
+abbrev pub move : Value → (by : ℤ) → Run Value
+move p by = seen (λ m. known (move_reason m p) (pointer_plus m p by))
+
+-- a pointer moved by a number of elements, as its type has it
+abbrev pub move_by : List StructDef → PlainType → IntegerType → Value → Value → Run Value
+move_by ds element t p v = number v >>= (λ n. move p (value t n *ℤ pos (size_of ds element)))
+
+-- the place of a member in bytes (C99 6.5.2.3)
+abbrev pub member_place : Option Member → ℕ
+member_place None = 0
+member_place (Some m) = m.offset
+
+abbrev pub members_of : Option StructDef → List Member
+members_of None = []
+members_of (Some d) = d.members
+
+abbrev pub offset_of : List StructDef → PlainType → (member : ℕ) → ℕ
+offset_of ds (Struct n) member = member_place (slice_get (members_of (slice_get ds n)) member)
+offset_of ds _ member = 0
+
+-- ---- locals
+
+-- the objects of the memory locals in scope, by the number of the local
+abbrev pub Scope : Type 0
+Scope = ℕ → Option ℕ
+
+abbrev pub no_scope : Scope
+no_scope = λ k. None
+
+abbrev pub with_object : Scope → (local object : ℕ) → Scope
+with_object scope k object = λ j. if j == k then Some object else scope j
+
+-- an object ends where a run that goes on leaves its scope
+abbrev pub leave : {A : Type 0} → (object : ℕ) → Evaluation A State → Evaluation A State
+leave object r =
+    and_then r (λ a s. Gives a (in_world s (with_memory s.world (end_object s.world.outer.memory object))))
+
+-- a local is an object while a run lasts (C99 6.2.4)
+abbrev pub with_local_object : {A : Type 0} → (size local : ℕ) → (Scope → Run A) → Scope → Run A
+with_local_object size k run scope = λ s.
+    leave (length s.world.outer.memory)
+    (run (with_object scope k (length s.world.outer.memory))
+    (in_world s (with_memory s.world (begin_object s.world.outer.memory size true))))
+
+-- a local begins: an object, or a register that was not written
+abbrev pub with_local : {A : Type 0} → List StructDef → (local : ℕ) → Option Local → (Scope → Run A) → Scope → Run A
+with_local ds k None run scope = run scope
+with_local ds k (Some l) run scope =
+    if l.in_memory then with_local_object (size_of ds (type_view l.ty)) k run scope
+    else write_register k Unset >> run scope
+
+-- locals begin, one after the other
+abbrev pub with_locals : {A : Type 0} → List StructDef → List Local → (numbers : List ℕ) → (Scope → Run A) → Scope
+    → Run A
+with_locals ds ls [] run scope = run scope
+with_locals ds ls (k ∷ ks) run scope = with_local ds k (slice_get ls k) (with_locals ds ls ks run) scope
+
+-- where a local stands
+abbrev pub local_place : Scope → (local : ℕ) → Option Local → Run Place
+local_place scope k None = undefined AccessesOutside
+local_place scope k (Some l) =
+    if l.in_memory then known UsesDeadObject (scope k) >>= (λ o. pure (At (start_of o))) else pure (Register k)

@@ -1,0 +1,198 @@
+-- What the operators do with the values of their operands, by the types of these (C99 6.5).
+use Rattle.std.specs.Prelude.{ℕ, ◌==◌, not, ℤ, pos, neg_ℤ, ◌*ℤ◌, int_div, int_rem, Bool, true, false, List, Option, Some, None, if◌then◌else◌}
+use Rattle.std.specs.Ordering.{int_eq}
+use Rattle.mem_model.specs.declared.value.Value.{Value}
+use Rattle.mem_model.specs.declared.value.Value.TheVariants.{Word, Address, Unset}
+use Rattle.mem_model.specs.Memory.{Memory}
+use Rattle.mem_model.specs.Pointers.{is_live, pointer_minus, pointer_lt, pointer_le, pointer_eq}
+use Rattle.c_arithmetic.specs.declared.integer_type.IntegerType.{IntegerType}
+use Rattle.c_arithmetic.specs.declared.integer_type.IntegerType.TheVariants as i
+use Rattle.c_arithmetic.specs.declared.outcome.Outcome.{Outcome}
+use Rattle.c_arithmetic.specs.declared.outcome.Outcome.TheVariants as o
+use Rattle.c_arithmetic.specs.IntegerTypes.{bytes, is_signed, promoted}
+use Rattle.c_arithmetic.specs.Words.{value, word}
+use Rattle.c_arithmetic.specs.Operations.{conversion, sum, difference, product, negation, quotient, remainder, conjunction, disjunction, exclusive_disjunction, complement, left_shift, right_shift, is_less, is_less_or_equal, is_equal, truth}
+use Rattle.c_tree.specs.declared.expressions.UnaryOp.{UnaryOp}
+use Rattle.c_tree.specs.declared.expressions.UnaryOp.TheVariants as u
+use Rattle.c_tree.specs.declared.expressions.BinaryOp.{BinaryOp}
+use Rattle.c_tree.specs.declared.expressions.BinaryOp.TheVariants as b
+use Rattle.c_tree.specs.declared.expressions.AssignOp.{AssignOp}
+use Rattle.c_tree.specs.declared.expressions.AssignOp.TheVariants as a
+use Rattle.c_tree.specs.declared.expressions.StepOp.{StepOp}
+use Rattle.c_tree.specs.declared.expressions.StepOp.TheVariants as s
+use Rattle.c_typed_tree.specs.declared.types.StructDef.{StructDef}
+use Rattle.c_typed_tree.specs.Types.{PlainType, Void, Int, Pointer}
+use Rattle.c_typed_tree.specs.Layout.{size_of}
+use Rattle.c_semantics.specs.Reasons.{Reason, UsesDeadObject, ComparesApart, ComparesAtEnd, ShiftsTooFar, UsesNoValue}
+use Rattle.c_semantics.specs.Runs.{Run, ◌>>=◌, pure, undefined, trap, seen, known, used, number}
+use Rattle.c_semantics.specs.Objects.{integer_of, move, move_by}
+
+abbrev pub outcome : Outcome → Run Value
+outcome (o.Word n) = pure (Word n)
+outcome (o.Trap code) = trap code
+outcome o.Undefined = undefined ShiftsTooFar
+
+-- ---- integers
+
+-- an operator between two integers of one type; the count of a shift has a type of its own. `&&` and `||` are none
+abbrev pub integers_with : BinaryOp → (t count : IntegerType) → ℕ → ℕ → Outcome
+integers_with b.Or t c x y = o.Word (disjunction t x y)
+integers_with b.Xor t c x y = o.Word (exclusive_disjunction t x y)
+integers_with b.And t c x y = o.Word (conjunction t x y)
+integers_with b.Equal t c x y = o.Word (truth (is_equal t x y))
+integers_with b.NotEqual t c x y = o.Word (truth (not (is_equal t x y)))
+integers_with b.Less t c x y = o.Word (truth (is_less t x y))
+integers_with b.Greater t c x y = o.Word (truth (is_less t y x))
+integers_with b.LessEqual t c x y = o.Word (truth (is_less_or_equal t x y))
+integers_with b.GreaterEqual t c x y = o.Word (truth (is_less_or_equal t y x))
+integers_with b.ShiftLeft t c x y = left_shift t c x y
+integers_with b.ShiftRight t c x y = right_shift t c x y
+integers_with b.Add t c x y = sum t x y
+integers_with b.Subtract t c x y = difference t x y
+integers_with b.Multiply t c x y = product t x y
+integers_with b.Divide t c x y = quotient t x y
+integers_with b.Remainder t c x y = remainder t x y
+integers_with b.LogicalOr t c x y = o.Undefined
+integers_with b.LogicalAnd t c x y = o.Undefined
+
+abbrev pub integers : BinaryOp → (t count : IntegerType) → Value → Value → Run Value
+integers op t c v w = number v >>= (λ x. number w >>= (λ y. outcome (integers_with op t c x y)))
+
+-- an integer converted from one type to another (C99 6.3.1.3)
+abbrev pub converted : (from to : IntegerType) → Value → Run Value
+converted from to v = number v >>= (λ n. pure (Word (conversion from to n)))
+
+-- ---- pointers
+
+-- why two pointers cannot be compared or subtracted: one of them is dead, or they are apart
+abbrev pub is_dead : Memory → Value → Bool
+is_dead m (Address p) = not (is_live m p)
+is_dead m (Word n) = false
+is_dead m Unset = false
+
+abbrev pub unless_dead : Memory → Value → Value → Reason → Reason
+unless_dead m v w reason = if is_dead m v then UsesDeadObject else if is_dead m w then UsesDeadObject else reason
+
+abbrev pub compared : Reason → (Memory → Value → Value → Option Bool) → Value → Value → Run Bool
+compared reason test v w = seen (λ m. known (unless_dead m v w reason) (test m v w))
+
+abbrev pub pure_truth : Bool → Run Value
+pure_truth b = pure (Word (truth b))
+
+-- a distance in whole elements (C99 6.5.6)
+abbrev pub elements : (bytes : ℤ) → (size : ℕ) → Run Value
+elements bytes size =
+    if int_eq (int_rem bytes (pos size)) (pos 0) then pure (Word (word i.Long (int_div bytes (pos size))))
+    else undefined ComparesApart
+
+abbrev pub distance : List StructDef → (element : PlainType) → Value → Value → Run Value
+distance ds element v w =
+    seen (λ m. known (unless_dead m v w ComparesApart) (pointer_minus m v w)) >>= (λ z. elements z (size_of ds element))
+
+-- an operator between two pointers to one type of elements
+abbrev pub pointers : List StructDef → BinaryOp → (element : PlainType) → Value → Value → Run Value
+pointers ds b.Subtract element v w = distance ds element v w
+pointers ds b.Less element v w = compared ComparesApart pointer_lt v w >>= pure_truth
+pointers ds b.Greater element v w = compared ComparesApart pointer_lt w v >>= pure_truth
+pointers ds b.LessEqual element v w = compared ComparesApart pointer_le v w >>= pure_truth
+pointers ds b.GreaterEqual element v w = compared ComparesApart pointer_le w v >>= pure_truth
+pointers ds b.Equal element v w = compared ComparesAtEnd pointer_eq v w >>= pure_truth
+pointers ds b.NotEqual element v w = compared ComparesAtEnd pointer_eq v w >>= (λ same. pure_truth (not same))
+pointers ds _ element v w = undefined UsesNoValue
+
+-- a pointer and a number of elements
+abbrev pub pointer_and_integer : List StructDef → BinaryOp → PlainType → IntegerType → Value → Value → Run Value
+pointer_and_integer ds b.Add element t v w = move_by ds element t v w
+pointer_and_integer ds b.Subtract element t v w =
+    number w >>= (λ n. move v (neg_ℤ (value t n) *ℤ pos (size_of ds element)))
+pointer_and_integer ds _ element t v w = undefined UsesNoValue
+
+-- ---- all operands
+
+abbrev pub with_integer : List StructDef → BinaryOp → IntegerType → (right : PlainType) → Value → Value → Run Value
+with_integer ds op t (Pointer element) v w = pointer_and_integer ds op element t w v
+with_integer ds op t right v w = integers op t (integer_of right) v w
+
+abbrev pub with_pointer : List StructDef → BinaryOp → PlainType → (right : PlainType) → Value → Value → Run Value
+with_pointer ds op element (Pointer other) v w = pointers ds op element v w
+with_pointer ds op element right v w = pointer_and_integer ds op element (integer_of right) v w
+
+-- an operator between two values, by their types. Two integers have one type, but for a shift
+abbrev pub binary : List StructDef → BinaryOp → (left right : PlainType) → Value → Value → Run Value
+binary ds op (Int n s) right v w = with_integer ds op (integer_of (Int n s)) right v w
+binary ds op (Pointer element) right v w = with_pointer ds op element right v w
+binary ds op _ right v w = undefined UsesNoValue
+
+-- an operator in front of a value, by its type: `+`, `-` and `~`
+abbrev pub unary : UnaryOp → PlainType → Value → Run Value
+unary u.Plus ty v = used UsesNoValue v
+unary u.Minus ty v = number v >>= (λ n. outcome (negation (integer_of ty) n))
+unary u.Invert ty v = number v >>= (λ n. pure (Word (complement (integer_of ty) n)))
+unary _ ty v = undefined UsesNoValue
+
+-- whether a value is not zero, and not null
+abbrev pub test_in : Memory → Value → Run Bool
+test_in m (Word n) = pure (not (n == 0))
+test_in m (Address p) = if is_live m p then pure true else undefined UsesDeadObject
+test_in m Unset = undefined UsesNoValue
+
+abbrev pub test : Value → Run Bool
+test v = seen (λ m. test_in m v)
+
+-- ---- conversions
+
+-- a value as one of another type: a number keeps its value or its low bits, a pointer stays, and nothing is used
+-- where the type is void (C99 6.3)
+abbrev pub convert : (from to : PlainType) → Value → Run Value
+convert from Void v = pure Unset
+convert (Int n s) (Int m r) v = converted (integer_of (Int n s)) (integer_of (Int m r)) v
+convert from to v = used UsesNoValue v
+
+-- ---- assignment
+
+-- the operator of a compound assignment (C99 6.5.16.2)
+abbrev pub operator_of : AssignOp → Option BinaryOp
+operator_of a.Set = None
+operator_of a.Multiply = Some b.Multiply
+operator_of a.Divide = Some b.Divide
+operator_of a.Remainder = Some b.Remainder
+operator_of a.Add = Some b.Add
+operator_of a.Subtract = Some b.Subtract
+operator_of a.ShiftLeft = Some b.ShiftLeft
+operator_of a.ShiftRight = Some b.ShiftRight
+operator_of a.And = Some b.And
+operator_of a.Xor = Some b.Xor
+operator_of a.Or = Some b.Or
+
+-- the type in which an operator is done: that of the right side, to which both were converted, and in a shift the
+-- promoted one of the left
+abbrev pub operation_type : BinaryOp → (left right : IntegerType) → IntegerType
+operation_type b.ShiftLeft left right = promoted left
+operation_type b.ShiftRight left right = promoted left
+operation_type op left right = right
+
+-- an integer is combined with another one, and the result is an integer of its own type again
+abbrev pub combined_in : BinaryOp → (t left right : IntegerType) → Value → Value → Run Value
+combined_in op t left right v w = converted left t v >>= (λ x. integers op t right x w >>= converted t left)
+
+-- what a compound assignment writes, of what stood there and the right side
+abbrev pub combined : List StructDef → BinaryOp → (left right : PlainType) → Value → Value → Run Value
+combined ds op (Int n s) right v w =
+    let t = integer_of (Int n s) in
+    let r = integer_of right in
+    combined_in op (operation_type op t r) t r v w
+combined ds op (Pointer element) right v w = pointer_and_integer ds op element (integer_of right) v w
+combined ds op left right v w = undefined UsesNoValue
+
+-- `++` and `--` add and take away 1 (C99 6.5.2.4, 6.5.3.1)
+abbrev pub step_operator : StepOp → BinaryOp
+step_operator s.Increment = b.Add
+step_operator s.Decrement = b.Subtract
+
+-- the type of the 1: the promoted one of an integer, and `int` beside a pointer
+abbrev pub one_type : PlainType → PlainType
+one_type (Int n s) = Int (bytes (promoted (integer_of (Int n s)))) (is_signed (promoted (integer_of (Int n s))))
+one_type _ = Int 4 true
+
+abbrev pub stepped : List StructDef → StepOp → PlainType → Value → Run Value
+stepped ds op ty v = combined ds (step_operator op) ty (one_type ty) v (Word 1)
