@@ -11,7 +11,7 @@ use Rattle.c_grammar.specs.declared.shapes.Naming.TheVariants as nm
 use Rattle.c_grammar.specs.Types.{bare}
 use Rattle.c_grammar.specs.Units.{with_type}
 use Rattle.c_grammar.specs.Tokens.{TypeNames, is_mark, kind_at, behind}
-use Rattle.c_grammar.specs.Parser.{ParseOutcome, Parser, and_then, ◌>>=◌, pure}
+use Rattle.c_grammar.specs.Parser.{ParseOutcome, Parser, and_then, pure}
 use Rattle.c_grammar.specs.ParseExpr.{declarator}
 use Rattle.c_grammar.specs.ParseSpecifiers.{declaration}
 use Rattle.c_grammar.specs.ParseUnits.{typedefs_from, object_named, objects_from, external, externals_behind, externals_from}

@@ -13,7 +13,7 @@ use c_expression_parser::{Fault, Scope, SpecifierType, Tokens, declarator, expr,
 use c_grammar::{Declarator, DeclaredName, Naming, Opening, Shape, levels, opening_of};
 use c_lexer::Punct;
 use c_statement_parser::{append, declaration, items, specifier};
-use c_tree::{Declaration, External, FunctionEnd, Init, Seq, Storage, TypeNode};
+use c_tree::{Box, Declaration, External, FunctionEnd, Init, Seq, Storage};
 use std::alloc::{AllocError, Global};
 
 /// Reads initialisers with commas between them, one or more, and perhaps a comma behind.
@@ -69,13 +69,14 @@ fn typedef_declarator(
     scope: &mut Scope,
     tokens: &mut Tokens<'_>,
     depth: usize,
-    ty: TypeNode,
+    base: SpecifierType,
 ) -> Result<External, Fault>
-    ensures { AnswersIn (parts.typedef_declarator scope.old depth ty tokens.old) result scope.new tokens.new }
+    ensures { AnswersIn (parts.typedef_declarator scope.old depth base tokens.old) result scope.new tokens.new }
 {
-    let declaration = declaration(alloc, scope, tokens, depth, Naming::Required, ty)?;
+    let declaration = declaration(alloc, scope, tokens, depth, Naming::Required, base)?;
+    let declaration = Box::new(alloc, declaration)?;
     scope.add_type(alloc, declaration.name.copy()?)?;
-    Ok(External::Typedef(declaration))
+    Ok(External::Typedef(Box::into_inner(declaration)))
 }
 
 /// Reads the declarators of a `typedef` behind their type. The names of types grow from one to the next.
@@ -91,10 +92,10 @@ fn typedef_declarators(
         scope.new tokens.new }
 {
     let mut found = Seq::new(alloc);
-    let mut ty = base;
+    let mut ty = Box::new(alloc, base)?;
     for _turn in 0..tokens.left() {
-        let bare = ty.bare()?;
-        let first = ty.into_type();
+        let bare = Box::new(alloc, ty.bare()?)?;
+        let first = Box::into_inner(ty);
         found.push(typedef_declarator(alloc, scope, tokens, depth, first)?)?;
         ty = bare;
         if !tokens.sees(Punct::Comma) {
@@ -121,10 +122,10 @@ fn typedefs(
     Ok(found)
 }
 
-/// A declarator with a name, behind its type.
+/// A declarator with a name, behind its type, which is in a box so that what waits for it is small.
 #[derive(Drop)]
 struct TypedDeclarator {
-    ty: TypeNode,
+    ty: Box<SpecifierType>,
     named: DeclaredName,
     shapes: Seq<Shape>,
 }
@@ -145,7 +146,7 @@ impl TypedDeclarator {
         ensures { IfOk result (λ d. d ≡ types.declaration_of self.ty self.named self.shapes) }
     {
         let TypedDeclarator { ty, named, shapes } = self;
-        let ty = with_shapes(alloc, shapes, ty)?;
+        let ty = with_shapes(alloc, shapes, Box::into_inner(ty).into_type())?;
         Ok(Declaration {
             at: named.at,
             name: named.name,
@@ -158,13 +159,14 @@ impl TypedDeclarator {
         self,
         alloc: Global,
         storage: Option<Storage>,
-        init: Option<Init>,
+        init: Option<Box<Init>>,
     ) -> Result<External, AllocError>
         ensures { IfOk result (λ x. x ≡ external_of (is_function self.shapes)
             (types.declaration_of self.ty self.named self.shapes) storage init) }
     {
         let is_function = self.is_function();
         let declaration = self.into_declaration(alloc)?;
+        let init = init_of(init);
         if !is_function {
             return Ok(External::Object {
                 declaration,
@@ -181,6 +183,16 @@ impl TypedDeclarator {
             storage,
             end,
         })
+    }
+}
+
+/// The initialiser in its box, or none.
+fn init_of(init: Option<Box<Init>>) -> Option<Init>
+    ensures { result ≡ init }
+{
+    match init {
+        None => None,
+        Some(init) => Some(Box::into_inner(init)),
     }
 }
 
@@ -201,7 +213,7 @@ fn object(
         return Ok(typed.into_external(alloc, storage, None)?);
     }
     tokens.take();
-    let value = init(alloc, scope, tokens, depth)?;
+    let value = Box::new(alloc, init(alloc, scope, tokens, depth)?)?;
     Ok(typed.into_external(alloc, storage, Some(value))?)
 }
 
@@ -213,7 +225,7 @@ fn object_declarator(
     tokens: &mut Tokens<'_>,
     depth: usize,
     storage: Option<Storage>,
-    ty: TypeNode,
+    ty: Box<SpecifierType>,
 ) -> Result<External, Fault>
     ensures { Answers (parts.object_declarator scope.now depth storage ty tokens.old) result tokens.new }
 {
@@ -239,7 +251,7 @@ fn objects(
     tokens: &mut Tokens<'_>,
     depth: usize,
     storage: Option<Storage>,
-    base: SpecifierType,
+    base: Box<SpecifierType>,
     found: Seq<External>,
 ) -> Result<Seq<External>, Fault>
     ensures { Answers (model.objects_from scope.now depth storage (length tokens.old) base found tokens.old)
@@ -248,9 +260,8 @@ fn objects(
     let mut found = found;
     let mut ty = base;
     for _turn in 0..tokens.left() {
-        let bare = ty.bare()?;
-        let first = ty.into_type();
-        found.push(object_declarator(alloc, scope, tokens, depth, storage, first)?)?;
+        let bare = Box::new(alloc, ty.bare()?)?;
+        found.push(object_declarator(alloc, scope, tokens, depth, storage, ty)?)?;
         ty = bare;
         if !tokens.sees(Punct::Comma) {
             return Ok(found);
@@ -269,7 +280,7 @@ fn objects_behind(
     depth: usize,
     storage: Option<Storage>,
     typed: TypedDeclarator,
-    bare: SpecifierType,
+    bare: Box<SpecifierType>,
 ) -> Result<Seq<External>, Fault>
     requires { types.bare typed.ty ≡ bare }
     ensures { Answers (model.objects_behind scope.now depth storage typed.ty typed.named typed.shapes
@@ -292,14 +303,14 @@ fn body_behind(
     tokens: &mut Tokens<'_>,
     depth: usize,
     storage: Option<Storage>,
-    declaration: Declaration,
+    declaration: Box<Declaration>,
 ) -> Result<Seq<External>, Fault>
     ensures { Answers (model.body_behind scope.now depth storage declaration tokens.old) result tokens.new }
 {
     let body = items(alloc, scope, tokens, depth, depth)?;
     let mut found = Seq::new(alloc);
     found.push(External::Function {
-        declaration,
+        declaration: Box::into_inner(declaration),
         storage,
         end: FunctionEnd::Body(body),
     })?;
@@ -315,7 +326,7 @@ fn objects_or_body(
     depth: usize,
     storage: Option<Storage>,
     typed: TypedDeclarator,
-    bare: SpecifierType,
+    bare: Box<SpecifierType>,
 ) -> Result<Seq<External>, Fault>
     requires { types.bare typed.ty ≡ bare }
     ensures { Answers (model.objects_named scope.now depth storage typed.ty typed.named typed.shapes
@@ -323,7 +334,7 @@ fn objects_or_body(
 {
     if tokens.sees(Punct::LeftBrace) {
         tokens.take();
-        let declaration = typed.into_declaration(alloc)?;
+        let declaration = Box::new(alloc, typed.into_declaration(alloc)?)?;
         return body_behind(alloc, scope, tokens, depth, storage, declaration);
     }
     let found = objects_behind(alloc, scope, tokens, depth, storage, typed, bare)?;
@@ -350,12 +361,12 @@ fn behind_type(
         found.push(External::Tags { storage, ty })?;
         return Ok(found);
     }
+    let ty = Box::new(alloc, base)?;
     let Declarator { name, shapes } = declarator(alloc, scope, tokens, depth, Naming::Required)?;
     let Some(named) = name else {
         return Err(Fault::Refused);
     };
-    let bare = base.bare()?;
-    let ty = base.into_type();
+    let bare = Box::new(alloc, ty.bare()?)?;
     let typed = TypedDeclarator { ty, named, shapes };
     objects_or_body(alloc, scope, tokens, depth, storage, typed, bare)
 }

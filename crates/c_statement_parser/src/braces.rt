@@ -4,12 +4,13 @@ ghost use Rattle.std.specs.Prelude.{◌≡◌, ◌++◌, [], length, IfOk};
 ghost use Rattle.c_grammar.specs.ParseSpecifiers as model;
 ghost use Rattle.c_expression_parser.specs.Answers.{Answers};
 
+use crate::endings::close;
 use c_expression_parser::{
     Fault, Scope, SpecifierType, Tokens, declarator, expr, named_type, read_words, with_shapes,
 };
 use c_grammar::{Declarator, Naming, Specifier, SpecifierStart, levels};
 use c_lexer::Punct;
-use c_tree::{Constant, Declaration, Name, Seq, TypeNode};
+use c_tree::{Box, Constant, Declaration, Name, Seq};
 use std::alloc::{AllocError, Global};
 
 /// One list and another behind it.
@@ -35,15 +36,16 @@ pub fn declaration(
     tokens: &mut Tokens<'_>,
     depth: usize,
     naming: Naming,
-    ty: TypeNode,
+    base: SpecifierType,
 ) -> Result<Declaration, Fault>
-    ensures { Answers (model.declaration scope.now depth naming ty tokens.old) result tokens.new }
+    ensures { Answers (model.declaration scope.now depth naming base tokens.old) result tokens.new }
 {
+    let base = Box::new(alloc, base)?;
     let Declarator { name, shapes } = declarator(alloc, scope, tokens, depth, naming)?;
     let Some(named) = name else {
         return Err(Fault::Refused);
     };
-    let ty = with_shapes(alloc, shapes, ty)?;
+    let ty = with_shapes(alloc, shapes, Box::into_inner(base).into_type())?;
     Ok(Declaration {
         at: named.at,
         name: named.name,
@@ -124,10 +126,10 @@ fn member_declarators(
         tokens.new }
 {
     let mut found = Seq::new(alloc);
-    let mut ty = base;
+    let mut ty = Box::new(alloc, base)?;
     for _turn in 0..tokens.left() {
-        let bare = ty.bare()?;
-        let first = ty.into_type();
+        let bare = Box::new(alloc, ty.bare()?)?;
+        let first = Box::into_inner(ty);
         found.push(declaration(alloc, scope, tokens, depth, Naming::Member, first)?)?;
         ty = bare;
         if !tokens.sees(Punct::Comma) {
@@ -152,8 +154,7 @@ fn member(
 {
     let base = specifier(alloc, scope, tokens, depth)?;
     let found = member_declarators(alloc, scope, tokens, depth, base)?;
-    tokens.expect(Punct::Semicolon)?;
-    Ok(found)
+    close(tokens, Punct::Semicolon, found)
 }
 
 /// Reads the declarations of members, one or more, up to the brace that closes them.

@@ -6,6 +6,7 @@
 #![tactic(auto)]
 
 mod braces;
+mod endings;
 mod statements;
 
 pub use braces::{append, declaration, specifier};

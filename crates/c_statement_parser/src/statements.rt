@@ -8,10 +8,11 @@ ghost use Rattle.c_grammar.specs.ParseStatements as model;
 ghost use Rattle.c_expression_parser.specs.Answers.{Answers};
 
 use crate::braces::declaration;
+use crate::endings::close;
 use c_expression_parser::{Fault, Scope, SpecifierType, Tokens, expr, plain, whole};
 use c_grammar::{Head, Naming, head_of, levels};
 use c_lexer::{Keyword, Punct};
-use c_tree::{Box, Expr, ForFirst, Label, Local, Section, Seq, Stmt, TypeNode};
+use c_tree::{Box, Expr, ForFirst, Label, Local, Section, Seq, Stmt};
 use std::alloc::{AllocError, Global};
 
 /// Reads a declarator in a block, behind its type, and its initialiser.
@@ -21,21 +22,22 @@ fn local(
     scope: &Scope,
     tokens: &mut Tokens<'_>,
     depth: usize,
-    ty: TypeNode,
+    base: SpecifierType,
 ) -> Result<Local, Fault>
-    ensures { Answers (model.local scope.now depth ty tokens.old) result tokens.new }
+    ensures { Answers (model.local scope.now depth base tokens.old) result tokens.new }
 {
-    let declaration = declaration(alloc, scope, tokens, depth, Naming::Required, ty)?;
+    let declaration = declaration(alloc, scope, tokens, depth, Naming::Required, base)?;
     if !tokens.sees(Punct::Assign) {
         return Ok(Local {
             declaration,
             init: None,
         });
     }
+    let declaration = Box::new(alloc, declaration)?;
     tokens.take();
     let init = expr(alloc, scope, tokens, depth, levels::ASSIGNMENT)?;
     Ok(Local {
-        declaration,
+        declaration: Box::into_inner(declaration),
         init: Some(init),
     })
 }
@@ -47,16 +49,15 @@ fn locals(
     scope: &Scope,
     tokens: &mut Tokens<'_>,
     depth: usize,
-    base: SpecifierType,
+    base: &SpecifierType,
 ) -> Result<Seq<Local>, Fault>
-    requires { bare base ≡ base }
-    ensures { Answers (list_from (model.local scope.now depth base) (length tokens.old) [] tokens.old) result
+    requires { bare base.now ≡ base.now }
+    ensures { Answers (list_from (model.local scope.now depth base.now) (length tokens.old) [] tokens.old) result
         tokens.new }
 {
     let mut found = Seq::new(alloc);
     for _turn in 0..tokens.left() {
-        let ty = base.bare()?.into_type();
-        found.push(local(alloc, scope, tokens, depth, ty)?)?;
+        found.push(local(alloc, scope, tokens, depth, base.bare()?)?)?;
         if !tokens.sees(Punct::Comma) {
             return Ok(found);
         }
@@ -75,10 +76,9 @@ fn line(
 ) -> Result<Seq<Local>, Fault>
     ensures { Answers (model.line scope.now depth tokens.old) result tokens.new }
 {
-    let base = plain(alloc, scope, tokens)?;
-    let found = locals(alloc, scope, tokens, depth, base)?;
-    tokens.expect(Punct::Semicolon)?;
-    Ok(found)
+    let base = Box::new(alloc, plain(alloc, scope, tokens)?)?;
+    let found = locals(alloc, scope, tokens, depth, &base)?;
+    close(tokens, Punct::Semicolon, found)
 }
 
 /// Reads an expression that is missing where this punctuator stands.
@@ -98,20 +98,19 @@ fn optional(
     Ok(Some(whole(alloc, scope, tokens, depth)?))
 }
 
-/// Reads an expression in brackets.
+/// Reads an expression in brackets. It is in a box, so that what waits for it to be used is small.
 #[tactic(auto, unfolding(c_grammar::specs::ParseStatements::condition))]
 fn condition(
     alloc: Global,
     scope: &Scope,
     tokens: &mut Tokens<'_>,
     depth: usize,
-) -> Result<Expr, Fault>
+) -> Result<Box<Expr>, Fault>
     ensures { Answers (model.condition scope.now depth tokens.old) result tokens.new }
 {
     tokens.expect(Punct::LeftParen)?;
-    let found = whole(alloc, scope, tokens, depth)?;
-    tokens.expect(Punct::RightParen)?;
-    Ok(found)
+    let found = Box::new(alloc, whole(alloc, scope, tokens, depth)?)?;
+    close(tokens, Punct::RightParen, found)
 }
 
 /// Reads the first part of a `for`, where it is an expression.
@@ -125,8 +124,7 @@ fn first_value(
     ensures { Answers (model.first_value scope.now depth tokens.old) result tokens.new }
 {
     let found = whole(alloc, scope, tokens, depth)?;
-    tokens.expect(Punct::Semicolon)?;
-    Ok(ForFirst::Value(found))
+    close(tokens, Punct::Semicolon, ForFirst::Value(found))
 }
 
 /// Reads the first part of a `for`, up to the semicolon behind it.
@@ -161,8 +159,7 @@ fn case_label(
     ensures { Answers (model.case_label scope.now depth at tokens.old) result tokens.new }
 {
     let value = expr(alloc, scope, tokens, depth, levels::CONDITIONAL)?;
-    tokens.expect(Punct::Colon)?;
-    Ok(Label::Case { at, value })
+    close(tokens, Punct::Colon, Label::Case { at, value })
 }
 
 /// Reads a label of a `switch`.
@@ -181,8 +178,7 @@ fn label(
         return case_label(alloc, scope, tokens, depth, at);
     }
     tokens.expect_word(Keyword::Default)?;
-    tokens.expect(Punct::Colon)?;
-    Ok(Label::Default { at })
+    close(tokens, Punct::Colon, Label::Default { at })
 }
 
 /// Reads the value of a `return` behind its word, up to the semicolon behind it.
@@ -197,8 +193,7 @@ fn return_behind(
     ensures { Answers (model.return scope.now depth at tokens.old) result tokens.new }
 {
     let value = optional(alloc, scope, tokens, depth, Punct::Semicolon)?;
-    tokens.expect(Punct::Semicolon)?;
-    Ok(Stmt::Return { at, value })
+    close(tokens, Punct::Semicolon, Stmt::Return { at, value })
 }
 
 /// Reads an expression as a statement.
@@ -212,8 +207,7 @@ fn expression_statement(
     ensures { Answers (model.value scope.now depth tokens.old) result tokens.new }
 {
     let found = whole(alloc, scope, tokens, depth)?;
-    tokens.expect(Punct::Semicolon)?;
-    Ok(Stmt::Expression(found))
+    close(tokens, Punct::Semicolon, Stmt::Expression(found))
 }
 
 /// Whether the statements under a label end here.
@@ -303,9 +297,12 @@ fn section(
 ) -> Result<Section, Fault>
     ensures { Answers (model.section scope.now depth (model.stmt scope.now inner) tokens.old) result tokens.new }
 {
-    let label = label(alloc, scope, tokens, depth)?;
+    let label = Box::new(alloc, label(alloc, scope, tokens, depth)?)?;
     let statements = stmts(alloc, scope, tokens, depth, inner)?;
-    Ok(Section { label, statements })
+    Ok(Section {
+        label: Box::into_inner(label),
+        statements,
+    })
 }
 
 /// Reads the sections of a `switch` behind the brace, and the brace that closes them.
@@ -341,7 +338,7 @@ fn alternative(
     tokens: &mut Tokens<'_>,
     depth: usize,
     inner: usize,
-    condition: Expr,
+    condition: Box<Expr>,
     then: Box<Stmt>,
 ) -> Result<Stmt, Fault>
     ensures { Answers (model.alternative scope.now depth (model.stmt scope.now inner) condition then
@@ -349,7 +346,7 @@ fn alternative(
 {
     if !tokens.sees_word(Keyword::Else) {
         return Ok(Stmt::If {
-            condition,
+            condition: Box::into_inner(condition),
             then,
             otherwise: None,
         });
@@ -357,7 +354,7 @@ fn alternative(
     tokens.take();
     let otherwise = Box::new(alloc, stmt(alloc, scope, tokens, inner)?)?;
     Ok(Stmt::If {
-        condition,
+        condition: Box::into_inner(condition),
         then,
         otherwise: Some(otherwise),
     })
@@ -394,7 +391,10 @@ fn while_loop(
 {
     let condition = condition(alloc, scope, tokens, depth)?;
     let body = Box::new(alloc, stmt(alloc, scope, tokens, inner)?)?;
-    Ok(Stmt::While { condition, body })
+    Ok(Stmt::While {
+        condition: Box::into_inner(condition),
+        body,
+    })
 }
 
 /// Reads a `do` behind its word.
@@ -411,9 +411,8 @@ fn do_loop(
 {
     let body = Box::new(alloc, stmt(alloc, scope, tokens, inner)?)?;
     tokens.expect_word(Keyword::While)?;
-    let condition = condition(alloc, scope, tokens, depth)?;
-    tokens.expect(Punct::Semicolon)?;
-    Ok(Stmt::Do { body, condition })
+    let condition = Box::into_inner(condition(alloc, scope, tokens, depth)?);
+    close(tokens, Punct::Semicolon, Stmt::Do { body, condition })
 }
 
 /// Reads a `for` behind its word.
@@ -458,7 +457,10 @@ fn switch(
     let operand = condition(alloc, scope, tokens, depth)?;
     tokens.expect(Punct::LeftBrace)?;
     let sections = sections(alloc, scope, tokens, depth, inner)?;
-    Ok(Stmt::Switch { operand, sections })
+    Ok(Stmt::Switch {
+        operand: Box::into_inner(operand),
+        sections,
+    })
 }
 
 /// Reads a statement. The depth bounds how deep it goes: as much as there are tokens is enough.
@@ -495,14 +497,8 @@ pub fn stmt(
         Head::Do => do_loop(alloc, scope, tokens, depth, inner),
         Head::For => for_loop(alloc, scope, tokens, depth, inner),
         Head::Switch => switch(alloc, scope, tokens, depth, inner),
-        Head::Break => {
-            tokens.expect(Punct::Semicolon)?;
-            Ok(Stmt::Break { at })
-        }
-        Head::Continue => {
-            tokens.expect(Punct::Semicolon)?;
-            Ok(Stmt::Continue { at })
-        }
+        Head::Break => { close(tokens, Punct::Semicolon, Stmt::Break { at }) }
+        Head::Continue => { close(tokens, Punct::Semicolon, Stmt::Continue { at }) }
         Head::Return => return_behind(alloc, scope, tokens, depth, at),
         Head::Other => expression_statement(alloc, scope, tokens, depth),
     }

@@ -1,6 +1,5 @@
 -- What a turn of the loops over declarators reads.
-use Rattle.std.specs.Prelude.{ℕ, List, Option}
-use Rattle.c_lexer.specs.Pieces.{Lexeme}
+use Rattle.std.specs.Prelude.{ℕ, Option}
 use Rattle.c_tree.specs.declared.types.TypeNode.{TypeNode}
 use Rattle.c_tree.specs.declared.declarations.Storage.{Storage}
 use Rattle.c_tree.specs.declared.declarations.External.{External}
