@@ -23,7 +23,7 @@ fn image_with_zeros(words: Vec<u32>, bytes: Vec<u8>, zeros: u32, entry: u32) -> 
     ensure!(words.len() <= MOST_WORDS, "too many words");
     ensure!(bytes.len() <= MOST_BYTES, "too many bytes");
     ensure!(
-        (zeros as usize) <= MOST_BYTES - bytes.len(),
+        bytes.len() + (zeros as usize) <= MOST_BYTES,
         "too many zeros"
     );
     ensure!((entry as usize) < words.len(), "the entry is no word");
