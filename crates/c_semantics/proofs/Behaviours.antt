@@ -1,5 +1,5 @@
 -- The laws of whole runs.
-use Rattle.std.proofs.Common.{◌≡◌, ◌≢◌, ℕ, suc, ◌+◌, ◌≤◌, List, [], Option, Some, None, refl, sym, ap, ◌∙◌, subst, arith}
+use Rattle.std.proofs.Common.{◌≡◌, ◌<◌, ◌≢◌, ℕ, suc, ◌+◌, ◌≤◌, List, [], Option, Some, None, refl, sym, ap, ◌∙◌, subst, arith}
 use Rattle.std.specs.Prelude.{slice_get}
 use Rattle.mem_model.specs.declared.value.Value.{Value}
 use Rattle.mem_model.specs.declared.value.Value.TheVariants.{Word, Address, Unset}
@@ -13,7 +13,7 @@ use Rattle.c_mean.specs.Behaviour.{Behaviour, output_of}
 use Rattle.c_semantics.specs.Runs.{State}
 use Rattle.c_semantics.specs.Executes.{Flow, Goes, Breaks, Continues, Returns, level, entered, left}
 use Rattle.c_semantics.specs.Behaves.{world_of, status_of, ended_by, ending_of, run_of, main_of, run, rooms_of, behaviour_of, behave_c}
-use Rattle.c_semantics.specs.Laws.{EndingsStay, OutputsGrow, PeaksRise, OneEnding}
+use Rattle.c_semantics.specs.Laws.{EndingsStay, OutputsGrow, PeaksRise, OneEnding, TurnsAreOne}
 use Rattle.c_semantics.proofs.Grown.{Starts, starts_same, Later, Reaches, more_turns, Grows}
 use Rattle.c_semantics.proofs.Trees.{body_grown, level_grown}
 
@@ -119,3 +119,9 @@ one_ending unit input n m h g =
     let c : behave_c unit input (m + n) ≡ behave_c unit input m = endings_stay unit input m n g in
     let e : n + m ≡ m + n = omega arith in
     sym a ∙ ap (behave_c unit input) e ∙ c
+
+pub turns_are_one : TurnsAreOne
+turns_are_one unit input n m h g =
+    let not_below : n < m → ⊥ = λ lt. g.least n lt h.ends in
+    let not_above : m < n → ⊥ = λ lt. h.least m lt g.ends in
+    omega (arith, not_below, not_above)

@@ -5,3 +5,4 @@ pub mod Behaviours
 pub mod Computed
 pub mod RefinesExpr
 pub mod RefinesStmt
+pub mod RefinesUnit

@@ -47,7 +47,7 @@ gives_on c d (Ends (More w)) h g = subst (GivesAs c) g h
 pub refines_on : {A : Type 0} {c d e : Run A} → RunRefines c d → RunRefines d e → RunRefines c e
 refines_on {c = c} {d = d} {e = e} h g = record { by = λ s. gives_on (c s) (d s) (e s) (h.by s) (g.by s) }
 
-gives_then : {A B : Type 0} (c d : Evaluation A State) (k l : A → Run B) → GivesAs c d → ((a : A) → RunRefines (k a) (l a)) → GivesAs (and_then c k) (and_then d l)
+pub gives_then : {A B : Type 0} (c d : Evaluation A State) (k l : A → Run B) → GivesAs c d → ((a : A) → RunRefines (k a) (l a)) → GivesAs (and_then c k) (and_then d l)
 gives_then c (Gives a s) k l h g = subst (λ x. GivesAs (and_then x k) (l a s)) (sym h) ((g a).by s)
 gives_then c (Ends (Done w status)) k l h g = ap (λ x. and_then x k) h
 gives_then c (Ends (Trap w code)) k l h g = ap (λ x. and_then x k) h
@@ -66,7 +66,7 @@ choose_refines h g false = g
 then_same : {A B : Type 0} {c d : Run A} (k : A → Run B) → RunRefines c d → RunRefines (c >>= k) (d >>= k)
 then_same k h = bind h (λ a. same)
 
-converted_refines : (from to : PlainType) {c d : Run Value} {p q : Run Place} → RunRefines c d → RunRefines p q → RunRefines (converted_from from to c p) (converted_from from to d q)
+pub converted_refines : (from to : PlainType) {c d : Run Value} {p q : Run Place} → RunRefines c d → RunRefines p q → RunRefines (converted_from from to c p) (converted_from from to d q)
 converted_refines Void to h g = then_same _ h
 converted_refines (Int n s) to h g = then_same _ h
 converted_refines (Pointer t) to h g = then_same _ h
@@ -75,7 +75,7 @@ converted_refines (Struct n) to h g = then_same _ h
 
 -- ---- locals
 
-object_refines : {A : Type 0} (size k : ℕ) {c d : Scope → Run A} (scope : Scope) → ((inner : Scope) → RunRefines (c inner) (d inner))
+pub object_refines : {A : Type 0} (size k : ℕ) {c d : Scope → Run A} (scope : Scope) → ((inner : Scope) → RunRefines (c inner) (d inner))
     → RunRefines (with_local_object size k c scope) (with_local_object size k d scope)
 object_refines size k {c = c} {d = d} scope h = record {
   by = λ s.

@@ -53,13 +53,13 @@ module _ (ds : List StructDef) (ls : List Local) (f : Functions) where
   returned_refines scope r.missing = same
   returned_refines scope (r.present h) = bind (bind ((within_refines h).value ds ls f scope) (λ v. same)) (λ v. same)
 
-after_refines : {c d : Run Flow} → RunRefines c d → (flow : Flow) → RunRefines (after_body c flow) (after_body d flow)
+pub after_refines : {c d : Run Flow} → RunRefines c d → (flow : Flow) → RunRefines (after_body c flow) (after_body d flow)
 after_refines h Goes = h
 after_refines h Continues = h
 after_refines h Breaks = same
 after_refines h (Returns v) = same
 
-next_refines : {c d : Run Flow} → RunRefines c d → (flow : Flow) → RunRefines (and_next c flow) (and_next d flow)
+pub next_refines : {c d : Run Flow} → RunRefines c d → (flow : Flow) → RunRefines (and_next c flow) (and_next d flow)
 next_refines h Goes = h
 next_refines h Continues = same
 next_refines h Breaks = same

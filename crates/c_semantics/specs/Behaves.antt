@@ -1,6 +1,5 @@
 -- The behaviour of a unit (C99 5.1.2.3): the run of `main` on an input within a number of turns.
-use Rattle.std.specs.Prelude.{ℕ, suc, ◌%◌, List, [], map, slice_get, Option, Some, None}
-use Rattle.std.specs.List.{position_or_len}
+use Rattle.std.specs.Prelude.{ℕ, suc, ◌%◌, List, [], map, slice_get, Option, Some, None, ◌∷◌, if◌then◌else◌, ◌<◌}
 use Rattle.mem_model.specs.declared.value.Value.{Value}
 use Rattle.mem_model.specs.declared.value.Value.TheVariants.{Word, Address, Unset}
 use Rattle.mem_model.specs.Memory.{Memory}
@@ -45,8 +44,13 @@ run_of unit rooms n (Some f) w turns =
     (body_of unit.structs (level unit rooms (suc turns)) n f []
     (record { registers = λ k. Unset; world = entered rooms n w }))
 
+-- how many functions stand before `main`
+abbrev pub place_of_main : List TypedFn → ℕ
+place_of_main [] = 0
+place_of_main (f ∷ fs) = if is_main f then 0 else suc (place_of_main fs)
+
 abbrev pub main_of : TypedUnit → ℕ
-main_of unit = position_or_len is_main unit.functions
+main_of unit = place_of_main unit.functions
 
 -- the run of `main` with a list of rooms
 abbrev pub run : TypedUnit → Rooms → (input : List ℕ) → (turns : ℕ) → Ending
@@ -72,3 +76,15 @@ peak unit input turns = ending_peak (run unit (rooms_of unit) input turns)
 
 abbrev pub meaning : TypedUnit → Meaning
 meaning unit = record { behave = behave_c unit; peak = peak unit }
+
+-- the run ended with a status or a trap
+abbrev pub IsEnded : Behaviour → Type 0
+IsEnded (Done output status) = Unit {0}
+IsEnded (Trap output code) = Unit {0}
+IsEnded Undefined = ⊥
+IsEnded (More output) = ⊥
+
+-- the turns that a unit takes on an input: the least number within which it ends
+pub record IsTurns (unit : TypedUnit) (input : List ℕ) (turns : ℕ) : Type 0 where
+  pub ends : IsEnded (behave_c unit input turns)
+  pub least : (fewer : ℕ) → fewer < turns → IsEnded (behave_c unit input fewer) → ⊥

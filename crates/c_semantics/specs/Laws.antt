@@ -5,7 +5,7 @@ use Rattle.mem_model.specs.Ending.{ending_peak}
 use Rattle.c_typed_tree.specs.declared.units.TypedUnit.{TypedUnit}
 use Rattle.c_mean.specs.Behaviour as b
 use Rattle.c_mean.specs.Behaviour.{Behaviour, output_of}
-use Rattle.c_semantics.specs.Behaves.{run, behave_c}
+use Rattle.c_semantics.specs.Behaves.{run, behave_c, IsTurns}
 
 -- an ending, or being undefined, is the same with more turns
 abbrev pub EndingsStay : Type 0
@@ -31,3 +31,8 @@ OneEnding =
     (unit : TypedUnit) (input : List ℕ) (n m : ℕ) →
     ((output : List ℕ) → behave_c unit input n ≢ b.More output) →
     ((output : List ℕ) → behave_c unit input m ≢ b.More output) → behave_c unit input n ≡ behave_c unit input m
+
+-- a unit takes one number of turns on an input
+abbrev pub TurnsAreOne : Type 0
+TurnsAreOne =
+    (unit : TypedUnit) (input : List ℕ) (n m : ℕ) → IsTurns unit input n → IsTurns unit input m → n ≡ m

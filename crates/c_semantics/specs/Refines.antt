@@ -3,7 +3,7 @@
 -- rooms.
 use Rattle.std.specs.Prelude.{◌≡◌, ℕ, List, [], ◌∷◌, Option, Some, None}
 use Rattle.mem_model.specs.World.{Rooms}
-use Rattle.mem_model.specs.Ending.{GivesAs}
+use Rattle.mem_model.specs.Ending.{Ending, Done, Trap, Undefined, More, GivesAs}
 use Rattle.c_tree.specs.declared.expressions.UnaryOp.{UnaryOp}
 use Rattle.c_tree.specs.declared.expressions.BinaryOp.{BinaryOp}
 use Rattle.c_tree.specs.declared.expressions.AssignOp.{AssignOp}
@@ -23,6 +23,7 @@ use Rattle.c_semantics.specs.Runs.{State, Run}
 use Rattle.c_semantics.specs.Objects.{Scope}
 use Rattle.c_semantics.specs.Evaluates.{Functions, eval, place}
 use Rattle.c_semantics.specs.Executes.{declared_by, level}
+use Rattle.c_semantics.specs.Behaves.{run}
 
 -- the one run is the other, from every state, unless that is undefined
 pub record RunRefines {A : Type 0} (c b : Run A) : Type 0 where
@@ -48,6 +49,30 @@ pub record FnRefines (f g : TypedFn) : Type 0 where
   pub params : f.params ≡ g.params
   pub locals : f.locals ≡ g.locals
   pub body : StmtRefines (stmt_view f.body) (stmt_view g.body)
+
+-- functions by number, each refining its own
+pub data FnsRefine : List TypedFn → List TypedFn → Type 0 where
+  no_function : FnsRefine [] []
+  one_function : {f g : TypedFn} {fs gs : List TypedFn} → FnRefines f g → FnsRefine fs gs
+      → FnsRefine (f ∷ fs) (g ∷ gs)
+
+-- the unit with other functions
+abbrev pub with_functions : TypedUnit → List TypedFn → TypedUnit
+with_functions unit fs = record { structs = unit.structs; globals = unit.globals; functions = fs }
+
+-- the one ending is the other, unless that is undefined
+abbrev pub EndingRefines : Ending → Ending → Type 0
+EndingRefines e (Undefined w at) = Unit {0}
+EndingRefines e (Done w status) = e ≡ Done w status
+EndingRefines e (Trap w code) = e ≡ Trap w code
+EndingRefines e (More w) = e ≡ More w
+
+-- refined functions refine the run of a unit, for every list of rooms, input and number of turns
+abbrev pub UnitsRefine : Type 0
+UnitsRefine =
+    (unit : TypedUnit) (gs : List TypedFn) → FnsRefine unit.functions gs
+    → (rooms : Rooms) (input : List ℕ) (turns : ℕ) →
+    EndingRefines (run unit rooms input turns) (run (with_functions unit gs) rooms input turns)
 
 -- ---- expressions with a refinement within
 

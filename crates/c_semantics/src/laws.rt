@@ -2,13 +2,14 @@
 
 ghost use Rattle.c_typed_tree.specs.Expressions.{Expr};
 ghost use Rattle.c_typed_tree.specs.Statements.{Stmt};
-ghost use Rattle.c_semantics.specs.Laws.{EndingsStay, OutputsGrow, PeaksRise, OneEnding};
-ghost use Rattle.c_semantics.specs.Refines.{ExprRefines, ExprWithin, StmtRefines, StmtWithin};
+ghost use Rattle.c_semantics.specs.Laws.{EndingsStay, OutputsGrow, PeaksRise, OneEnding, TurnsAreOne};
+ghost use Rattle.c_semantics.specs.Refines.{ExprRefines, ExprWithin, StmtRefines, StmtWithin, UnitsRefine};
 
 /// An ending stays with more turns, so a run has one at most.
 pub fn endings_stay()
     ensures more { EndingsStay }
     ensures one { OneEnding }
+    ensures turns { TurnsAreOne }
 {}
 
 /// What is written within some turns is a front of what is written within more.
@@ -21,9 +22,11 @@ pub fn peaks_rise()
     ensures { PeaksRise }
 {}
 
-/// A refinement in the place of a part refines the whole expression, and the whole statement.
-#[tactic(auto, using(crate::proofs::RefinesExpr::within_refines, crate::proofs::RefinesStmt::stmt_refines))]
+/// A refinement in the place of a part refines the whole expression and the whole statement, and refined functions
+/// refine the unit.
+#[tactic(auto, using(crate::proofs::RefinesExpr::within_refines, crate::proofs::RefinesStmt::stmt_refines, crate::proofs::RefinesUnit::unit_refines))]
 pub fn refinements_go_through()
     ensures expressions { (x y : Expr) → ExprWithin x y → ExprRefines x y }
     ensures statements { (s t : Stmt) → StmtWithin s t → StmtRefines s t }
+    ensures units { UnitsRefine }
 {}
