@@ -1,0 +1,73 @@
+//! The blocks that may follow a block.
+
+ghost use Rattle.std.specs.Prelude.{◌≡◌, ◌+◌, ◌^◌, ◌<◌, length, Some, IfOk};
+ghost use Rattle.suifvm_ir.specs.Functions.{successors_after, successors_of};
+ghost use Rattle.cfg.specs.Edges.{successors_from};
+
+use c_tree::Seq;
+use pass_core::Insn;
+use std::alloc::{AllocError, Global};
+use suifvm_ir::block::Block;
+
+/// The targets of an instruction. It gives up where there are more than numbers of 32 bits count.
+#[tactic(auto, using(crate::proofs::Lists::take_found, crate::proofs::Lists::take_past))]
+fn target_list<I: Insn>(alloc: Global, insn: &I) -> Result<Seq<u32>, AllocError>
+    ensures { IfOk result (λ found. found ≡ I.targets insn.now) }
+{
+    let mut found = Seq::new(alloc);
+    for k in 0..u32::MAX {
+        match insn.target_at(k) {
+            None => return Ok(found),
+            Some(block) => found.push(block)?,
+        }
+    }
+    Err(AllocError)
+}
+
+/// The blocks that may follow one with this last instruction.
+fn insn_successors<I: Insn>(alloc: Global, insn: &I, number: u32) -> Result<Seq<u32>, AllocError>
+    requires { number + 1 < 2 ^ 32 }
+    ensures { IfOk result (λ followers. followers ≡ successors_after I.targets I.flows_on number (Some insn.now)) }
+{
+    let mut followers = target_list(alloc, insn)?;
+    if insn.goes_on() {
+        followers.push(number + 1)?;
+    }
+    Ok(followers)
+}
+
+/// The blocks that may follow a block with this number.
+fn block_successors<I: Insn>(
+    alloc: Global,
+    block: &Block<I>,
+    number: u32,
+) -> Result<Seq<u32>, AllocError>
+    requires { number + 1 < 2 ^ 32 }
+    ensures { IfOk result (λ followers. followers ≡ successors_of I.targets I.flows_on number block.now) }
+{
+    let insns = &block.insns;
+    match insns.last() {
+        None => {
+            let mut followers = Seq::new(alloc);
+            followers.push(number + 1)?;
+            Ok(followers)
+        }
+        Some(id) => insn_successors(alloc, insns.get(id), number),
+    }
+}
+
+/// The blocks that may follow each block.
+pub(crate) fn successor_lists<I: Insn>(
+    alloc: Global,
+    blocks: &[Block<I>],
+) -> Result<Seq<Seq<u32>>, AllocError>
+    requires { length blocks.now < 2 ^ 30 }
+    ensures { IfOk result (λ lists. lists ≡ successors_from I.targets I.flows_on 0 blocks.now) }
+{
+    let mut lists = Seq::new(alloc);
+    for (number, block) in blocks.iter().enumerate() {
+        let followers = block_successors(alloc, block, number as u32)?;
+        lists.push(followers)?;
+    }
+    Ok(lists)
+}
