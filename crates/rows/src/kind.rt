@@ -1,7 +1,8 @@
 //! The kinds of rows, each with its file.
 
 use crate::{
-    calls, encodings, integers, lists, memory, outcomes, places, runs, steps, tokens, trees,
+    calls, divisions, encodings, integers, lists, memory, outcomes, places, runs, steps, tokens,
+    trees,
 };
 use anyhow::Result;
 use mem_model::memory::Mem;
@@ -16,6 +17,7 @@ pub enum Kind {
     Encodings,
     Integers,
     Steps,
+    Divisions,
     Runs,
     Memory,
     Lists,
@@ -30,13 +32,14 @@ pub enum Kind {
 }
 
 /// The kinds in the order in which they are checked.
-pub static KINDS: [Kind; 17] = [
+pub static KINDS: [Kind; 18] = [
     Kind::Tokens,
     Kind::TokenKinds,
     Kind::MarkPairs,
     Kind::Encodings,
     Kind::Integers,
     Kind::Steps,
+    Kind::Divisions,
     Kind::Runs,
     Kind::Memory,
     Kind::Lists,
@@ -60,6 +63,7 @@ impl Kind {
             Kind::Encodings => "encodings.rows",
             Kind::Integers => "integers.rows",
             Kind::Steps => "steps.rows",
+            Kind::Divisions => "divisions.rows",
             Kind::Runs => "runs.rows",
             Kind::Memory => "memory.rows",
             Kind::Lists => "lists.rows",
@@ -82,6 +86,7 @@ impl Kind {
             Kind::Encodings => encodings::instruction(alloc, given),
             Kind::Integers => integers::answer(alloc, given),
             Kind::Steps => steps::answer(alloc, given),
+            Kind::Divisions => divisions::answer(alloc, given),
             Kind::Runs => runs::answer(alloc, given),
             Kind::Memory => memory::answer(alloc, mem, given),
             Kind::Lists => lists::answer(alloc, given),

@@ -4,6 +4,7 @@
 #![tactic(auto)]
 
 mod calls;
+mod divisions;
 mod encodings;
 mod escape;
 mod integers;
