@@ -1,5 +1,6 @@
 -- Lists of far branches: what grows with them, and that they stay within every list with which the others reach.
 use Rattle.std.proofs.Common.{◌≡◌, ℕ, zero, suc, ◌+◌, ◌<◌, ◌≤◌, Bool, true, false, List, [], ◌∷◌, length, get_or, refl, sym, ◌∙◌, ap, subst, arith, ◌-◌}
+use native.Mathlib.Numerals.{unary_clauses}
 use Rattle.alpha_items.specs.declared.item.AsmItem.{AsmItem}
 use Rattle.alpha_items.specs.declared.item.AsmItem.TheVariants.{Label, Name, Plain, Branch, TextAddress, DataAddress}
 use Rattle.alpha_isa.specs.declared.insn.BranchOp.{BranchOp}
@@ -71,3 +72,18 @@ gap_grows items far other e f within i j h =
     let grown = part_grows (sizes items far) (sizes items other) (sizes_grow items far other e f within) i n in
     let P : ℕ → Type 0 = λ m. place items far m + place items other i ≤ place items other m + place items far i in
     subst P at grown
+
+-- places rise
+place_rises : (items : List AsmItem) (far : List Bool) (k n : ℕ) → place items far k ≤ place items far (k + n)
+place_rises items far k zero = simp unary_clauses (omega arith)
+place_rises items far k (suc n) =
+    let before = place_rises items far k n in
+    let more = sum-more (sizes items far) (k + n) in
+    simp unary_clauses (omega (arith, before, more))
+
+pub place_mono : (items : List AsmItem) (far : List Bool) (i j : ℕ) → i ≤ j → place items far i ≤ place items far j
+place_mono items far i j h =
+    let n : ℕ = j - i in
+    let at : i + n ≡ j = omega (arith, h) in
+    let P : ℕ → Type 0 = λ m. place items far i ≤ place items far m in
+    subst P at (place_rises items far i n)

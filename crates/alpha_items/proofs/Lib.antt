@@ -3,3 +3,4 @@ pub mod Reach
 pub mod Far
 pub mod Forced
 pub mod Unique
+pub mod Exists

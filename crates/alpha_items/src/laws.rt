@@ -13,3 +13,8 @@ pub fn assembly_is_unique()
         IsLeastFar items far → IsLeastFar items other → far ≡ other }
     ensures image { (a : Assembly) (p q : Program) → Words a p → Words a q → p ≡ q }
 {}
+
+/// Each text has a least list of far branches.
+pub fn least_far_branches_exist()
+    ensures { (items : List AsmItem) → (far : List Bool) × IsLeastFar items far }
+{}
