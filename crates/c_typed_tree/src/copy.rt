@@ -2,7 +2,7 @@
 
 ghost use Rattle.std.specs.Prelude.{◌≡◌, IfOk};
 
-use crate::{CType, TExpr};
+use crate::{CType, TExpr, make};
 use c_tree::{Box, Seq};
 use std::alloc::{AllocError, Global};
 
@@ -33,61 +33,23 @@ pub fn copy_expr(alloc: Global, e: &TExpr) -> Result<TExpr, AllocError>
     ensures { IfOk result (λ r. r ≡ e.now) }
 {
     match e {
-        TExpr::Number { ty, value } => {
-            let ty = ty.copy(alloc)?;
-            Ok(TExpr::Number { ty, value: *value })
-        }
-        TExpr::Local { ty, number } => {
-            let ty = ty.copy(alloc)?;
-            Ok(TExpr::Local {
-                ty,
-                number: *number,
-            })
-        }
-        TExpr::Global { ty, number } => {
-            let ty = ty.copy(alloc)?;
-            Ok(TExpr::Global {
-                ty,
-                number: *number,
-            })
-        }
+        TExpr::Number { ty, value } => make::number(alloc, ty, *value),
+        TExpr::Local { ty, number } => make::local(alloc, ty, *number),
+        TExpr::Global { ty, number } => make::global(alloc, ty, *number),
         TExpr::Call {
             ty,
             callee,
             arguments,
-        } => {
-            let ty = ty.copy(alloc)?;
-            let arguments = copy_exprs(alloc, arguments)?;
-            Ok(TExpr::Call {
-                ty,
-                callee: *callee,
-                arguments,
-            })
-        }
-        TExpr::Unary { ty, op, operand } => {
-            let ty = ty.copy(alloc)?;
-            let operand = Box::new(alloc, copy_expr(alloc, operand)?)?;
-            Ok(TExpr::Unary {
-                ty,
-                op: *op,
-                operand,
-            })
-        }
+        } => make::call(alloc, ty, *callee, copy_exprs(alloc, arguments)?),
+        TExpr::Unary { ty, op, operand } => make::unary(alloc, ty, *op, boxed(alloc, operand)?),
         TExpr::Binary {
             ty,
             op,
             left,
             right,
         } => {
-            let ty = ty.copy(alloc)?;
-            let left = Box::new(alloc, copy_expr(alloc, left)?)?;
-            let right = Box::new(alloc, copy_expr(alloc, right)?)?;
-            Ok(TExpr::Binary {
-                ty,
-                op: *op,
-                left,
-                right,
-            })
+            let left = boxed(alloc, left)?;
+            make::binary(alloc, ty, *op, left, boxed(alloc, right)?)
         }
         TExpr::Assign {
             ty,
@@ -95,15 +57,8 @@ pub fn copy_expr(alloc: Global, e: &TExpr) -> Result<TExpr, AllocError>
             left,
             right,
         } => {
-            let ty = ty.copy(alloc)?;
-            let left = Box::new(alloc, copy_expr(alloc, left)?)?;
-            let right = Box::new(alloc, copy_expr(alloc, right)?)?;
-            Ok(TExpr::Assign {
-                ty,
-                op: *op,
-                left,
-                right,
-            })
+            let left = boxed(alloc, left)?;
+            make::assign(alloc, ty, *op, left, boxed(alloc, right)?)
         }
         TExpr::Conditional {
             ty,
@@ -111,74 +66,37 @@ pub fn copy_expr(alloc: Global, e: &TExpr) -> Result<TExpr, AllocError>
             holds,
             fails,
         } => {
-            let ty = ty.copy(alloc)?;
-            let condition = Box::new(alloc, copy_expr(alloc, condition)?)?;
-            let holds = Box::new(alloc, copy_expr(alloc, holds)?)?;
-            let fails = Box::new(alloc, copy_expr(alloc, fails)?)?;
-            Ok(TExpr::Conditional {
-                ty,
-                condition,
-                holds,
-                fails,
-            })
+            let condition = boxed(alloc, condition)?;
+            let holds = boxed(alloc, holds)?;
+            make::conditional(alloc, ty, condition, holds, boxed(alloc, fails)?)
         }
-        TExpr::Cast { ty, operand } => {
-            let ty = ty.copy(alloc)?;
-            let operand = Box::new(alloc, copy_expr(alloc, operand)?)?;
-            Ok(TExpr::Cast { ty, operand })
-        }
-        TExpr::Convert { ty, operand } => {
-            let ty = ty.copy(alloc)?;
-            let operand = Box::new(alloc, copy_expr(alloc, operand)?)?;
-            Ok(TExpr::Convert { ty, operand })
-        }
+        TExpr::Cast { ty, operand } => make::cast(alloc, ty, boxed(alloc, operand)?),
+        TExpr::Convert { ty, operand } => make::convert(alloc, ty, boxed(alloc, operand)?),
         TExpr::Index { ty, left, right } => {
-            let ty = ty.copy(alloc)?;
-            let left = Box::new(alloc, copy_expr(alloc, left)?)?;
-            let right = Box::new(alloc, copy_expr(alloc, right)?)?;
-            Ok(TExpr::Index { ty, left, right })
+            let left = boxed(alloc, left)?;
+            make::index(alloc, ty, left, boxed(alloc, right)?)
         }
         TExpr::Field {
             ty,
             operand,
             member,
-        } => {
-            let ty = ty.copy(alloc)?;
-            let operand = Box::new(alloc, copy_expr(alloc, operand)?)?;
-            Ok(TExpr::Field {
-                ty,
-                operand,
-                member: *member,
-            })
-        }
+        } => make::field(alloc, ty, boxed(alloc, operand)?, *member),
         TExpr::Arrow {
             ty,
             operand,
             member,
-        } => {
-            let ty = ty.copy(alloc)?;
-            let operand = Box::new(alloc, copy_expr(alloc, operand)?)?;
-            Ok(TExpr::Arrow {
-                ty,
-                operand,
-                member: *member,
-            })
-        }
-        TExpr::Postfix { ty, op, operand } => {
-            let ty = ty.copy(alloc)?;
-            let operand = Box::new(alloc, copy_expr(alloc, operand)?)?;
-            Ok(TExpr::Postfix {
-                ty,
-                op: *op,
-                operand,
-            })
-        }
-        TExpr::Comma { ty, operands } => {
-            let ty = ty.copy(alloc)?;
-            let operands = copy_exprs(alloc, operands)?;
-            Ok(TExpr::Comma { ty, operands })
-        }
+        } => make::arrow(alloc, ty, boxed(alloc, operand)?, *member),
+        TExpr::Postfix { ty, op, operand } => make::postfix(alloc, ty, *op, boxed(alloc, operand)?),
+        TExpr::Comma { ty, operands } => make::comma(alloc, ty, copy_exprs(alloc, operands)?),
     }
+}
+
+/// An equal expression in a box.
+#[cycle(copy)]
+fn boxed(alloc: Global, e: &TExpr) -> Result<Box<TExpr>, AllocError>
+    ensures { IfOk result (λ r. r ≡ e.now) }
+{
+    Box::new(alloc, copy_expr(alloc, e)?)
 }
 
 #[cycle(copy)]

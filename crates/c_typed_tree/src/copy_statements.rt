@@ -1,9 +1,10 @@
 //! Equal statements.
 
 ghost use Rattle.std.specs.Prelude.{◌≡◌, IfOk};
+ghost use Rattle.c_typed_tree.specs.declared.statements.TStmt as t;
 
 use crate::copy::{copy_expr, copy_optional};
-use crate::{TFirst, TLocal, TSection, TStmt};
+use crate::{TExpr, TFirst, TLocal, TSection, TStmt};
 use c_tree::{Box, Seq};
 use std::alloc::{AllocError, Global};
 
@@ -39,6 +40,26 @@ fn copy_first(alloc: Global, first: &TFirst) -> Result<TFirst, AllocError>
     }
 }
 
+/// A `for` with a body and equal other parts. Each part waits in a box while the others are copied.
+fn for_around(
+    alloc: Global,
+    first: &TFirst,
+    condition: &Option<TExpr>,
+    step: &Option<TExpr>,
+    body: Box<TStmt>,
+) -> Result<TStmt, AllocError>
+    ensures { IfOk result (λ r. r ≡ t.For first.now condition.now step.now body) }
+{
+    let condition = Box::new(alloc, copy_optional(alloc, condition)?)?;
+    let step = Box::new(alloc, copy_optional(alloc, step)?)?;
+    Ok(TStmt::For {
+        first: copy_first(alloc, first)?,
+        condition: Box::into_inner(condition),
+        step: Box::into_inner(step),
+        body,
+    })
+}
+
 /// An equal statement. It fails only where memory is short.
 #[cycle(statement)]
 pub fn copy_stmt(alloc: Global, statement: &TStmt) -> Result<TStmt, AllocError>
@@ -51,9 +72,9 @@ pub fn copy_stmt(alloc: Global, statement: &TStmt) -> Result<TStmt, AllocError>
             then,
             otherwise,
         } => {
-            let condition = copy_expr(alloc, condition)?;
-            let then = Box::new(alloc, copy_stmt(alloc, then)?)?;
+            let then = boxed(alloc, then)?;
             let otherwise = copy_else(alloc, otherwise)?;
+            let condition = copy_expr(alloc, condition)?;
             Ok(TStmt::If {
                 condition,
                 then,
@@ -61,12 +82,12 @@ pub fn copy_stmt(alloc: Global, statement: &TStmt) -> Result<TStmt, AllocError>
             })
         }
         TStmt::While { condition, body } => {
+            let body = boxed(alloc, body)?;
             let condition = copy_expr(alloc, condition)?;
-            let body = Box::new(alloc, copy_stmt(alloc, body)?)?;
             Ok(TStmt::While { condition, body })
         }
         TStmt::Do { body, condition } => {
-            let body = Box::new(alloc, copy_stmt(alloc, body)?)?;
+            let body = boxed(alloc, body)?;
             let condition = copy_expr(alloc, condition)?;
             Ok(TStmt::Do { body, condition })
         }
@@ -75,21 +96,10 @@ pub fn copy_stmt(alloc: Global, statement: &TStmt) -> Result<TStmt, AllocError>
             condition,
             step,
             body,
-        } => {
-            let first = copy_first(alloc, first)?;
-            let condition = copy_optional(alloc, condition)?;
-            let step = copy_optional(alloc, step)?;
-            let body = Box::new(alloc, copy_stmt(alloc, body)?)?;
-            Ok(TStmt::For {
-                first,
-                condition,
-                step,
-                body,
-            })
-        }
+        } => for_around(alloc, first, condition, step, boxed(alloc, body)?),
         TStmt::Switch { operand, sections } => {
-            let operand = copy_expr(alloc, operand)?;
             let sections = copy_sections(alloc, sections)?;
+            let operand = copy_expr(alloc, operand)?;
             Ok(TStmt::Switch { operand, sections })
         }
         TStmt::Break => Ok(TStmt::Break),
@@ -99,6 +109,14 @@ pub fn copy_stmt(alloc: Global, statement: &TStmt) -> Result<TStmt, AllocError>
         TStmt::Empty => Ok(TStmt::Empty),
         TStmt::Local(local) => Ok(TStmt::Local(copy_local(alloc, local)?)),
     }
+}
+
+/// An equal statement in a box.
+#[cycle(statement)]
+fn boxed(alloc: Global, statement: &TStmt) -> Result<Box<TStmt>, AllocError>
+    ensures { IfOk result (λ r. r ≡ statement.now) }
+{
+    Box::new(alloc, copy_stmt(alloc, statement)?)
 }
 
 #[cycle(statement)]
@@ -121,10 +139,7 @@ fn copy_else(
 {
     match otherwise {
         None => Ok(None),
-        Some(statement) => {
-            let statement = Box::new(alloc, copy_stmt(alloc, statement)?)?;
-            Ok(Some(statement))
-        }
+        Some(statement) => Ok(Some(boxed(alloc, statement)?)),
     }
 }
 

@@ -9,6 +9,7 @@ mod copy_statements;
 mod copy_units;
 pub mod expressions;
 pub mod layout;
+mod make;
 pub mod statements;
 pub mod types;
 pub mod units;
