@@ -1,5 +1,5 @@
 -- The loops: a turn more of each, and none. A turn is what the grammar's function of that name does with one more than it has left.
-use Rattle.std.proofs.Common.{◌≡◌, ℕ, suc, ◌+◌, ◌-◌, ◌<◌, ◌≤◌, List, [], ◌∷◌, ◌++◌, Ok, Err, ap, arith}
+use Rattle.std.proofs.Common.{◌≡◌, ℕ, suc, ◌+◌, ◌-◌, ◌<◌, ◌≤◌, Bool, true, false, List, [], ◌∷◌, ◌++◌, Some, None, Ok, Err, refl, sym, ap, ◌∙◌, arith}
 use Rattle.std.proofs.lemmas.Grind.{common_steps}
 use Rattle.std.specs.Prelude.{if◌then◌else◌, nat_lt}
 use Rattle.c_lexer.specs.Pieces.{Lexeme}
@@ -16,7 +16,9 @@ use Rattle.c_grammar.specs.Levels.{binding_level, operand_level, result_level}
 use Rattle.c_grammar.specs.WordSets.{basic_of}
 use Rattle.c_grammar.specs.Types.{with_shape, without_void}
 use Rattle.c_grammar.specs.Tokens.{TypeNames, is_mark, is_word, is_text, kind_at, behind, spelling_at}
-use Rattle.c_grammar.specs.Parser.{Parser, and_then, consts}
+use Rattle.c_grammar.specs.Levels as levels
+use Rattle.c_grammar.specs.Parser.{ParseOutcome, Parser, and_then, ◌>>=◌, pure, expect, consts}
+use Rattle.c_expression_parser.specs.model.Suffixes.{array_length}
 use Rattle.c_grammar.specs.ParseExpr.{texts_from, list_from, words_from, extend, start_of, word_or_end, climb, step_by, suffixes, length_of, parameters}
 
 -- a step down of a number that counts the turns left
@@ -76,12 +78,40 @@ climb_end s e d place least n at level left ts = end (λ m. climb s e d place le
 
 pub ruleset climbing = (common_steps, climb_turn, climb_end)
 
-pub suffixes_turn : (s : TypeNames) (e : ℕ → Parser Expr) (d : Naming → Parser Declarator) (n at : ℕ) (found : Declarator) (ts : List Lexeme) → at < n
-    → suffixes s e d (n - at) found ts ≡ (if is_mark p.LeftBracket (kind_at ts) then and_then (length_of s e d found (behind ts)) (suffixes s e d (n - (at + 1)))
-    else if is_mark p.LeftParen (kind_at ts) then and_then (parameters s e d (behind ts)) (λ xs. suffixes s e d (n - (at + 1)) (with_shape found (h.Takes (without_void xs))))
+-- one after another, from the left or from the right
+pub then_then : {A B C : Type 0} (o : ParseOutcome A) (f : A → Parser B) (g : B → Parser C) → and_then o (λ a r. and_then (f a r) g) ≡ and_then (and_then o f) g
+then_then (Ok p) f g = refl
+then_then (Err r) f g = refl
+
+-- the length of an array is read, and then the shape is put behind the others
+length_by : (s : TypeNames) (e : ℕ → Parser Expr) (d : Naming → Parser Declarator) (found : Declarator) (ts : List Lexeme)
+    → length_of s e d found ts ≡ and_then (array_length e ts) (λ x. pure (with_shape found (h.Array x)))
+unfolding length_of array_length
+length_by s e d found ts = by_test (is_mark p.RightBracket (kind_at ts))
+  where
+    over : (o : ParseOutcome Expr) → and_then o (λ x. expect p.RightBracket >>= λ _. pure (with_shape found (h.Array (Some x))))
+        ≡ and_then (and_then o (λ x. expect p.RightBracket >>= λ _. pure (Some x))) (λ x. pure (with_shape found (h.Array x)))
+    over (Ok q) = then_then (expect p.RightBracket q.1) (λ _. pure (Some q.0)) (λ x. pure (with_shape found (h.Array x)))
+    over (Err r) = refl
+
+    by_test : (b : Bool) → (if b then Ok (with_shape found (h.Array None), behind ts) else and_then (e levels.conditional ts) (λ x. expect p.RightBracket >>= λ _. pure (with_shape found (h.Array (Some x)))))
+        ≡ and_then (if b then Ok (None, behind ts) else and_then (e levels.conditional ts) (λ x. expect p.RightBracket >>= λ _. pure (Some x))) (λ x. pure (with_shape found (h.Array x)))
+    by_test true = refl
+    by_test false = over (e levels.conditional ts)
+
+suffixes_more : (s : TypeNames) (e : ℕ → Parser Expr) (d : Naming → Parser Declarator) (n : ℕ) (found : Declarator) (ts : List Lexeme)
+    → suffixes s e d (suc n) found ts ≡ (if is_mark p.LeftBracket (kind_at ts) then and_then (array_length e (behind ts)) (λ x. suffixes s e d n (with_shape found (h.Array x)))
+    else if is_mark p.LeftParen (kind_at ts) then and_then (parameters s e d (behind ts)) (λ xs. suffixes s e d n (with_shape found (h.Takes (without_void xs))))
     else Ok (found, ts))
 unfolding suffixes
-suffixes_turn s e d n at found ts = turn (λ m. suffixes s e d m found ts) n at
+suffixes_more s e d n found ts = ap (λ o. if is_mark p.LeftBracket (kind_at ts) then o else if is_mark p.LeftParen (kind_at ts) then and_then (parameters s e d (behind ts)) (λ xs. suffixes s e d n (with_shape found (h.Takes (without_void xs)))) else Ok (found, ts))
+    (ap (λ o. and_then o (suffixes s e d n)) (length_by s e d found (behind ts)) ∙ sym (then_then (array_length e (behind ts)) (λ x. pure (with_shape found (h.Array x))) (suffixes s e d n)))
+
+pub suffixes_turn : (s : TypeNames) (e : ℕ → Parser Expr) (d : Naming → Parser Declarator) (n at : ℕ) (found : Declarator) (ts : List Lexeme) → at < n
+    → suffixes s e d (n - at) found ts ≡ (if is_mark p.LeftBracket (kind_at ts) then and_then (array_length e (behind ts)) (λ x. suffixes s e d (n - (at + 1)) (with_shape found (h.Array x)))
+    else if is_mark p.LeftParen (kind_at ts) then and_then (parameters s e d (behind ts)) (λ xs. suffixes s e d (n - (at + 1)) (with_shape found (h.Takes (without_void xs))))
+    else Ok (found, ts))
+suffixes_turn s e d n at found ts below = turn (λ m. suffixes s e d m found ts) n at below ∙ suffixes_more s e d (n - (at + 1)) found ts
 
 pub suffixes_end : (s : TypeNames) (e : ℕ → Parser Expr) (d : Naming → Parser Declarator) (n at : ℕ) (found : Declarator) (ts : List Lexeme) → n ≤ at
     → suffixes s e d (n - at) found ts ≡ Ok (found, ts)

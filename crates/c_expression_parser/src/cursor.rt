@@ -229,6 +229,14 @@ impl<'a> Tokens<'a> {
         }
     }
 
+    /// Reads this punctuator, which ends what was found.
+    pub fn close<T: Drop>(&mut self, mark: Punct, found: T) -> Result<T, Fault>
+        ensures { Answers (model.and_then (model.expect mark self.old) (λ _. model.pure found)) result self.new }
+    {
+        self.expect(mark)?;
+        Ok(found)
+    }
+
     /// Reads this keyword.
     #[tactic(auto, unfolding(c_grammar::specs::Parser::expect_word))]
     pub fn expect_word(&mut self, word: Keyword) -> Result<(), Fault>

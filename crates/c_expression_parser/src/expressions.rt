@@ -8,6 +8,7 @@ ghost use Rattle.c_grammar.specs.ParseExpr as model;
 ghost use Rattle.c_grammar.specs.declared.classes.Infix.TheVariants as roles;
 ghost use Rattle.c_grammar.specs.declared.classes.Prefix.TheVariants as fronts;
 ghost use Rattle.c_expression_parser.specs.Answers.{Answers};
+ghost use Rattle.c_expression_parser.specs.model.Suffixes as suffixes;
 
 use crate::cursor::{Fault, Tokens};
 use crate::parts::{core_name, member, no_name, texts};
@@ -80,9 +81,9 @@ fn type_name(
         (model.declarator scope.now depth) tokens.old) result tokens.new }
 {
     let at = tokens.place();
-    let ty = plain(alloc, scope, tokens)?.into_type();
+    let base = Box::new(alloc, plain(alloc, scope, tokens)?)?;
     let found = declarator(alloc, scope, tokens, depth, Naming::Refused)?;
-    let ty = with_shapes(alloc, found.shapes, ty)?;
+    let ty = with_shapes(alloc, found.shapes, Box::into_inner(base).into_type())?;
     Ok(TypeName { at, ty })
 }
 
@@ -99,8 +100,9 @@ fn parameter(
         (model.declarator scope.now depth) tokens.old) result tokens.new }
 {
     let at = tokens.place();
-    let ty = plain(alloc, scope, tokens)?.into_type();
+    let base = Box::new(alloc, plain(alloc, scope, tokens)?)?;
     let found = declarator(alloc, scope, tokens, depth, Naming::Optional)?;
+    let ty = Box::into_inner(base).into_type();
     Ok(parameter_of(alloc, at, ty, found)?)
 }
 
@@ -144,8 +146,7 @@ fn parameters(
         return Ok(Seq::new(alloc));
     }
     let found = parameter_list(alloc, scope, tokens, depth)?;
-    tokens.expect(Punct::RightParen)?;
-    Ok(found)
+    tokens.close(Punct::RightParen, found)
 }
 
 /// Reads the arguments of a call behind the bracket, up to the one that closes it.
@@ -165,8 +166,7 @@ fn arguments(
         return Ok(Seq::new(alloc));
     }
     let found = assignments(alloc, scope, tokens, depth)?;
-    tokens.expect(Punct::RightParen)?;
-    Ok(found)
+    tokens.close(Punct::RightParen, found)
 }
 
 /// Reads what stands behind a name that is no type.
@@ -230,8 +230,7 @@ fn brackets_behind(
         (model.declarator scope.now depth) tokens.old) result tokens.new }
 {
     let found = whole(alloc, scope, tokens, depth)?;
-    tokens.expect(Punct::RightParen)?;
-    Ok((found, levels::PRIMARY))
+    tokens.close(Punct::RightParen, (found, levels::PRIMARY))
 }
 
 /// Reads the type of a `sizeof`, behind the bracket.
@@ -248,8 +247,10 @@ fn size_of_type(
         (model.declarator scope.now depth) at tokens.old) result tokens.new }
 {
     let operand = Box::new(alloc, type_name(alloc, scope, tokens, depth)?)?;
-    tokens.expect(Punct::RightParen)?;
-    Ok((Expr::SizeOfType { at, operand }, levels::UNARY))
+    tokens.close(
+        Punct::RightParen,
+        (Expr::SizeOfType { at, operand }, levels::UNARY),
+    )
 }
 
 /// Reads the operand of a `sizeof`, which is no type in brackets.
@@ -460,8 +461,7 @@ fn index(
         (model.declarator scope.now depth) roles.Index at left tokens.old) result tokens.new }
 {
     let right = Box::new(alloc, whole(alloc, scope, tokens, depth)?)?;
-    tokens.expect(Punct::RightBracket)?;
-    Ok(Expr::Index { at, left, right })
+    tokens.close(Punct::RightBracket, Expr::Index { at, left, right })
 }
 
 /// Reads the right operand behind an operator between two, which groups to the left.
@@ -597,24 +597,21 @@ pub fn expr(
 
 /// Reads the length of an array behind its bracket, up to the one that closes it.
 #[cycle(expr)]
-#[tactic(auto, unfolding(c_grammar::specs::ParseExpr::length_of))]
-fn length_of(
+#[tactic(auto, unfolding(crate::specs::model::Suffixes::array_length))]
+fn array_length(
     alloc: Global,
     scope: &Scope,
     tokens: &mut Tokens<'_>,
     depth: usize,
-    found: Declarator,
-) -> Result<Declarator, Fault>
-    ensures { Answers (model.length_of scope.now (model.expr scope.now depth)
-        (model.declarator scope.now depth) found tokens.old) result tokens.new }
+) -> Result<Option<Expr>, Fault>
+    ensures { Answers (suffixes.array_length (model.expr scope.now depth) tokens.old) result tokens.new }
 {
     if tokens.sees(Punct::RightBracket) {
         tokens.take();
-        return Ok(with_shape(found, Shape::Array(None))?);
+        return Ok(None);
     }
     let length = expr(alloc, scope, tokens, depth, levels::CONDITIONAL)?;
-    tokens.expect(Punct::RightBracket)?;
-    Ok(with_shape(found, Shape::Array(Some(length)))?)
+    tokens.close(Punct::RightBracket, Some(length))
 }
 
 /// Reads the brackets behind a declarator.
@@ -633,7 +630,8 @@ fn suffixes(
     for _turn in 0..tokens.left() {
         if tokens.sees(Punct::LeftBracket) {
             tokens.take();
-            found = length_of(alloc, scope, tokens, depth, found)?;
+            let length = array_length(alloc, scope, tokens, depth)?;
+            found = with_shape(found, Shape::Array(length))?;
         } else if tokens.sees(Punct::LeftParen) {
             tokens.take();
             let parameters = parameters(alloc, scope, tokens, depth)?;
@@ -659,8 +657,7 @@ fn group_behind(
         (model.declarator scope.now depth) naming tokens.old) result tokens.new }
 {
     let found = pointer_declarator(alloc, scope, tokens, depth, naming)?;
-    tokens.expect(Punct::RightParen)?;
-    Ok(found)
+    tokens.close(Punct::RightParen, found)
 }
 
 /// Reads a declarator without its stars and the brackets behind it.

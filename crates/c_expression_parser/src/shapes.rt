@@ -38,23 +38,34 @@ pub fn with_shape(mut found: Declarator, shape: Shape) -> Result<Declarator, All
     Ok(found)
 }
 
+/// Both in boxes of their own.
+fn boxes<A: Drop, B: Drop>(alloc: Global, a: A, b: B) -> Result<(Box<A>, Box<B>), AllocError>
+    ensures { IfOk result (λ both. (both.0 ≡ a) × (both.1 ≡ b)) }
+{
+    let a = Box::new(alloc, a)?;
+    let b = Box::new(alloc, b)?;
+    Ok((a, b))
+}
+
 /// One shape round a type (C99 6.7.5).
 fn with_one_shape(alloc: Global, shape: Shape, ty: TypeNode) -> Result<TypeNode, AllocError>
     ensures { IfOk result (λ t. t ≡ types.with_one_shape shape ty) }
 {
-    let inner = Box::new(alloc, ty)?;
     match shape {
-        Shape::Pointer => Ok(TypeNode::Pointer(inner)),
+        Shape::Pointer => Ok(TypeNode::Pointer(Box::new(alloc, ty)?)),
         Shape::Array(None) => Ok(TypeNode::Array {
-            element: inner,
+            element: Box::new(alloc, ty)?,
             length: None,
         }),
-        Shape::Array(Some(length)) => Ok(TypeNode::Array {
-            element: inner,
-            length: Some(Box::new(alloc, length)?),
-        }),
+        Shape::Array(Some(length)) => {
+            let (element, length) = boxes(alloc, ty, length)?;
+            Ok(TypeNode::Array {
+                element,
+                length: Some(length),
+            })
+        }
         Shape::Takes(parameters) => Ok(TypeNode::Takes {
-            result: inner,
+            result: Box::new(alloc, ty)?,
             parameters,
         }),
     }

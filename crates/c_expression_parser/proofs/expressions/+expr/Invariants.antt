@@ -75,8 +75,8 @@ decreases-climb l = 10 * l.depth + 5
 abbrev pub decreases-expr : goal.decreases-expr
 decreases-expr l = 10 * l.depth
 
-abbrev pub decreases-length_of : goal.decreases-length_of
-decreases-length_of l = 10 * l.depth + 1
+abbrev pub decreases-array_length : goal.decreases-array_length
+decreases-array_length l = 10 * l.depth + 1
 
 abbrev pub decreases-suffixes : goal.decreases-suffixes
 decreases-suffixes l = 10 * l.depth + 4
