@@ -1,11 +1,11 @@
 #!/usr/bin/env python3
-"""Prints rows of single steps with operands at the edges, for crates/rows/data/steps.rows.
+"""Prints rows of single steps with operands at the edges, for crates/machine_rows/data/steps.rows.
 
 Each row is a word with the words of $2, $3, $4 and memory, then what the step leaves: where it goes on, $4
 and memory, or how the run ends there. The words come from GNU as, and the results from Python's integers by
 the text of the Alpha Architecture Handbook, and so neither from our code. Operations read $2 and $3 and write
 $4; loads and stores have the address of memory in $1; branches and jumps write the next address to $4.
-With the word `frame` it prints the program that the step stands in, for crates/rows/src/steps.rt.
+With the word `frame` it prints the program that the step stands in, for crates/machine_rows/src/steps.rt.
 
 Needs Debian's binutils-alpha-linux-gnu. Run at the top of the repository:
 

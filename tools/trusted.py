@@ -61,7 +61,7 @@ def words_of(text):
 def uses_in(text, start):
     """What the `use` lines bring in: for each name the module and the name there, or the module alone."""
     names, places = {}, []
-    for m in re.finditer(r"^[ \t]*" + start + r" ([\w.\-]+?)(?:\.\{([^}]*)\}| as ([\w\-']+))?;?[ \t]*$", text, re.M):
+    for m in re.finditer(r"^[ \t]*(?:pub )?" + start + r" ([\w.\-]+?)(?:\.\{([^}]*)\}| as ([\w\-']+))?;?[ \t]*$", text, re.M):
         path, inner, alias = m.groups()
         places.append((m.start(), m.end()))
         if inner is None:
@@ -382,6 +382,9 @@ class Repository:
             for candidate in (parts[cut : cut + 1] or [name]):
                 if candidate in file.nodes:
                     return [Item(crate, "code", file.module, candidate)]
+                for impl in file.nodes:
+                    if impl.replace(" as ", "") == candidate:
+                        return [Item(crate, "code", file.module, impl)]
             if name in file.nodes:
                 return [Item(crate, "code", file.module, name)]
         return []
@@ -398,6 +401,8 @@ class Repository:
             file = self.specs.get((crate, ".".join(rest)))
             found = file.resolve(name) if file and name else None
             items = [Item(crate, "specs", file.module, found)] if found else []
+            if not found and file and name in file.names and file.names[name][1]:
+                return self.at(*file.names[name])
         if name and not items:
             self.unknown.add(f"{path}.{name}")
         return items

@@ -19,7 +19,8 @@ use Rattle.alpha_run.specs.model.ProcessorState.{processor_state, IsProcessorOf}
 use Rattle.alpha_run.specs.Inside.{snapshot_of, IsSound}
 use Rattle.alpha_run.specs.model.Turns.{with_taken}
 use Rattle.alpha_run.specs.Services.{asks}
-use Rattle.alpha_run.specs.Run.{count_plus, last_step, input_calls, halt_of, StopsAt, stops_early, snapshot_after, Traffic, IsRun}
+use Rattle.alpha_run.specs.model.Stop.{stops_early}
+use Rattle.alpha_run.specs.Run.{count_plus, last_step, input_calls, halt_of, StopsAt, snapshot_after, Traffic, IsRun}
 use Rattle.alpha_run.proofs.Runs.{exec_one, exec_none, steps_one-goes, steps_one-over, steps_none, takes_one-no, takes_one-yes, takes_none, ran_from, counted_none, taken_none}
 
 -- a machine that runs a program has its text, and its memory lies where the program's does

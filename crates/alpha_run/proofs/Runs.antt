@@ -13,7 +13,8 @@ use Rattle.alpha_run.specs.declared.ending.Ending.{Ending}
 use Rattle.alpha_run.specs.declared.ending.Ending.TheVariants.{Done, Trap, Stuck, Budget, InputFault, WriteFault}
 use Rattle.alpha_run.specs.Snapshot.{Snapshot, snapshot_state, first_snapshot, IsMachineOf}
 use Rattle.alpha_run.specs.Services.{asks}
-use Rattle.alpha_run.specs.Run.{count_plus, last_step, steps_then, steps_in, takes_then, takes_in, input_calls, StopsAt, stops_early, snapshot_after, Traffic, IsRun, Gives, Behaves}
+use Rattle.alpha_run.specs.model.Stop.{stops_early}
+use Rattle.alpha_run.specs.Run.{count_plus, last_step, steps_then, steps_in, takes_then, takes_in, input_calls, StopsAt, snapshot_after, Traffic, IsRun, Gives, Behaves}
 
 -- ---- one step
 

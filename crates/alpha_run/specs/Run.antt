@@ -74,11 +74,6 @@ StopsAt p n s Budget k t = (k ≡ n) × (exec p n s ≡ Goes t)
 StopsAt p n s InputFault k t = (k < n) × (exec p k s ≡ Goes t) × IsTrue (asks p 3 t)
 StopsAt p n s WriteFault k t = (k < n) × (exec p k s ≡ Goes t) × IsTrue (asks p 2 t)
 
--- a run that does not stop because its steps are done
-abbrev pub stops_early : Ending → Bool
-stops_early Budget = false
-stops_early _ = true
-
 -- the machine after so many more steps and bytes, in the state t
 abbrev pub snapshot_after : Snapshot → State → ℕ → ℕ → Ending → Snapshot
 snapshot_after m t steps written e = record m {

@@ -3,3 +3,4 @@ pub mod MemoryParts
 pub mod ProcessorState
 pub mod Turns
 pub mod TakenWord
+pub mod Stop

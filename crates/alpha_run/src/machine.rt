@@ -72,7 +72,8 @@ fn decode_all(alloc: Global, words: &[u32]) -> Result<Vec<Option<Insn32>>, Alloc
 impl Machine {
     ghost use Rattle.alpha_run.specs.Snapshot.{first_snapshot, snapshot_state, IsMachineOf};
     ghost use Rattle.alpha_run.specs.Ending.{ending_of};
-    ghost use Rattle.alpha_run.specs.Run.{IsRun, Traffic, Behaves, halt_of, stops_early, input_faults_after, output_faults_after};
+    ghost use Rattle.alpha_run.specs.model.Stop.{stops_early};
+    ghost use Rattle.alpha_run.specs.Run.{IsRun, Traffic, Behaves, halt_of, input_faults_after, output_faults_after};
 
     /// A machine with an image in it, and a stack of so many bytes, from 4,096 to 268,435,456 of them
     /// and a multiple of 16. It takes all the memory that its runs need.

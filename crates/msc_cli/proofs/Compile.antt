@@ -11,7 +11,9 @@ use Rattle.msc_cli.specs.declared.outcome.Outcome.{Outcome}
 use Rattle.msc_cli.specs.declared.outcome.Outcome.TheVariants.{FileFault, NoMemory}
 use Rattle.msc_cli.specs.declared.read_small.ReadFault.{ReadFault}
 use Rattle.msc_cli.specs.declared.read_small.ReadFault.TheVariants as read
-use Rattle.msc_cli.specs.FromFile.{IsFront, text_of, IsCause, outcome_of_read_fault}
+use Rattle.msc_cli.specs.model.Causes.{outcome_of_read_fault}
+use Rattle.msc_cli.specs.model.FileFront.{IsFront}
+use Rattle.msc_cli.specs.FromFile.{text_of, IsCause}
 use Rattle.msc_cli.specs.BuildImage.{IsCompiled, IsRefused, RefusesText, Compiles}
 use Rattle.msc_cli.specs.Output.{file_faults_after}
 use Rattle.msc_cli.proofs.SmallSame.{same}

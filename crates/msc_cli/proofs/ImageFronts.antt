@@ -10,9 +10,10 @@ use Rattle.alpha_image.specs.declared.read.ImageFault.TheVariants as fault
 use Rattle.alpha_image.specs.ReadImage.{IsFault}
 use Rattle.alpha_image.proofs.ImageFronts.{front_fault}
 use Rattle.alpha_image.proofs.ImageLaws.{longest}
-use Rattle.msc_cli.specs.Limits.{image_limit}
-use Rattle.msc_cli.specs.RunImage.{outcome_of_image_fault, RefusesBytes, Holds}
-use Rattle.msc_cli.specs.FromFile.{IsFront, IsCause, text_of}
+use Rattle.msc_cli.specs.model.Causes.{outcome_of_image_fault}
+use Rattle.msc_cli.specs.RunImage.{RefusesBytes, Holds}
+use Rattle.msc_cli.specs.model.FileFront.{IsFront, image_limit}
+use Rattle.msc_cli.specs.FromFile.{IsCause, text_of}
 use Rattle.msc_cli.specs.Output.{file_faults_after}
 use Rattle.msc_cli.specs.declared.outcome.Outcome.TheVariants.{FileFault}
 

@@ -8,7 +8,8 @@ use Rattle.msc_cli.specs.declared.outcome.Outcome.{Outcome}
 use Rattle.msc_cli.specs.declared.outcome.Outcome.TheVariants.{FileFault, Refused, Limit, NoMemory}
 use Rattle.msc_cli.specs.declared.outcome.SourceFault.TheVariants.{Lex, Syntax}
 use Rattle.msc_cli.specs.declared.outcome.Which.TheVariants.{Text, Nesting}
-use Rattle.msc_cli.specs.FromFile.{IsFront, IsCause, text_of}
+use Rattle.msc_cli.specs.model.FileFront.{IsFront}
+use Rattle.msc_cli.specs.FromFile.{IsCause, text_of}
 use Rattle.msc_cli.specs.PrintTree.{Spells, SpellsNone, RefusesTree, Prints}
 
 -- a front within the limit is the whole file

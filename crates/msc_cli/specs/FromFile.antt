@@ -13,20 +13,6 @@ use Rattle.msc_cli.specs.declared.read_small.ReadFault.TheVariants as read
 abbrev pub text_of : Option Shelf → List ℕ → Option (List ℕ)
 text_of told name = option_map (λ shelf. file_of shelf name) told
 
--- what is read of a file: all of it where it is shorter than the limit, else that many bytes
-abbrev pub IsFront : ℕ → List ℕ → List ℕ → Type 0
-IsFront limit file text = ((text ≡ file) × (length file < limit)) ⊎ ((text ≡ take limit file) × (limit ≤ length file))
-
--- the outcome where a file is not read
-abbrev pub outcome_of_file_fault : Fault → Outcome
-outcome_of_file_fault fault.Failed = FileFault
-outcome_of_file_fault fault.NoMemory = NoMemory
-
--- the outcome where a text is not compiled
-abbrev pub outcome_of_read_fault : ReadFault → Outcome
-outcome_of_read_fault read.Form = Refused Form
-outcome_of_read_fault read.NoMemory = NoMemory
-
 -- Why there is nothing to go on with: the file was not read, memory is short, or what the file holds is refused.
 abbrev pub IsCause : (Outcome → Type 0) → Outcome → Type 0
 IsCause refuses FileFault = Unit {0}

@@ -12,12 +12,6 @@ default_budget = 1000000000
 abbrev pub most_source : ℕ
 most_source = 4194304
 
--- how many bytes are read of a C file of the small form, of any C file and of an image: one more than they may have
-abbrev pub small_limit : ℕ
-small_limit = 4097
-
+-- how many bytes are read of a C file: one more than it may have
 abbrev pub source_limit : ℕ
 source_limit = 4194305
-
-abbrev pub image_limit : ℕ
-image_limit = 1140850713

@@ -25,8 +25,3 @@ input_faults_after _ faults = faults
 abbrev pub output_faults_after : Outcome → ℕ → ℕ
 output_faults_after WriteFault faults = next_count faults
 output_faults_after _ faults = faults
-
--- the count of faults of the files after a call that may answer an outcome
-abbrev pub file_faults_unless : {A : Type 0} → Result A Outcome → ℕ → ℕ
-file_faults_unless (Ok a) faults = faults
-file_faults_unless (Err outcome) faults = file_faults_after outcome faults

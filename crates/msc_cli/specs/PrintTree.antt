@@ -16,13 +16,6 @@ use Rattle.msc_cli.specs.FromFile.{Does}
 use Rattle.msc_cli.specs.BuildImage.{PutsBytes}
 use Rattle.msc_cli.specs.Limits.{most_source, source_limit}
 
--- the outcome where a text is not read
-abbrev pub outcome_of_parse_fault : ParseFault → Outcome
-outcome_of_parse_fault (fault.Lex at) = Refused (Lex at)
-outcome_of_parse_fault (fault.Nesting counted) = Limit Nesting counted
-outcome_of_parse_fault (fault.Syntax at) = Refused (Syntax at)
-outcome_of_parse_fault fault.NoMemory = NoMemory
-
 -- the text is within the limit, and this is what it spells
 abbrev pub Spells : List ℕ → TranslationUnit → Type 0
 Spells text tree = (length text ≤ most_source) × IsRead text tree

@@ -23,11 +23,6 @@ outcome_of_ending ending.Budget = Budget default_budget
 outcome_of_ending ending.InputFault = InputFault
 outcome_of_ending ending.WriteFault = WriteFault
 
--- the outcome where bytes are not read as an image
-abbrev pub outcome_of_image_fault : ImageFault → Outcome
-outcome_of_image_fault (fault.BadImage at) = BadImage at
-outcome_of_image_fault fault.NoMemory = NoMemory
-
 -- the run of an image at the default stack and budget, on the input that is left, where it is told
 abbrev pub RunsBy : Program → Ending → Traffic → Traffic → Type 0
 RunsBy p e before after = (input : List ℕ) → before.left ≡ Some input → Behaves p default_stack input default_budget e before after

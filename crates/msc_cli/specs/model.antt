@@ -1,1 +1,3 @@
 pub mod AnswersScan
+pub mod FileFront
+pub mod Causes

@@ -2,12 +2,12 @@
 
 ghost use Rattle.std.specs.Prelude.{◌≡◌, ◌↔◌, IfOk, IfErr, IfSome, IsErrOf, IsTrue, option_map};
 ghost use Rattle.bk_io.specs.Shelf.{is_due, file_of, after_call};
-ghost use Rattle.msc_cli.specs.FromFile as spec;
-ghost use Rattle.msc_cli.specs.FromFile.{text_of, IsFront, IsCause};
+ghost use Rattle.msc_cli.specs.model.Causes as spec;
+ghost use Rattle.msc_cli.specs.model.FileFront.{IsFront};
+ghost use Rattle.msc_cli.specs.FromFile.{text_of, IsCause};
 ghost use Rattle.msc_cli.specs.BuildImage.{IsCompiled, IsRefused, RefusesText, Compiles};
-ghost use Rattle.msc_cli.specs.RunImage as run_spec;
 ghost use Rattle.msc_cli.specs.RunImage.{RefusesBytes, Holds};
-ghost use Rattle.msc_cli.specs.Output.{file_faults_unless};
+ghost use Rattle.msc_cli.specs.model.Causes.{file_faults_unless};
 
 use crate::outcome::{Outcome, SourceFault};
 use crate::read_small::{ReadFault, read_small};
@@ -45,7 +45,7 @@ fn outcome_of_read_fault(fault: ReadFault) -> Outcome
 
 /// The outcome where bytes are not read as an image.
 fn outcome_of_image_fault(fault: ImageFault) -> Outcome
-    ensures { result ≡ run_spec.outcome_of_image_fault fault }
+    ensures { result ≡ spec.outcome_of_image_fault fault }
 {
     match fault {
         ImageFault::BadImage { at } => Outcome::BadImage { at },

@@ -3,7 +3,8 @@
 ghost use Rattle.std.specs.Prelude.{◌≡◌, ◌≢◌, ◌↔◌, IfSome, IfErr, IfOk, Some, IsTrue, option_map};
 ghost use Rattle.bk_io.specs.Shelf.{is_due, after_call};
 ghost use Rattle.msc_cli.specs.FromFile.{text_of};
-ghost use Rattle.msc_cli.specs.PrintTree.{outcome_of_parse_fault, WritesTree, Prints};
+ghost use Rattle.msc_cli.specs.model.Causes.{outcome_of_parse_fault};
+ghost use Rattle.msc_cli.specs.PrintTree.{WritesTree, Prints};
 ghost use Rattle.msc_cli.specs.Output.{file_faults_after, output_faults_after};
 
 use crate::build::write_bytes;

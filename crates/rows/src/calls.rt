@@ -1,7 +1,7 @@
 //! Whole calls of the compiler.
 
-use crate::escape::unescape;
-use crate::number::numbers;
+use row_sheets::escape::unescape;
+use row_sheets::number::numbers;
 use anyhow::{Context, Result, bail};
 use bk_io::memory::{MemFiles, MemSink, MemSource};
 use bk_io::outside::Source;

@@ -1,7 +1,7 @@
 //! The lines and the statuses of outcomes.
 
 use crate::calls::push_part;
-use crate::number::number;
+use row_sheets::number::number;
 use anyhow::{Result, bail};
 use bk_io::memory::MemSink;
 use msc_cli::outcome::{Outcome, SourceFault, Which, exit_code, put_line};

@@ -1,6 +1,6 @@
 //! The places of the nodes of trees, which no printed text shows.
 
-use crate::escape::unescape;
+use row_sheets::escape::unescape;
 use crate::trees::{MOST_TEXT, refused};
 use anyhow::{Result, ensure};
 use c_parser::parse;

@@ -1,6 +1,6 @@
 //! Texts with their tokens.
 
-use crate::escape::unescape;
+use row_sheets::escape::unescape;
 use anyhow::{Result, ensure};
 use c_lexer::{Lexer, TokenKind};
 use std::alloc::Global;

@@ -1,6 +1,6 @@
 //! Texts with their trees, and with how deep they nest.
 
-use crate::escape::unescape;
+use row_sheets::escape::unescape;
 use anyhow::{Context, Result, ensure};
 use c_parser::{ParseFault, nest, parse};
 use c_tree::tree_text;

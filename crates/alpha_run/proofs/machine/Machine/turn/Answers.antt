@@ -3,7 +3,8 @@ use Rattle.std.proofs.Common.{◌≡◌, ◌<◌, ◌+◌, min, cond, refl, opti
 use Rattle.std.specs.Prelude.{slice_get, IfSome}
 use Rattle.bk_io.specs.Outside.{count_end}
 use Rattle.alpha_run.specs.Ending.{halt_is}
-use Rattle.alpha_run.specs.Run.{last_step, stops_early}
+use Rattle.alpha_run.specs.model.Stop.{stops_early}
+use Rattle.alpha_run.specs.Run.{last_step}
 use Rattle.alpha_run.specs.model.ProcessorState.{IsProcessorOf}
 use Rattle.alpha_run.proofs.Machines.{processor_runs, goes_turn, over_turn, write_fault, input_fault, puts_turn, takes_turn, ended_early}
 use Rattle.alpha_run.proofs.machine.Machine.turn.Goals as goal

@@ -5,7 +5,7 @@ use std::alloc::{AllocError, Global};
 /// What is given and what is due, as they are written, with the number of the line where the row ends
 /// what it gives.
 #[derive(Drop)]
-pub struct Row {
+pub(crate) struct Row {
     pub line: usize,
     pub given: String,
     pub due: String,

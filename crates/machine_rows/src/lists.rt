@@ -4,9 +4,9 @@ ghost use Rattle.std.specs.Prelude.{◌≡◌, ◌≤◌, OnOk};
 ghost use Rattle.std.specs.Bool.{OnTrue};
 ghost use Rattle.bk_ilist.specs.Listing.{HasId};
 
-use crate::number::number;
 use anyhow::{Context, Result, bail};
 use bk_ilist::IndexList;
+use row_sheets::number::number;
 use std::alloc::Global;
 
 /// Whether an id is in the list.

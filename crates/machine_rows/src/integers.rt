@@ -1,9 +1,9 @@
 //! Operations on C's integers.
 
-use crate::number::quad;
 use anyhow::{Result, bail};
 use c_arithmetic::integer_type::IntegerType;
 use c_arithmetic::outcome::Outcome;
+use row_sheets::number::quad;
 use std::alloc::Global;
 
 /// The type with a name.

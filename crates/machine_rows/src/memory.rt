@@ -3,11 +3,11 @@
 ghost use Rattle.std.specs.Prelude.{IfOk, All};
 ghost use Rattle.mem_model.specs.Memory.{IsByte};
 
-use crate::escape::unescape;
-use crate::number::{number, offset};
 use anyhow::{Context, Result, bail};
 use mem_model::memory::Mem;
 use mem_model::value::{MemFault, Ptr, Value};
+use row_sheets::escape::unescape;
+use row_sheets::number::{number, offset};
 use std::alloc::Global;
 
 /// The pointer that is written as its object and its offset.

@@ -1,9 +1,9 @@
 //! Words with their instructions, both ways.
 
-use crate::number::word;
 use alpha_isa::decode::{decode, decode_encoded};
 use alpha_isa::encode::encode;
 use anyhow::Result;
+use row_sheets::number::word;
 use std::alloc::Global;
 
 /// The instruction that a word stands for. Where it is encoded as another word, that one follows.

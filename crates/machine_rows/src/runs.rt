@@ -1,11 +1,11 @@
 //! Runs of a machine, some steps at a time.
 
-use crate::escape::unescape;
-use crate::number::{number, numbers, word};
 use alpha_isa::image::Image;
 use alpha_run::machine::Machine;
 use anyhow::{Context, Result, bail, ensure};
 use bk_io::memory::{MemSink, MemSource};
+use row_sheets::escape::unescape;
+use row_sheets::number::{number, numbers, word};
 use std::alloc::Global;
 
 const MOST_WORDS: usize = 1 << 28;

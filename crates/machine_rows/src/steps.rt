@@ -1,12 +1,12 @@
 //! Single steps of the machine.
 
-use crate::number::{quad, word};
 use crate::runs::image_of;
 use alpha_run::ending::Ending;
 use alpha_run::machine::Machine;
 use anyhow::{Result, bail};
 use bk_io::empty::EmptySource;
 use bk_io::memory::MemSink;
+use row_sheets::number::{quad, word};
 use std::alloc::Global;
 
 /// The program that a step stands in, as `tools/alpha_steps.py frame` writes it.

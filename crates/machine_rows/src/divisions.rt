@@ -1,6 +1,6 @@
 //! The division routines, run by the machine.
 
-use crate::number::quad;
+use row_sheets::number::quad;
 use crate::runs::image_of;
 use alpha_isa::encode::encode;
 use alpha_isa::insn::BranchOp;
