@@ -1,6 +1,5 @@
 //! The division routines, run by the machine.
 
-use row_sheets::number::quad;
 use crate::runs::image_of;
 use alpha_isa::encode::encode;
 use alpha_isa::insn::BranchOp;
@@ -11,6 +10,7 @@ use alpha_run::machine::Machine;
 use anyhow::{Context, Result, bail};
 use bk_io::empty::EmptySource;
 use bk_io::memory::MemSink;
+use row_sheets::number::quad;
 use std::alloc::Global;
 
 /// What calls a routine: it loads the operands from the data before the call, and behind it puts the eight
