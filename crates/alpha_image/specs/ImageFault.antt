@@ -50,7 +50,8 @@ differs_at (due ∷ dues) (byte ∷ bytes) i = if byte == due then differs_at du
 
 -- a field of four bytes that is not whole, or whose number is not right
 abbrev pub field_fault : List ℕ → ℕ → Bool → Option ℕ
-field_fault bytes at is_right = if nat_lt (length bytes) (at + 4) then Some (length bytes) else if is_right then None else Some at
+field_fault bytes at is_right =
+    if nat_lt (length bytes) (at + 4) then Some (length bytes) else if is_right then None else Some at
 
 -- the fields: the mark, the version, how many words and bytes there are, the entry, and in version 2 the zeros
 abbrev pub mark_fault : List ℕ → Option ℕ
@@ -69,14 +70,16 @@ abbrev pub entry_fault : List ℕ → Option ℕ
 entry_fault bytes = field_fault bytes 16 (nat_lt (entry_of bytes) (word_count bytes))
 
 abbrev pub zeros_fault : List ℕ → Option ℕ
-zeros_fault bytes = if has_zeros_field bytes then field_fault bytes 20 (nat_le (byte_count bytes + zeros_of bytes) most_bytes) else None
+zeros_fault bytes =
+    if has_zeros_field bytes then field_fault bytes 20 (nat_le (byte_count bytes + zeros_of bytes) most_bytes) else None
 
 -- what says that the bytes are an image and of which version, then what says how large it is
 abbrev pub version_part_fault : List ℕ → Option ℕ
 version_part_fault bytes = first_of (mark_fault bytes) (version_fault bytes)
 
 abbrev pub size_part_fault : List ℕ → Option ℕ
-size_part_fault bytes = first_of (words_fault bytes) (first_of (bytes_fault bytes) (first_of (entry_fault bytes) (zeros_fault bytes)))
+size_part_fault bytes =
+    first_of (words_fault bytes) (first_of (bytes_fault bytes) (first_of (entry_fault bytes) (zeros_fault bytes)))
 
 unfoldable pub header_fault : List ℕ → Option ℕ
 header_fault bytes = first_of (version_part_fault bytes) (size_part_fault bytes)

@@ -43,7 +43,8 @@ struct Header {
 /// The number in the four bytes at a place, none where they are not all there.
 fn field(bytes: &[u8], at: usize) -> Option<u32>
     requires { at < 2 ^ 32 }
-    ensures { MatchOption result (length bytes.now < at + 4) (λ n. (at + 4 ≤ length bytes.now) × (n ≡ number_at bytes.now at)) }
+    ensures { MatchOption result (length bytes.now < at + 4)
+        (λ n. (at + 4 ≤ length bytes.now) × (n ≡ number_at bytes.now at)) }
 {
     if bytes.len() < at + 4 {
         return None;
@@ -174,7 +175,8 @@ fn read_numbers(
 ) -> Result<Vec<u32>, AllocError>
     requires few { count ≤ most_words }
     requires within { start + 4 * count ≤ length bytes.now }
-    ensures numbers { IfOk result (λ numbers. flat_map number_bytes numbers.items ≡ take (4 * count) (drop start bytes.now)) }
+    ensures numbers { IfOk result
+        (λ numbers. flat_map number_bytes numbers.items ≡ take (4 * count) (drop start bytes.now)) }
     ensures count { IfOk result (λ numbers. length numbers.items ≡ count) }
 {
     let mut numbers = Vec::new(alloc);

@@ -126,7 +126,10 @@ abbrev pub jump_ops : List JumpOp
 jump_ops = Jmp ∷ Jsr ∷ Ret ∷ []
 
 abbrev pub operate_ops : List OperateOp
-operate_ops = Addl ∷ Subl ∷ Cmpult ∷ Addq ∷ S4addq ∷ Subq ∷ Cmpeq ∷ S8addq ∷ Cmpule ∷ AddlV ∷ SublV ∷ Cmplt ∷ AddqV ∷ SubqV ∷ Cmple ∷ And ∷ Bic ∷ Bis ∷ Cmoveq ∷ Cmovne ∷ Ornot ∷ Xor ∷ Eqv ∷ Zapnot ∷ Srl ∷ Sll ∷ Sra ∷ Mull ∷ Mulq ∷ Umulh ∷ MullV ∷ MulqV ∷ Sextb ∷ Sextw ∷ []
+operate_ops =
+    Addl ∷ Subl ∷ Cmpult ∷ Addq ∷ S4addq ∷ Subq ∷ Cmpeq ∷ S8addq ∷ Cmpule ∷ AddlV ∷ SublV ∷ Cmplt ∷ AddqV ∷ SubqV
+    ∷ Cmple ∷ And ∷ Bic ∷ Bis ∷ Cmoveq ∷ Cmovne ∷ Ornot ∷ Xor ∷ Eqv ∷ Zapnot ∷ Srl ∷ Sll ∷ Sra ∷ Mull ∷ Mulq ∷ Umulh
+    ∷ MullV ∷ MulqV ∷ Sextb ∷ Sextw ∷ []
 
 -- the operation with these numbers
 unfoldable pub memory_at : ℕ → Option MemoryOp

@@ -58,7 +58,8 @@ word_address n = text_start + 4 * n
 
 -- the instruction at an address, none outside the text and where its word stands for none
 abbrev pub instruction_at : Program → ℕ → Option Fields
-instruction_at p pc = if nat_lt pc text_start then None else option_and_then insn_of (slice_get p.words ((pc - text_start) / 4))
+instruction_at p pc =
+    if nat_lt pc text_start then None else option_and_then insn_of (slice_get p.words ((pc - text_start) / 4))
 
 -- Images of which each holds what the other does: they have the same text, entry and data, of which the one may have
 -- as zeros what the other has as bytes.

@@ -53,7 +53,8 @@ memory_step p Lda ra rb disp s = next_instruction (with_register ra (address s r
 memory_step p Ldah ra rb disp s = next_instruction (with_register ra (address s rb (disp *ℤ pos 65536)) s)
 memory_step p Ldbu ra rb disp s = load_into (from_le_bytes w8) ra (bytes_at p s (address s rb disp) 1) s
 memory_step p Ldwu ra rb disp s = load_into (from_le_bytes w16) ra (bytes_at p s (address s rb disp) 2) s
-memory_step p Ldl ra rb disp s = load_into (λ bytes. sign_extension w32 (from_le_bytes w32 bytes)) ra (bytes_at p s (address s rb disp) 4) s
+memory_step p Ldl ra rb disp s =
+    load_into (λ bytes. sign_extension w32 (from_le_bytes w32 bytes)) ra (bytes_at p s (address s rb disp) 4) s
 memory_step p Ldq ra rb disp s = load_into (from_le_bytes w64) ra (bytes_at p s (address s rb disp) 8) s
 memory_step p Stb ra rb disp s = go_on_stored (with_bytes p s (address s rb disp) (to_le_bytes w8 (register s ra))) s
 memory_step p Stw ra rb disp s = go_on_stored (with_bytes p s (address s rb disp) (to_le_bytes w16 (register s ra))) s
@@ -118,7 +119,8 @@ abbrev pub service_step : ℕ → State → Next
 service_step number s =
     if number == 1 then Over (Done (register s 16 % 256)) s
     else if number == 2 then next_instruction (record s { output = s.output ++ (register s 16 % 256) ∷ [] })
-    else if number == 3 then next_instruction (with_register 0 (input_word s.input) (record s { input = input_rest s.input }))
+    else if number == 3
+        then next_instruction (with_register 0 (input_word s.input) (record s { input = input_rest s.input }))
     else stuck s
 
 -- 83 (hexadecimal) calls a service, AA traps with the code in register 16

@@ -28,7 +28,8 @@ abbrev pub word_of : Fields → ℕ
 word_of (fields.Memory op ra rb disp) = memory_code op * 2 ^ 26 + ra * 2 ^ 21 + rb * 2 ^ 16 + cast_unsigned w16 disp
 word_of (fields.Branch op ra disp) = branch_code op * 2 ^ 26 + ra * 2 ^ 21 + branch_bits disp
 word_of (fields.Jump op ra rb) = 0x1A * 2 ^ 26 + ra * 2 ^ 21 + rb * 2 ^ 16 + jump_code op * 2 ^ 14
-word_of (fields.Operate op ra rb rc) = operate_opcode op * 2 ^ 26 + ra * 2 ^ 21 + operand_bits rb + operate_function op * 2 ^ 5 + rc
+word_of (fields.Operate op ra rb rc) =
+    operate_opcode op * 2 ^ 26 + ra * 2 ^ 21 + operand_bits rb + operate_function op * 2 ^ 5 + rc
 word_of (fields.Pal function) = function
 
 -- the fields of a word
@@ -62,16 +63,22 @@ operation _ _ ra rc = None
 
 -- the instruction of a word, by format
 unfoldable pub memory_insn : ℕ → Option Fields
-memory_insn word = option_map (λ op. fields.Memory op (ra_of word) (rb_of word) (cast_signed w16 (word % 2 ^ 16))) (memory_at (opcode_of word))
+memory_insn word =
+    option_map (λ op. fields.Memory op (ra_of word) (rb_of word) (cast_signed w16 (word % 2 ^ 16)))
+    (memory_at (opcode_of word))
 
 unfoldable pub branch_insn : ℕ → Option Fields
-branch_insn word = option_map (λ op. fields.Branch op (ra_of word) (branch_displacement (word % 2 ^ 21))) (branch_at (opcode_of word))
+branch_insn word =
+    option_map (λ op. fields.Branch op (ra_of word) (branch_displacement (word % 2 ^ 21))) (branch_at (opcode_of word))
 
 unfoldable pub jump_insn : ℕ → Option Fields
-jump_insn word = if word % 2 ^ 14 == 0 then option_map (λ op. fields.Jump op (ra_of word) (rb_of word)) (jump_at (word / 2 ^ 14 % 4)) else None
+jump_insn word =
+    if word % 2 ^ 14 == 0 then option_map (λ op. fields.Jump op (ra_of word) (rb_of word)) (jump_at (word / 2 ^ 14 % 4))
+    else None
 
 unfoldable pub operate_insn : ℕ → Option Fields
-operate_insn word = operation (operate_at (opcode_of word) (word / 2 ^ 5 % 128)) (operand_at word) (ra_of word) (rc_of word)
+operate_insn word =
+    operation (operate_at (opcode_of word) (word / 2 ^ 5 % 128)) (operand_at word) (ra_of word) (rc_of word)
 
 unfoldable pub pal_insn : ℕ → Option Fields
 pal_insn word = if is_call word then Some (fields.Pal word) else None

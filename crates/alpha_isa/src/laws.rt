@@ -22,10 +22,14 @@ pub fn words_extend()
 /// Sums and products that are extended need no more than the low bits of their operands, and are the
 /// wrapped signed ones. A mask of four bytes extends with zeros.
 pub fn words_wrap()
-    ensures sum { (w : Width) (n k : ℕ) → bits w ≤ 64 → sign_extension w (sign_extension w n + k) ≡ sign_extension w (n + k) }
-    ensures product { (w : Width) (n k : ℕ) → bits w ≤ 64 → sign_extension w (sign_extension w n * k) ≡ sign_extension w (n * k) }
-    ensures signed_sum { (w : Width) (n k : ℕ) → signed_value w (n + k) ≡ int_wrap w (signed_value w n +ℤ signed_value w k) }
-    ensures signed_product { (w : Width) (n k : ℕ) → signed_value w (n * k) ≡ int_wrap w (signed_value w n *ℤ signed_value w k) }
+    ensures sum { (w : Width) (n k : ℕ) → bits w ≤ 64 →
+        sign_extension w (sign_extension w n + k) ≡ sign_extension w (n + k) }
+    ensures product { (w : Width) (n k : ℕ) → bits w ≤ 64 →
+        sign_extension w (sign_extension w n * k) ≡ sign_extension w (n * k) }
+    ensures signed_sum { (w : Width) (n k : ℕ) →
+        signed_value w (n + k) ≡ int_wrap w (signed_value w n +ℤ signed_value w k) }
+    ensures signed_product { (w : Width) (n k : ℕ) →
+        signed_value w (n * k) ≡ int_wrap w (signed_value w n *ℤ signed_value w k) }
     ensures long { (n : ℕ) → kept_bytes 8 n 0x0F ≡ n % 2 ^ 32 }
 {}
 
@@ -33,13 +37,15 @@ pub fn words_wrap()
 /// that of fewer.
 pub fn runs_compose()
     ensures split { (p : Program) (k n : ℕ) (s : State) → exec p (k + n) s ≡ go_on (exec p k s) (exec p n) }
-    ensures grows { (p : Program) (k n : ℕ) (s : State) → k ≤ n → Extends (output_at (exec p k s)) (output_at (exec p n s)) }
+    ensures grows { (p : Program) (k n : ℕ) (s : State) → k ≤ n →
+        Extends (output_at (exec p k s)) (output_at (exec p n s)) }
 {}
 
 /// Images that hold the same behave alike: it does not show which of the zeros at the end of the data are
 /// bytes of the image.
 pub fn zeros_do_not_show()
-    ensures { (p q : Program) (stack : ℕ) (input : List ℕ) (m : ℕ) → HoldsSame p q → behave_a q stack input m ≡ behave_a p stack input m }
+    ensures { (p q : Program) (stack : ℕ) (input : List ℕ) (m : ℕ) → HoldsSame p q →
+        behave_a q stack input m ≡ behave_a p stack input m }
 {}
 
 /// An image has one form in which its zeros are cut.

@@ -13,7 +13,8 @@ StandsAt p word = (i : ℕ) → i < length code → instruction_at p (word_addre
 
 -- a text that has the words of the code has the code there, whatever stands before and behind
 abbrev pub CodeStands : Type 0
-CodeStands = (p : Program) (front back : List ℕ) → p.words ≡ front ++ (map word_of code ++ back) → StandsAt p (length front)
+CodeStands =
+    (p : Program) (front back : List ℕ) → p.words ≡ front ++ (map word_of code ++ back) → StandsAt p (length front)
 
 -- how many bytes below the stack's top a routine may write, and how many steps it may take
 abbrev pub scratch_size : ℕ

@@ -33,7 +33,8 @@ is_least_by_minus_one w a b = (a == 2 ^ 64 - 2 ^ hbits w) && (b == 2 ^ 64 - 1)
 -- on signed numbers division rounds toward zero, so the remainder has the dividend's sign
 abbrev pub signed_outcome : Width → (ℤ → ℤ → ℤ) → ℕ → ℕ → Outcome
 signed_outcome w operation a b =
-    by b (if is_least_by_minus_one w a b then Traps 3 else Answers (word_from (operation (signed_value w a) (signed_value w b))))
+    by b (if is_least_by_minus_one w a b then Traps 3
+        else Answers (word_from (operation (signed_value w a) (signed_value w b))))
 
 abbrev pub unsigned_outcome : (ℕ → ℕ → ℕ) → ℕ → ℕ → Outcome
 unsigned_outcome operation a b = by b (Answers (operation a b))

@@ -33,7 +33,8 @@ pub fn signed_longs_divide()
 
 /// What a routine answers is an operand of it again: of those on 32 bits, a word that is its own sign extension.
 pub fn answers_are_operands()
-    ensures { (r : Routine) (a b word : ℕ) → IsOperand r a → IsOperand r b → outcome r a b ≡ Answers word → IsOperand r word }
+    ensures { (r : Routine) (a b word : ℕ) → IsOperand r a → IsOperand r b → outcome r a b ≡ Answers word →
+        IsOperand r word }
 {}
 
 /// The items of the routines give their code wherever they stand in a text, whose words stand for its instructions.

@@ -21,4 +21,5 @@ snapshot_of m = record {
 pub record IsSound (m : Inside) : Type 0 where
   pub short : length m.processor.text.items ≤ most_words
   pub data_start : m.processor.memory.data_start ≡ next_part (text_start + 4 * length m.processor.text.items)
-  pub stack_start : m.processor.memory.stack_start ≡ next_part (m.processor.memory.data_start + length m.processor.memory.data.items)
+  pub stack_start : m.processor.memory.stack_start
+      ≡ next_part (m.processor.memory.data_start + length m.processor.memory.data.items)

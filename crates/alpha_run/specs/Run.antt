@@ -93,7 +93,8 @@ pub record Traffic : Type 0 where
   pub taken : Option (List ℕ)
 
 -- a run of n steps from the state s: where it stopped, and what it did to the machine, the input and the output
-pub record IsRun (p : Program) (n : ℕ) (e : Ending) (s : State) (old new : Snapshot) (told after : Traffic) : Type 0 where
+pub record IsRun (p : Program) (n : ℕ) (e : Ending) (s : State) (old new : Snapshot)
+    (told after : Traffic) : Type 0 where
   pub tried : ℕ
   pub place : State
   pub put : List ℕ
@@ -117,7 +118,8 @@ Gives p stack input n _ put = (k : ℕ) × (k < n) × (behave_a p stack input k 
 
 -- A run of n steps from the start of an image: where it stopped, and what it did to the input and the output. Where
 -- the outside failed, it stood at the service that the outside failed at.
-pub record Behaves (p : Program) (stack : ℕ) (input : List ℕ) (n : ℕ) (e : Ending) (before after : Traffic) : Type 0 where
+pub record Behaves (p : Program) (stack : ℕ) (input : List ℕ) (n : ℕ) (e : Ending)
+    (before after : Traffic) : Type 0 where
   pub tried : ℕ
   pub place : State
   pub stops : StopsAt p n (start p stack input) e tried place

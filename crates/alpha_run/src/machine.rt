@@ -151,8 +151,10 @@ impl Machine {
         ensures halt { self.old.halt ≡ None → self.new.halt ≡ halt_of (unwrap_or result Ending.Budget) }
         ensures early { IfSome result (λ e. IsTrue (stops_early e)) }
         ensures program { (p : Program) → IsMachineOf p self.old → IsMachineOf p self.new }
-        ensures input_count { I.faults input.new ≡ input_faults_after (unwrap_or result Ending.Budget) (I.faults input.old) }
-        ensures output_count { O.faults out.new ≡ output_faults_after (unwrap_or result Ending.Budget) (O.faults out.old) }
+        ensures input_count { I.faults input.new
+            ≡ input_faults_after (unwrap_or result Ending.Budget) (I.faults input.old) }
+        ensures output_count { O.faults out.new
+            ≡ output_faults_after (unwrap_or result Ending.Budget) (O.faults out.old) }
     {
         match self.processor.step() {
             Turn::Goes => {

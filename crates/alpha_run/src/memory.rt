@@ -21,7 +21,8 @@ pub(crate) struct Memory {
 
 /// The place of `count` bytes from an address on in a part of the memory, where they lie in it.
 fn place_in(address: u64, count: u64, start: u64, size: usize) -> Option<usize>
-    ensures { (bytes : List ℕ) → length bytes ≡ size → result ≡ (if lies_in address count start bytes then Some (address - start) else None) }
+    ensures { (bytes : List ℕ) → length bytes ≡ size →
+        result ≡ (if lies_in address count start bytes then Some (address - start) else None) }
 {
     if address < start {
         return None;
@@ -76,7 +77,8 @@ impl Memory {
     /// Puts bytes at an address under the same condition, and answers whether it did.
     pub(crate) fn put_bytes<const N: usize>(&mut self, address: u64, new: [u8; N]) -> bool
         requires { 0 < N }
-        ensures bytes { (p : Program) (s : State) → IsMemoryOf p s self.old → stored_in s self.new result ≡ state.with_bytes p s address new.entry }
+        ensures bytes { (p : Program) (s : State) → IsMemoryOf p s self.old →
+            stored_in s self.new result ≡ state.with_bytes p s address new.entry }
         ensures laid { IsLaidAs self.old self.new }
         ensures unchanged { OnFalse result (HasBytesOf self.old self.new) }
     {
@@ -97,28 +99,32 @@ impl Memory {
 
     /// The words that loads of 1, 2, 4 and 8 bytes give.
     pub(crate) fn read_byte(&self, address: u64) -> Option<u64>
-        ensures { (p : Program) (s : State) → IsMemoryOf p s self.now → result ≡ option_map (from_le_bytes w8) (state.bytes_at p s address 1) }
+        ensures { (p : Program) (s : State) → IsMemoryOf p s self.now →
+            result ≡ option_map (from_le_bytes w8) (state.bytes_at p s address 1) }
     {
         let bytes = self.bytes_at::<1>(address)?;
         Some(u64::from(u8::from_le_bytes(bytes)))
     }
 
     pub(crate) fn read_short(&self, address: u64) -> Option<u64>
-        ensures { (p : Program) (s : State) → IsMemoryOf p s self.now → result ≡ option_map (from_le_bytes w16) (state.bytes_at p s address 2) }
+        ensures { (p : Program) (s : State) → IsMemoryOf p s self.now →
+            result ≡ option_map (from_le_bytes w16) (state.bytes_at p s address 2) }
     {
         let bytes = self.bytes_at::<2>(address)?;
         Some(u64::from(u16::from_le_bytes(bytes)))
     }
 
     pub(crate) fn read_long(&self, address: u64) -> Option<u64>
-        ensures { (p : Program) (s : State) → IsMemoryOf p s self.now → result ≡ option_map (λ bytes. sign_extension w32 (from_le_bytes w32 bytes)) (state.bytes_at p s address 4) }
+        ensures { (p : Program) (s : State) → IsMemoryOf p s self.now →
+            result ≡ option_map (λ bytes. sign_extension w32 (from_le_bytes w32 bytes)) (state.bytes_at p s address 4) }
     {
         let bytes = self.bytes_at::<4>(address)?;
         Some(extend_long(u64::from(u32::from_le_bytes(bytes))))
     }
 
     pub(crate) fn read_quad(&self, address: u64) -> Option<u64>
-        ensures { (p : Program) (s : State) → IsMemoryOf p s self.now → result ≡ option_map (from_le_bytes w64) (state.bytes_at p s address 8) }
+        ensures { (p : Program) (s : State) → IsMemoryOf p s self.now →
+            result ≡ option_map (from_le_bytes w64) (state.bytes_at p s address 8) }
     {
         let bytes = self.bytes_at::<8>(address)?;
         Some(u64::from_le_bytes(bytes))
@@ -126,7 +132,8 @@ impl Memory {
 
     /// Stores of 1, 2, 4 and 8 bytes, each with the low bytes of a word. They answer whether they were done.
     pub(crate) fn write_byte(&mut self, address: u64, word: u64) -> bool
-        ensures bytes { (p : Program) (s : State) → IsMemoryOf p s self.old → stored_in s self.new result ≡ state.with_bytes p s address (to_le_bytes w8 word) }
+        ensures bytes { (p : Program) (s : State) → IsMemoryOf p s self.old →
+            stored_in s self.new result ≡ state.with_bytes p s address (to_le_bytes w8 word) }
         ensures laid { IsLaidAs self.old self.new }
         ensures unchanged { OnFalse result (HasBytesOf self.old self.new) }
     {
@@ -134,7 +141,8 @@ impl Memory {
     }
 
     pub(crate) fn write_short(&mut self, address: u64, word: u64) -> bool
-        ensures bytes { (p : Program) (s : State) → IsMemoryOf p s self.old → stored_in s self.new result ≡ state.with_bytes p s address (to_le_bytes w16 word) }
+        ensures bytes { (p : Program) (s : State) → IsMemoryOf p s self.old →
+            stored_in s self.new result ≡ state.with_bytes p s address (to_le_bytes w16 word) }
         ensures laid { IsLaidAs self.old self.new }
         ensures unchanged { OnFalse result (HasBytesOf self.old self.new) }
     {
@@ -142,7 +150,8 @@ impl Memory {
     }
 
     pub(crate) fn write_long(&mut self, address: u64, word: u64) -> bool
-        ensures bytes { (p : Program) (s : State) → IsMemoryOf p s self.old → stored_in s self.new result ≡ state.with_bytes p s address (to_le_bytes w32 word) }
+        ensures bytes { (p : Program) (s : State) → IsMemoryOf p s self.old →
+            stored_in s self.new result ≡ state.with_bytes p s address (to_le_bytes w32 word) }
         ensures laid { IsLaidAs self.old self.new }
         ensures unchanged { OnFalse result (HasBytesOf self.old self.new) }
     {
@@ -150,7 +159,8 @@ impl Memory {
     }
 
     pub(crate) fn write_quad(&mut self, address: u64, word: u64) -> bool
-        ensures bytes { (p : Program) (s : State) → IsMemoryOf p s self.old → stored_in s self.new result ≡ state.with_bytes p s address (to_le_bytes w64 word) }
+        ensures bytes { (p : Program) (s : State) → IsMemoryOf p s self.old →
+            stored_in s self.new result ≡ state.with_bytes p s address (to_le_bytes w64 word) }
         ensures laid { IsLaidAs self.old self.new }
         ensures unchanged { OnFalse result (HasBytesOf self.old self.new) }
     {

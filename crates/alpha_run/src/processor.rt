@@ -131,7 +131,8 @@ impl Processor {
     /// Goes on with the next instruction.
     pub(crate) fn advance(&mut self)
         requires { self.old.pc < 2 ^ 32 }
-        ensures step { (x y : List ℕ) → Goes (processor_state self.new x y) ≡ next_instruction (processor_state self.old x y) }
+        ensures step { (x y : List ℕ) →
+            Goes (processor_state self.new x y) ≡ next_instruction (processor_state self.old x y) }
         ensures kept { KeepsText self.old self.new }
     {
         self.pc += 4;
@@ -141,7 +142,9 @@ impl Processor {
     fn give(&mut self, ra: u8, word: u64)
         requires register { ra < 32 }
         requires pc { self.old.pc < 2 ^ 32 }
-        ensures step { (x y : List ℕ) → Goes (processor_state self.new x y) ≡ next_instruction (with_register ra word (processor_state self.old x y)) }
+        ensures step { (x y : List ℕ) →
+            Goes (processor_state self.new x y)
+            ≡ next_instruction (with_register ra word (processor_state self.old x y)) }
         ensures kept { KeepsText self.old self.new }
     {
         self.registers.set(ra, word);
@@ -152,7 +155,8 @@ impl Processor {
     fn load(&mut self, ra: u8, word: Option<u64>) -> bool
         requires register { ra < 32 }
         requires pc { self.old.pc < 2 ^ 32 }
-        ensures step { (x y : List ℕ) → next_if_done result (processor_state self.new x y) ≡ next_with_word ra word (processor_state self.old x y) }
+        ensures step { (x y : List ℕ) →
+            next_if_done result (processor_state self.new x y) ≡ next_with_word ra word (processor_state self.old x y) }
         ensures kept { KeepsText self.old self.new }
     {
         match word {
@@ -167,7 +171,8 @@ impl Processor {
     /// Goes on after a store, if it was done.
     fn finish_store(&mut self, done: bool) -> bool
         requires { self.old.pc < 2 ^ 32 }
-        ensures step { (x y : List ℕ) → next_if_done result (processor_state self.new x y) ≡ advanced_if done (processor_state self.old x y) }
+        ensures step { (x y : List ℕ) →
+            next_if_done result (processor_state self.new x y) ≡ advanced_if done (processor_state self.old x y) }
         ensures kept { KeepsText self.old self.new }
     {
         if done {
@@ -181,7 +186,9 @@ impl Processor {
         requires ra { ra < 32 }
         requires rb { rb < 32 }
         requires pc { self.old.pc < 2 ^ 32 }
-        ensures step { (p : Program) (x y : List ℕ) → IsProcessorOf p self.old → next_if_done result (processor_state self.new x y) ≡ memory_step p op ra rb disp (processor_state self.old x y) }
+        ensures step { (p : Program) (x y : List ℕ) → IsProcessorOf p self.old →
+            next_if_done result (processor_state self.new x y)
+            ≡ memory_step p op ra rb disp (processor_state self.old x y) }
         ensures kept { KeepsText self.old self.new }
     {
         let address = self.address(rb, bytes_on(disp));
@@ -230,7 +237,8 @@ impl Processor {
     fn branch_step(&mut self, op: BranchOp, ra: u8, disp: i32)
         requires ra { ra < 32 }
         requires pc { self.old.pc < 2 ^ 32 }
-        ensures step { (x y : List ℕ) → Goes (processor_state self.new x y) ≡ branch_step op ra disp (processor_state self.old x y) }
+        ensures step { (x y : List ℕ) →
+            Goes (processor_state self.new x y) ≡ branch_step op ra disp (processor_state self.old x y) }
         ensures kept { KeepsText self.old self.new }
     {
         let next = self.pc + 4;
@@ -250,7 +258,8 @@ impl Processor {
         requires ra { ra < 32 }
         requires rb { rb < 32 }
         requires pc { self.old.pc < 2 ^ 32 }
-        ensures step { (x y : List ℕ) → Goes (processor_state self.new x y) ≡ jump_step ra rb (processor_state self.old x y) }
+        ensures step { (x y : List ℕ) →
+            Goes (processor_state self.new x y) ≡ jump_step ra rb (processor_state self.old x y) }
         ensures kept { KeepsText self.old self.new }
     {
         let target = self.registers.get(rb) / 4 * 4;
@@ -275,7 +284,11 @@ impl Processor {
         requires rb { IsOperand rb }
         requires rc { rc < 32 }
         requires pc { self.old.pc < 2 ^ 32 }
-        ensures step { (x y : List ℕ) → next_if_fits result (processor_state self.new x y) ≡ operate_step (operation_effect op (register (processor_state self.old x y) ra) (operand (processor_state self.old x y) rb)) rc (processor_state self.old x y) }
+        ensures step { (x y : List ℕ) →
+            next_if_fits result (processor_state self.new x y) ≡ operate_step
+                (operation_effect op
+                    (register (processor_state self.old x y) ra) (operand (processor_state self.old x y) rb))
+                rc (processor_state self.old x y) }
         ensures kept { KeepsText self.old self.new }
     {
         match operate(op, self.registers.get(ra), self.operand(rb)) {
@@ -311,7 +324,9 @@ impl Processor {
     /// Goes on with a byte that was taken, or with -1 at the end of the input.
     pub(crate) fn resume_with(&mut self, byte: Option<u8>)
         requires { self.old.pc < 2 ^ 32 }
-        ensures step { (x y : List ℕ) → byte ≡ slice_get x 0 → Goes (processor_state self.new (drop 1 x) y) ≡ next_instruction (with_taken (processor_state self.old x y)) }
+        ensures step { (x y : List ℕ) → byte ≡ slice_get x 0 →
+            Goes (processor_state self.new (drop 1 x) y)
+            ≡ next_instruction (with_taken (processor_state self.old x y)) }
         ensures kept { KeepsText self.old self.new }
     {
         self.give(0, word_taken(byte));
@@ -321,7 +336,8 @@ impl Processor {
     pub(crate) fn step(&mut self) -> Turn
         requires { IsShort self.old }
         ensures within { OnTrue (waits result) (self.new.pc < 2 ^ 32) }
-        ensures step { (p : Program) (x y : List ℕ) → IsProcessorOf p self.old → Steps p result (processor_state self.old x y) (processor_state self.new x y) }
+        ensures step { (p : Program) (x y : List ℕ) → IsProcessorOf p self.old →
+            Steps p result (processor_state self.old x y) (processor_state self.new x y) }
         ensures kept { KeepsText self.old self.new }
     {
         match self.fetch() {

@@ -53,7 +53,8 @@ module _ {T : Type 0} where
 
   -- what holds of the item of this id, and of the pairs before and behind it
   abbrev pub AtId : List (ℕ × T) → ℕ → (List (ℕ × T) → T → List (ℕ × T) → Type 0) → Type 0
-  AtId pairs id P = (before after : List (ℕ × T)) (item : T) → pairs ≡ before ++ (id, item) ∷ after → P before item after
+  AtId pairs id P =
+      (before after : List (ℕ × T)) (item : T) → pairs ≡ before ++ (id, item) ∷ after → P before item after
 
   -- what holds of every list: no id stands twice, each was given, and ids and room fit 32 bits
   pub record IsListing (list : Listing T) : Type 0 where

@@ -207,7 +207,8 @@ fn append_some<R: Read>(
     into: &mut Vec<u8>,
 ) -> Result<usize, FileFault>
     requires { 0 < length chunk.old }
-    ensures ok { IfOk result (λ n. AppendsPart n into.old.items into.new.items (R.remaining reader.old) (R.remaining reader.new)) }
+    ensures ok { IfOk result
+        (λ n. AppendsPart n into.old.items into.new.items (R.remaining reader.old) (R.remaining reader.new)) }
     ensures end { IfOk result (λ n. n ≡ 0 → IsAtEnd (R.remaining reader.new)) }
     ensures most { IfOk result (λ n. n ≤ length chunk.old) }
     ensures len { length chunk.new ≡ length chunk.old }

@@ -26,7 +26,8 @@ impl Model for MemSource {
 
     ghost Value = { Stream };
 
-    ghost view = { λ s. record { left = drop s.next s.bytes.items; failing = s.fails.items; made = s.made; faults = s.faults } };
+    ghost view =
+        { λ s. record { left = drop s.next s.bytes.items; failing = s.fails.items; made = s.made; faults = s.faults } };
 
     ghost invariant = { λ s. s.next ≤ vec_len s.bytes };
 }
@@ -91,7 +92,8 @@ impl Model for MemSink {
 
     ghost Value = { Bin };
 
-    ghost view = { λ s. record { taken = s.bytes.items; room = s.room; failing = s.fails.items; made = s.made; faults = s.faults } };
+    ghost view = { λ s. record {
+        taken = s.bytes.items; room = s.room; failing = s.fails.items; made = s.made; faults = s.faults } };
 
     ghost invariant = { λ s. (vec_len s.bytes ≤ s.room) × (s.room ≤ vec_capacity s.bytes) };
 }
@@ -100,7 +102,8 @@ impl MemSink {
     /// A sink with room for so many bytes. The calls with the numbers in `fails`, counted from 0, fail,
     /// and so does each put past the room.
     pub fn new(alloc: Global, room: u64, fails: Vec<u64>) -> Result<MemSink, AllocError>
-        ensures { IfOk result (λ s. s ≡ record { taken = []; room = room; failing = fails.items; made = 0; faults = 0 }) }
+        ensures { IfOk result
+            (λ s. s ≡ record { taken = []; room = room; failing = fails.items; made = 0; faults = 0 }) }
     {
         let room = room as usize;
         Ok(MemSink {
@@ -170,7 +173,8 @@ impl Model for MemFiles {
 
     ghost Value = { Drawer };
 
-    ghost view = { λ s. record { files = map named s.files.items; failing = s.fails.items; made = s.made; faults = s.faults } };
+    ghost view =
+        { λ s. record { files = map named s.files.items; failing = s.fails.items; made = s.made; faults = s.faults } };
 
     ghost invariant = { λ s. s.faults ≤ count_end };
 }

@@ -109,8 +109,10 @@ pub trait Files {
     /// and a front of the file. `NoMemory` comes where `into` could not grow.
     fn read(&mut self, name: &str, into: &mut Vec<u8>, limit: u64) -> Result<Got, FileFault>
         ensures appends { Appends result limit into.old.items into.new.items }
-        ensures file { IfSome (told self.old) (λ shelf. AppendsFile result limit (file_of shelf name.now) into.old.items into.new.items) }
-        ensures due { IfSome (told self.old) (λ shelf. IsErrOf result FileFault.Failed ↔ IsTrue (is_due shelf name.now)) }
+        ensures file { IfSome (told self.old)
+            (λ shelf. AppendsFile result limit (file_of shelf name.now) into.old.items into.new.items) }
+        ensures due { IfSome (told self.old)
+            (λ shelf. IsErrOf result FileFault.Failed ↔ IsTrue (is_due shelf name.now)) }
         ensures told { told self.new ≡ option_map after_call (told self.old) }
         ensures count { faults self.new ≡ faults_after_read result (faults self.old) };
 }

@@ -23,7 +23,8 @@ pub fn words_hold_values()
 /// The word of a result needs no more than the words of its operands.
 pub fn results_need_words()
     ensures sum { (t : IntegerType) (a b : ℕ) → word t (value t a +ℤ value t b) ≡ extension t (a + b) }
-    ensures difference { (t : IntegerType) (a b : ℕ) → b < 2 ^ 64 → word t (value t a -ℤ value t b) ≡ extension t (a + (2 ^ 64 - b)) }
+    ensures difference { (t : IntegerType) (a b : ℕ) → b < 2 ^ 64 →
+        word t (value t a -ℤ value t b) ≡ extension t (a + (2 ^ 64 - b)) }
     ensures product { (t : IntegerType) (a b : ℕ) → word t (value t a *ℤ value t b) ≡ extension t (a * b) }
     ensures negation { (t : IntegerType) (a : ℕ) → a < 2 ^ 64 → word t (neg_ℤ (value t a)) ≡ extension t (2 ^ 64 - a) }
 {}
@@ -35,8 +36,10 @@ pub fn conversions_keep()
     ensures narrower { (s t : IntegerType) (n : ℕ) → bytes t ≤ bytes s → conversion s t n ≡ extension t n }
     ensures value { (s t : IntegerType) (n : ℕ) → fits t (value s n) ≡ true → value t (conversion s t n) ≡ value s n }
     ensures promotion { (t : IntegerType) (n : ℕ) → value (promoted t) (conversion t (promoted t) n) ≡ value t n }
-    ensures through_wide { (s t u : IntegerType) (n : ℕ) → bytes u ≤ bytes t → conversion t u (conversion s t n) ≡ conversion s u n }
-    ensures through_all { (s t u : IntegerType) (n : ℕ) → fits t (value s n) ≡ true → conversion t u (conversion s t n) ≡ conversion s u n }
+    ensures through_wide { (s t u : IntegerType) (n : ℕ) → bytes u ≤ bytes t →
+        conversion t u (conversion s t n) ≡ conversion s u n }
+    ensures through_all { (s t u : IntegerType) (n : ℕ) → fits t (value s n) ≡ true →
+        conversion t u (conversion s t n) ≡ conversion s u n }
 {}
 
 /// The word of each result is one as its type holds it.
@@ -75,8 +78,10 @@ pub fn words_compare()
 
 /// The operators on bits give words of a type where their operands are such words.
 pub fn bits_of_words()
-    ensures and { (t : IntegerType) (a b : ℕ) → conjunction t (extension t a) (extension t b) ≡ bit_and (extension t a) (extension t b) }
-    ensures or { (t : IntegerType) (a b : ℕ) → disjunction t (extension t a) (extension t b) ≡ bit_or (extension t a) (extension t b) }
+    ensures and { (t : IntegerType) (a b : ℕ) →
+        conjunction t (extension t a) (extension t b) ≡ bit_and (extension t a) (extension t b) }
+    ensures or { (t : IntegerType) (a b : ℕ) →
+        disjunction t (extension t a) (extension t b) ≡ bit_or (extension t a) (extension t b) }
     ensures exclusive_or { (t : IntegerType) (a b : ℕ) →
         exclusive_disjunction t (extension t a) (extension t b) ≡ bit_xor (extension t a) (extension t b) }
 {}

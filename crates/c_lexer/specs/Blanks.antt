@@ -29,10 +29,12 @@ name_end s = quote_end name_item 0 s
 abbrev pub is_gap_or_digit : ℕ → Bool
 is_gap_or_digit b = is_gap b || is_digit b
 
--- any number of decimal numbers, each behind spaces or tabs: spaces, tabs and digits, the first no digit and the last one
+-- any number of decimal numbers, each behind spaces or tabs: spaces, tabs and digits, the first no digit and the last
+-- one
 unfoldable pub are_numbers : List ℕ → Bool
 are_numbers [] = true
-are_numbers (b ∷ s) = is_gap b && is_digit (slice_index (b ∷ s) (length (b ∷ s) - 1)) && list_all is_gap_or_digit (b ∷ s)
+are_numbers (b ∷ s) =
+    is_gap b && is_digit (slice_index (b ∷ s) (length (b ∷ s) - 1)) && list_all is_gap_or_digit (b ∷ s)
 
 abbrev pub numbers_behind : List ℕ → Option ℕ → Bool
 numbers_behind s None = false

@@ -52,10 +52,12 @@ unfoldable pub escape_at : List ℕ → Option Item
 escape_at [] = None
 escape_at (c ∷ s) = if is_octal c then octal_item (c ∷ s) else if c == 120 then hex_item s else item (simple_value c) 2
 
--- the item in front, within a literal with this quote: an escape sequence, or a byte other than the quote, backslash and line feed
+-- the item in front, within a literal with this quote: an escape sequence, or a byte other than the quote, backslash
+-- and line feed
 unfoldable pub item_at : ℕ → List ℕ → Option Item
 item_at quote [] = None
-item_at quote (b ∷ s) = if b == 92 then escape_at s else if b == quote || b == 10 then None else Some (record { value = b; len = 1 })
+item_at quote (b ∷ s) =
+    if b == 92 then escape_at s else if b == quote || b == 10 then None else Some (record { value = b; len = 1 })
 
 abbrev pub quote_behind : List ℕ → ℕ → Option ℕ
 quote_behind [] n = None
@@ -65,7 +67,8 @@ abbrev pub end_behind_item : List ℕ → Option Item → Option ℕ
 end_behind_item s None = None
 end_behind_item s (Some i) = quote_behind (drop i.len s) i.len
 
--- behind the opening quote of a character constant: how many bytes its one item and its closing quote take, where both are there
+-- behind the opening quote of a character constant: how many bytes its one item and its closing quote take, where both
+-- are there
 unfoldable pub char_end : List ℕ → Option ℕ
 char_end s = end_behind_item s (item_at 39 s)
 

@@ -58,12 +58,13 @@ abbrev pub opens_comment : List ℕ → Bool
 opens_comment [] = false
 opens_comment (b ∷ s) = b == 42 && is_none (close_at s)
 
--- Where a text goes on so, no piece begins: with a run of digits, letters and points that is no integer constant, a character
--- constant or string literal that is wrong or not closed, a `#` that begins no linemarker, a comment that is not closed.
--- `first` says that only spaces and tabs stand before on the line.
+-- Where a text goes on so, no piece begins: with a run of digits, letters and points that is no integer constant, a
+-- character constant or string literal that is wrong or not closed, a `#` that begins no linemarker, a comment that is
+-- not closed. `first` says that only spaces and tabs stand before on the line.
 unfoldable pub is_fault : Bool → List ℕ → Bool
 is_fault first [] = false
-is_fault first (b ∷ s) = if is_digit b || (b == 46 && first_passes is_digit s) then not (is_number (b ∷ take (prefix_len is_run s) s))
+is_fault first (b ∷ s) =
+    if is_digit b || (b == 46 && first_passes is_digit s) then not (is_number (b ∷ take (prefix_len is_run s) s))
     else if b == 39 then is_none (char_end s)
     else if b == 34 then is_none (text_end s)
     else if b == 35 then not (first && is_linemarker (take (prefix_len is_inner s) s))
@@ -91,8 +92,10 @@ lexeme text t = record { kind = t.kind; spelling = take t.len (drop t.at text); 
 -- The text from one offset up to another is whole pieces, and these are their tokens.
 pub data Pieces (text : List ℕ) : ℕ → List Lexeme → ℕ → Type 0 where
   none : {at : ℕ} → Pieces text at [] at
-  blank : {at to : ℕ} (n : ℕ) (ts : List Lexeme) → Cuts text at n p.Blank → Pieces text (at + n) ts to → Pieces text at ts to
-  token : {at to : ℕ} (n : ℕ) (kind : TokenKind) (ts : List Lexeme) → Cuts text at n (p.Token kind) → Pieces text (at + n) ts to
+  blank : {at to : ℕ} (n : ℕ) (ts : List Lexeme) → Cuts text at n p.Blank → Pieces text (at + n) ts to →
+      Pieces text at ts to
+  token : {at to : ℕ} (n : ℕ) (kind : TokenKind) (ts : List Lexeme) → Cuts text at n (p.Token kind) →
+      Pieces text (at + n) ts to
       → Pieces text at (lexeme text (record { kind = kind; at = at; len = n }) ∷ ts) to
 
 -- The tokens of a text, and its length.

@@ -47,12 +47,15 @@ most_text = 4096
 mutual
   pub data IsExpression : ℕ → List ℕ → Expression → Type 0 where
     term : {d : ℕ} (a : List ℕ) (x : Expression) → IsTerm d a x → IsExpression d a x
-    plus : {d : ℕ} (a b : List ℕ) (x y : Expression) → IsExpression d a x → IsTerm d b y → IsExpression d (a ++ 43 ∷ b) (Sum x y)
-    minus : {d : ℕ} (a b : List ℕ) (x y : Expression) → IsExpression d a x → IsTerm d b y → IsExpression d (a ++ 45 ∷ b) (Difference x y)
+    plus : {d : ℕ} (a b : List ℕ) (x y : Expression) → IsExpression d a x → IsTerm d b y →
+        IsExpression d (a ++ 43 ∷ b) (Sum x y)
+    minus : {d : ℕ} (a b : List ℕ) (x y : Expression) → IsExpression d a x → IsTerm d b y →
+        IsExpression d (a ++ 45 ∷ b) (Difference x y)
 
   pub data IsTerm : ℕ → List ℕ → Expression → Type 0 where
     factor : {d : ℕ} (a : List ℕ) (x : Expression) → IsFactor d a x → IsTerm d a x
-    times : {d : ℕ} (a b : List ℕ) (x y : Expression) → IsTerm d a x → IsFactor d b y → IsTerm d (a ++ 42 ∷ b) (Product x y)
+    times : {d : ℕ} (a b : List ℕ) (x y : Expression) → IsTerm d a x → IsFactor d b y →
+        IsTerm d (a ++ 42 ∷ b) (Product x y)
 
   pub data IsFactor : ℕ → List ℕ → Expression → Type 0 where
     number : {d : ℕ} (n : ℕ) → n ≤ most_number → IsFactor d (decimal n) (Number n)
@@ -67,7 +70,8 @@ pub record SmallUnit : Type 0 where
 -- the bytes of calls of `putchar`
 pub data ArePuts : List ℕ → List Expression → Type 0 where
   none : ArePuts [] []
-  put : (a b : List ℕ) (x : Expression) (xs : List Expression) → IsExpression most_nesting a x → ArePuts b xs → ArePuts (codes "putchar(" ++ (a ++ (codes ");" ++ b))) (x ∷ xs)
+  put : (a b : List ℕ) (x : Expression) (xs : List Expression) → IsExpression most_nesting a x → ArePuts b xs →
+      ArePuts (codes "putchar(" ++ (a ++ (codes ");" ++ b))) (x ∷ xs)
 
 -- the bytes of a program: at most 4,096, and at most one line feed at the end
 pub record IsSmall (text : List ℕ) (u : SmallUnit) : Type 0 where
@@ -91,7 +95,8 @@ status_of u = low_byte u.status
 
 -- Each call of `putchar` is a turn. The input is not read.
 abbrev pub behave_c : SmallUnit → List ℕ → ℕ → Behaviour
-behave_c u input n = if nat_lt n (length u.puts) then More (take n (written_by u)) else Done (written_by u) (status_of u)
+behave_c u input n =
+    if nat_lt n (length u.puts) then More (take n (written_by u)) else Done (written_by u) (status_of u)
 
 -- nothing is called but built-in functions, which need no room of the stack
 abbrev pub meaning : SmallUnit → Meaning

@@ -7,12 +7,14 @@ ghost use Rattle.c_mean.specs.Small.{SmallUnit, IsSmall, behave_c, meaning};
 
 /// An ending is the same ending with more turns.
 pub fn endings_stay()
-    ensures { (u : SmallUnit) (input : List ℕ) (n k : ℕ) → ((output : List ℕ) → behave_c u input n ≢ More output) → behave_c u input (n + k) ≡ behave_c u input n }
+    ensures { (u : SmallUnit) (input : List ℕ) (n k : ℕ) → ((output : List ℕ) → behave_c u input n ≢ More output) →
+        behave_c u input (n + k) ≡ behave_c u input n }
 {}
 
 /// What is written within some turns is a front of what is written within more.
 pub fn output_grows()
-    ensures { (u : SmallUnit) (input : List ℕ) (n k : ℕ) → (rest : List ℕ) × (output_of (behave_c u input (n + k)) ≡ output_of (behave_c u input n) ++ rest) }
+    ensures { (u : SmallUnit) (input : List ℕ) (n k : ℕ) →
+        (rest : List ℕ) × (output_of (behave_c u input (n + k)) ≡ output_of (behave_c u input n) ++ rest) }
 {}
 
 /// A text is of the small form with one program at most.

@@ -1,5 +1,5 @@
--- How deeply the constructs of a list of tokens stand in one another. No standard defines this number: C99 5.2.4.1 only names
--- depths that a compiler has to take.
+-- How deeply the constructs of a list of tokens stand in one another. No standard defines this number: C99 5.2.4.1 only
+-- names depths that a compiler has to take.
 use Rattle.std.specs.Prelude.{ℕ, max, ◌+◌, Bool, true, false, not, ◌&&◌, if◌then◌else◌, List, [], ◌∷◌, ◌++◌, map}
 use Rattle.c_lexer.specs.declared.token.TokenKind.{TokenKind}
 use Rattle.c_lexer.specs.declared.token.TokenKind.TheVariants as k
@@ -42,7 +42,8 @@ role_of _ = Plain
 
 -- ---- segments
 
--- What stands directly in a group, or outside all of them: a token, or a whole group, by its value and by whether a `}` closes it.
+-- What stands directly in a group, or outside all of them: a token, or a whole group, by its value and by whether a `}`
+-- closes it.
 pub data Item : Type 0 where
   token : Role → Item
   group : ℕ → Bool → Item
@@ -64,7 +65,8 @@ add_to_first item (segment ∷ segments) = (item ∷ segment) ∷ segments
 
 abbrev pub segments : List Item → List (List Item)
 segments [] = []
-segments (item ∷ items) = if ends item && not (begins_else items) then (item ∷ []) ∷ segments items else add_to_first item (segments items)
+segments (item ∷ items) =
+    if ends item && not (begins_else items) then (item ∷ []) ∷ segments items else add_to_first item (segments items)
 
 -- ---- costs
 
@@ -96,8 +98,9 @@ value items = greatest (map cost (segments items))
 
 -- ---- groups
 
--- The tokens from a place on, as they stand to it: the items of the group that is open there, and, where a bracket closes that
--- group, the bracket, and what follows it as it stands to the group around. Where no bracket does, the group ends with the tokens.
+-- The tokens from a place on, as they stand to it: the items of the group that is open there, and, where a bracket
+-- closes that group, the bracket, and what follows it as it stands to the group around. Where no bracket does, the
+-- group ends with the tokens.
 pub data Levels : Type 0 where
   open_to_end : List Item → Levels
   closed : List Item → Role → Levels → Levels

@@ -4,7 +4,8 @@ use Rattle.std.specs.List.{range_with_len}
 use Rattle.suifvm_ir.specs.Functions.{successors_of}
 
 -- the blocks that may follow each block, where the first has this number
-abbrev pub successors_from : {I : Type 0} → (targets : I → List ℕ) → (flows_on : I → Bool) → (number : ℕ) → List (List I) → List (List ℕ)
+abbrev pub successors_from : {I : Type 0} → (targets : I → List ℕ) → (flows_on : I → Bool) → (number : ℕ) →
+    List (List I) → List (List ℕ)
 successors_from targets flows_on number [] = []
 successors_from targets flows_on number (block ∷ blocks) =
     successors_of targets flows_on number block ∷ successors_from targets flows_on (suc number) blocks

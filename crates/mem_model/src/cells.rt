@@ -48,7 +48,8 @@ impl Model for Cells {
 
     ghost view = { λ c. cells_kept c.marks.items c.pointers };
 
-    ghost invariant = { λ c. (length c.marks.items ≡ 0) ⊎ (homes_of (length c.marks.items) + length c.marks.items ≤ length c.pointers) };
+    ghost invariant = { λ c. (length c.marks.items ≡ 0) ⊎
+        (homes_of (length c.marks.items) + length c.marks.items ≤ length c.pointers) };
 }
 
 /// Whether no other cell of the group of `at` holds a part at home.
@@ -72,7 +73,8 @@ fn is_home_free(marks: &[Mark], at: usize) -> bool
 fn put_part(marks: &mut [Mark], pointers: &mut Table, at: usize, pointer: Ptr, part: u8)
     requires within { at < length marks.old }
     requires room { homes_of (length marks.old) + length marks.old ≤ length pointers.old }
-    ensures cells { cells_kept marks.new pointers.new ≡ slice_set (cells_kept marks.old pointers.old) at (Part pointer part) }
+    ensures cells { cells_kept marks.new pointers.new
+        ≡ slice_set (cells_kept marks.old pointers.old) at (Part pointer part) }
     ensures slots { length pointers.new ≡ length pointers.old }
 {
     let home = at / PARTS;

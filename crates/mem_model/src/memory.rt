@@ -140,7 +140,8 @@ fn copy_inside(slot: &mut Option<Box<Live>>, to: usize, from: usize, size: usize
     requires fits_to { to + size < 2 ^ 64 }
     requires fits_from { from + size < 2 ^ 64 }
     requires apart { (to + size ≤ from) ⊎ (from + size ≤ to) }
-    ensures { object_in slot.new ≡ with_row_in (object_in slot.old) to (take size (drop from (object_in slot.old).cells)) }
+    ensures { object_in slot.new
+        ≡ with_row_in (object_in slot.old) to (take size (drop from (object_in slot.old).cells)) }
 {
     match slot {
         Some(object) => copy_within(&mut object.cells, to, from, size),
@@ -393,7 +394,8 @@ impl Mem {
 
     /// Whether one of the two ranges of a copy lies outside, or they overlap without being the same.
     fn is_copy_outside(&self, to: Ptr, from: Ptr, size: u64) -> bool
-        ensures value { result ≡ (is_outside self.now to size || is_outside self.now from size || overlaps to from size) }
+        ensures value { result
+            ≡ (is_outside self.now to size || is_outside self.now from size || overlaps to from size) }
         ensures end_to { result ≡ false → 0 < size → place_of to.offset + size < 2 ^ 64 }
         ensures end_from { result ≡ false → 0 < size → place_of from.offset + size < 2 ^ 64 }
     {
@@ -426,7 +428,8 @@ impl Mem {
     /// Copies the cells of a copy that has no fault.
     fn copy_cells(&mut self, to: Ptr, from: Ptr, size: u64)
         requires live { (is_gone self.old to || is_gone self.old from) ≡ false }
-        requires within { (is_outside self.old to size || is_outside self.old from size || overlaps to from size) ≡ false }
+        requires within { (is_outside self.old to size || is_outside self.old from size || overlaps to from size)
+            ≡ false }
         requires end_to { 0 < size → place_of to.offset + size < 2 ^ 64 }
         requires end_from { 0 < size → place_of from.offset + size < 2 ^ 64 }
         ensures { self.new ≡ put_row self.old to (row_at self.old from size) }
@@ -449,7 +452,8 @@ impl Mem {
         requires target { is_outside self.old to size ≡ false }
         requires source { is_outside self.old from size ≡ false }
         requires same { to.object ≡ from.object }
-        requires apart { (place_of to.offset + size ≤ place_of from.offset) ⊎ (place_of from.offset + size ≤ place_of to.offset) }
+        requires apart { (place_of to.offset + size ≤ place_of from.offset) ⊎
+            (place_of from.offset + size ≤ place_of to.offset) }
         ensures { self.new ≡ put_row self.old to (row_at self.old from size) }
     {
         let slot = &mut self.objects[to.object as usize];

@@ -67,7 +67,8 @@ fn put_slot(ranks: &mut [usize], pointers: &mut Vec<Ptr>, slot: usize, pointer: 
     requires within { slot < 8 * length ranks.old }
     requires table { IsTable ranks.old pointers.old.items }
     requires room { length pointers.old.items + 8 * free_blocks ranks.old ≤ vec_capacity pointers.old }
-    ensures value { table_of ranks.new pointers.new.items ≡ slice_set (table_of ranks.old pointers.old.items) slot pointer }
+    ensures value { table_of ranks.new pointers.new.items
+        ≡ slice_set (table_of ranks.old pointers.old.items) slot pointer }
     ensures table { IsTable ranks.new pointers.new.items }
     ensures room { length pointers.new.items + 8 * free_blocks ranks.new ≤ vec_capacity pointers.new }
 {

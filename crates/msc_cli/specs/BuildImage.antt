@@ -23,7 +23,8 @@ pub record IsCompiled (text : List ℕ) (p : Program) : Type 0 where
 
 -- the text is a program that ends with this output and status on the input
 abbrev pub DoesAlike : List ℕ → List ℕ → List ℕ → ℕ → Type 0
-DoesAlike text input output status = (u : SmallUnit) × (n : ℕ) × IsSmall text u × (behave_c u input n ≡ Done output status)
+DoesAlike text input output status =
+    (u : SmallUnit) × (n : ℕ) × IsSmall text u × (behave_c u input n ≡ Done output status)
 
 -- the text is no program
 abbrev pub IsRefused : List ℕ → Type 0
@@ -38,13 +39,16 @@ RefusesText text _ = ⊥
 abbrev pub Compiles : Option (List ℕ) → Program → Type 0
 Compiles text p = IfSome text (λ t. IsCompiled t p)
 
--- What is answered where bytes are put, and what the output took: all of them, or a front of them before a put that failed.
+-- What is answered where bytes are put, and what the output took: all of them, or a front of them before a put that
+-- failed.
 abbrev pub PutsBytes : Outcome → List ℕ → Outcome → Option (List ℕ) → Option (List ℕ) → Type 0
-PutsBytes done bytes answer old new = ((answer ≡ done) × (new ≡ taken_with bytes old)) ⊎ ((answer ≡ WriteFault) × TookFront bytes old new)
+PutsBytes done bytes answer old new =
+    ((answer ≡ done) × (new ≡ taken_with bytes old)) ⊎ ((answer ≡ WriteFault) × TookFront bytes old new)
 
 -- the bytes of an image are put, or memory is short
 abbrev pub WritesImage : Program → Outcome → Option (List ℕ) → Option (List ℕ) → Type 0
-WritesImage p answer old new = ((answer ≡ NoMemory) × (new ≡ old)) ⊎ (IsLawful p × PutsBytes Built (image_spelling p) answer old new)
+WritesImage p answer old new =
+    ((answer ≡ NoMemory) × (new ≡ old)) ⊎ (IsLawful p × PutsBytes Built (image_spelling p) answer old new)
 
 -- What `build` answers for a text, where it is told, and what the output took.
 abbrev pub Builds : Option (List ℕ) → Outcome → Option (List ℕ) → Option (List ℕ) → Type 0

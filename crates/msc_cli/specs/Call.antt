@@ -24,16 +24,20 @@ LeavesInput before after = (after.left ≡ before.left) × (after.made ≡ befor
 -- and the output. Where nothing is asked for, that is all.
 abbrev pub AnswersCall : Call → Option Shelf → Outcome → Traffic → Traffic → Type 0
 AnswersCall None told answer before after = (answer ≡ Usage) × (after ≡ before)
-AnswersCall (Some (Build, file)) told answer before after = Builds (text_of told file) answer before.taken after.taken × LeavesInput before after
+AnswersCall (Some (Build, file)) told answer before after =
+    Builds (text_of told file) answer before.taken after.taken × LeavesInput before after
 AnswersCall (Some (Run, file)) told answer before after = Runs (text_of told file) answer before after
 AnswersCall (Some (Exec, file)) told answer before after = Executes (text_of told file) answer before after
-AnswersCall (Some (Migrate, file)) told answer before after = Migrates (text_of told file) answer before.taken after.taken × LeavesInput before after
-AnswersCall (Some (Print, file)) told answer before after = Prints (text_of told file) answer before.taken after.taken × LeavesInput before after
+AnswersCall (Some (Migrate, file)) told answer before after =
+    Migrates (text_of told file) answer before.taken after.taken × LeavesInput before after
+AnswersCall (Some (Print, file)) told answer before after =
+    Prints (text_of told file) answer before.taken after.taken × LeavesInput before after
 
 -- a fault of the file comes exactly where its read is due to fail
 abbrev pub FailsWhereDue : Call → Option Shelf → Outcome → Type 0
 FailsWhereDue None told answer = Unit {0}
-FailsWhereDue (Some (command, file)) told answer = IfSome told (λ shelf. (answer ≡ FileFault) ↔ IsTrue (is_due shelf file))
+FailsWhereDue (Some (command, file)) told answer =
+    IfSome told (λ shelf. (answer ≡ FileFault) ↔ IsTrue (is_due shelf file))
 
 -- the files after the call: the file was read once, where one is asked for
 abbrev pub told_after : Call → Option Shelf → Option Shelf

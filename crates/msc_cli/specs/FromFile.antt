@@ -20,6 +20,7 @@ IsCause refuses NoMemory = Unit {0}
 IsCause refuses outcome = refuses outcome
 
 -- Either nothing is made of the file, for a cause, and nothing is done, or something is made of it and is gone on with.
-abbrev pub Does : {X S : Type 0} → (Outcome → Type 0) → (X → Type 0) → (X → Outcome → S → S → Type 0) → Outcome → S → S → Type 0
+abbrev pub Does : {X S : Type 0} → (Outcome → Type 0) → (X → Type 0) → (X → Outcome → S → S → Type 0) →
+    Outcome → S → S → Type 0
 Does refuses made goes_on answer before after =
     (IsCause refuses answer × (after ≡ before)) ⊎ ((x : _) × made x × goes_on x answer before after)

@@ -24,7 +24,8 @@ Spells text tree = (length text ≤ most_source) × IsRead text tree
 abbrev pub SpellsNone : List ℕ → Outcome → Type 0
 SpellsNone text (Limit Text counted) = (most_source < length text) × (counted ≡ source_limit)
 SpellsNone text (Refused (Lex at)) = (length text ≤ most_source) × FaultAt text at
-SpellsNone text (Limit Nesting counted) = (length text ≤ most_source) × HasNesting text counted × (most_nesting < counted)
+SpellsNone text (Limit Nesting counted) =
+    (length text ≤ most_source) × HasNesting text counted × (most_nesting < counted)
 SpellsNone text (Refused (Syntax at)) = (length text ≤ most_source) × HasNoReading text at
 SpellsNone text _ = ⊥
 

@@ -14,7 +14,9 @@ command_at word =
 
 -- the command of a word with an option and its value
 abbrev pub command_with : List ℕ → List ℕ → List ℕ → Option Command
-command_with word option pass = if bytes_eq word (codes "print") && (bytes_eq option (codes "--pass") && bytes_eq pass (codes "tree")) then Some Print else None
+command_with word option pass =
+    if bytes_eq word (codes "print") && (bytes_eq option (codes "--pass") && bytes_eq pass (codes "tree"))
+    then Some Print else None
 
 -- the word begins with `-`
 abbrev pub is_option : List ℕ → Bool

@@ -25,7 +25,8 @@ outcome_of_ending ending.WriteFault = WriteFault
 
 -- the run of an image at the default stack and budget, on the input that is left, where it is told
 abbrev pub RunsBy : Program → Ending → Traffic → Traffic → Type 0
-RunsBy p e before after = (input : List ℕ) → before.left ≡ Some input → Behaves p default_stack input default_budget e before after
+RunsBy p e before after =
+    (input : List ℕ) → before.left ≡ Some input → Behaves p default_stack input default_budget e before after
 
 -- what is answered for an image: how its run ends, or want of memory, before anything is read or put
 abbrev pub RunsImage : Program → Outcome → Traffic → Traffic → Type 0

@@ -20,10 +20,14 @@ output_of_c (c.More output) = output
 -- on one input the image ends or traps exactly as the program does, is never stuck, and writes the same on
 -- the way
 pub record SameOn (m : Meaning) (p : Program) (stack : ℕ) (input : List ℕ) : Type 0 where
-  pub ends : (n : ℕ) (output : List ℕ) (status : ℕ) → m.behave input n ≡ c.Done output status → (k : ℕ) × (behave_a p stack input k ≡ alpha.Done output status)
-  pub traps : (n : ℕ) (output : List ℕ) (code : ℕ) → m.behave input n ≡ c.Trap output code → (k : ℕ) × (behave_a p stack input k ≡ alpha.Trap output code)
-  pub ends_only : (k : ℕ) (output : List ℕ) (status : ℕ) → behave_a p stack input k ≡ alpha.Done output status → (n : ℕ) × (m.behave input n ≡ c.Done output status)
-  pub traps_only : (k : ℕ) (output : List ℕ) (code : ℕ) → behave_a p stack input k ≡ alpha.Trap output code → (n : ℕ) × (m.behave input n ≡ c.Trap output code)
+  pub ends : (n : ℕ) (output : List ℕ) (status : ℕ) → m.behave input n ≡ c.Done output status →
+      (k : ℕ) × (behave_a p stack input k ≡ alpha.Done output status)
+  pub traps : (n : ℕ) (output : List ℕ) (code : ℕ) → m.behave input n ≡ c.Trap output code →
+      (k : ℕ) × (behave_a p stack input k ≡ alpha.Trap output code)
+  pub ends_only : (k : ℕ) (output : List ℕ) (status : ℕ) → behave_a p stack input k ≡ alpha.Done output status →
+      (n : ℕ) × (m.behave input n ≡ c.Done output status)
+  pub traps_only : (k : ℕ) (output : List ℕ) (code : ℕ) → behave_a p stack input k ≡ alpha.Trap output code →
+      (n : ℕ) × (m.behave input n ≡ c.Trap output code)
   pub never_stuck : (k : ℕ) (output : List ℕ) (pc : ℕ) → behave_a p stack input k ≢ alpha.Stuck output pc
   pub writes : (n : ℕ) → (k : ℕ) × IsPrefix (output_of_c (m.behave input n)) (output_of (behave_a p stack input k))
   pub writes_only : (k : ℕ) → (n : ℕ) × IsPrefix (output_of (behave_a p stack input k)) (output_of_c (m.behave input n))

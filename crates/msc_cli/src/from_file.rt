@@ -60,9 +60,11 @@ pub(crate) fn read_file<F: Files>(
     name: &str,
     limit: u64,
 ) -> Result<Vec<u8>, Outcome>
-    ensures text { IfOk result (λ text. IfSome (F.told files.old) (λ shelf. IsFront limit (file_of shelf name.now) text.items)) }
+    ensures text { IfOk result
+        (λ text. IfSome (F.told files.old) (λ shelf. IsFront limit (file_of shelf name.now) text.items)) }
     ensures cause { IfErr result (IsCause (λ _. ⊥)) }
-    ensures due { IfSome (F.told files.old) (λ shelf. IsErrOf result Outcome.FileFault ↔ IsTrue (is_due shelf name.now)) }
+    ensures due { IfSome (F.told files.old)
+        (λ shelf. IsErrOf result Outcome.FileFault ↔ IsTrue (is_due shelf name.now)) }
     ensures told { F.told files.new ≡ option_map after_call (F.told files.old) }
     ensures count { F.faults files.new ≡ file_faults_unless result (F.faults files.old) }
 {
@@ -97,7 +99,8 @@ pub(crate) fn compile_file<F: Files>(
 ) -> Result<Image, Outcome>
     ensures image { IfOk result (Compiles (text_of (F.told files.old) name.now)) }
     ensures cause { IfErr result (IsCause (RefusesText (text_of (F.told files.old) name.now))) }
-    ensures due { IfSome (F.told files.old) (λ shelf. IsErrOf result Outcome.FileFault ↔ IsTrue (is_due shelf name.now)) }
+    ensures due { IfSome (F.told files.old)
+        (λ shelf. IsErrOf result Outcome.FileFault ↔ IsTrue (is_due shelf name.now)) }
     ensures told { F.told files.new ≡ option_map after_call (F.told files.old) }
     ensures count { F.faults files.new ≡ file_faults_unless result (F.faults files.old) }
 {
@@ -119,7 +122,8 @@ pub(crate) fn image_in_file<F: Files>(
 ) -> Result<Image, Outcome>
     ensures image { IfOk result (Holds (text_of (F.told files.old) name.now)) }
     ensures cause { IfErr result (IsCause (RefusesBytes (text_of (F.told files.old) name.now))) }
-    ensures due { IfSome (F.told files.old) (λ shelf. IsErrOf result Outcome.FileFault ↔ IsTrue (is_due shelf name.now)) }
+    ensures due { IfSome (F.told files.old)
+        (λ shelf. IsErrOf result Outcome.FileFault ↔ IsTrue (is_due shelf name.now)) }
     ensures told { F.told files.new ≡ option_map after_call (F.told files.old) }
     ensures count { F.faults files.new ≡ file_faults_unless result (F.faults files.old) }
 {

@@ -39,5 +39,6 @@ pub fn an_image_is_migrated()
 
 /// A text that spells a tree is refused by `print` for no cause.
 pub fn a_tree_is_not_refused()
-    ensures { (text : List ℕ) (tree : TranslationUnit) (answer : Answer) → Spells text tree → SpellsNone text answer → ⊥ }
+    ensures { (text : List ℕ) (tree : TranslationUnit) (answer : Answer) → Spells text tree → SpellsNone text answer →
+        ⊥ }
 {}

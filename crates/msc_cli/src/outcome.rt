@@ -89,7 +89,8 @@ pub fn exit_code(outcome: &Outcome) -> u8
 
 /// Puts the line of an outcome, which takes no memory. A failed put ends the line there.
 pub fn put_line<S: Sink>(sink: &mut S, outcome: &Outcome)
-    ensures { TookUnlessFault (line_of outcome.now) (S.taken sink.old) (S.taken sink.new) (S.faults sink.old) (S.faults sink.new) }
+    ensures { TookUnlessFault (line_of outcome.now)
+        (S.taken sink.old) (S.taken sink.new) (S.faults sink.old) (S.faults sink.new) }
 {
     let said = said(outcome).as_bytes();
     let _ended = match number(outcome) {

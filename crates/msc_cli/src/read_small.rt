@@ -36,7 +36,9 @@ pub enum ReadFault {
 
 /// Reads a text, and computes the values of its expressions.
 pub fn read_small(alloc: Global, text: &[u8]) -> Result<Small, ReadFault>
-    ensures found { IfOk result (λ small. (u : SmallUnit) × IsSmall text.now u × (small.puts.items ≡ written_by u) × (small.status ≡ status_of u)) }
+    ensures found { IfOk result
+        (λ small. (u : SmallUnit) × IsSmall text.now u ×
+            (small.puts.items ≡ written_by u) × (small.status ≡ status_of u)) }
     ensures form { IsErrOf result ReadFault.Form → (u : SmallUnit) → IsSmall text.now u → ⊥ }
 {
     if text.len() > MOST_TEXT {
@@ -48,7 +50,8 @@ pub fn read_small(alloc: Global, text: &[u8]) -> Result<Small, ReadFault>
 /// Reads a text however long it is.
 #[tactic(auto, unfolding(c_mean::specs::model::SmallModel::body))]
 fn read_unit(alloc: Global, text: &mut Cursor<'_>) -> Result<Small, ReadFault>
-    ensures found { IfOk result (λ small. model.body values text.old ≡ Some ((small.puts.items, small.status), text.new)) }
+    ensures found { IfOk result
+        (λ small. model.body values text.old ≡ Some ((small.puts.items, small.status), text.new)) }
     ensures form { IsErrOf result ReadFault.Form → model.body values text.old ≡ None }
 {
     expect(text, b"int main(void){")?;

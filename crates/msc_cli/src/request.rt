@@ -28,7 +28,8 @@ pub struct Request<'a> {
 /// The request of the words: the program's name, a command, and a file that does not begin with `-`; for
 /// `print` the words `--pass tree` stand behind the file. `None` comes exactly where the words are not so.
 pub fn read_words(words: &[String]) -> Option<Request<'_>>
-    ensures { MatchOption result (request_of (map string_bytes words.now) ≡ None) (λ r. request_of (map string_bytes words.now) ≡ Some (r.command, r.file.now)) }
+    ensures { MatchOption result (request_of (map string_bytes words.now) ≡ None)
+        (λ r. request_of (map string_bytes words.now) ≡ Some (r.command, r.file.now)) }
 {
     let (command, file) = match words {
         [_program, command, file] => (command_of(command.as_str())?, file.as_str()),

@@ -16,8 +16,8 @@ use bk_io::outside::{Files, Sink, Source};
 use std::alloc::Global;
 
 /// Does what the words ask for, `build FILE`, `run FILE`, `exec FILE`, `migrate FILE` or
-/// `print FILE --pass tree`, and writes the outcome's line to `err`. `words[0]` is the program's name. The file that is named is read
-/// once, and no other. A failed write to `err` changes no outcome.
+/// `print FILE --pass tree`, and writes the outcome's line to `err`. `words[0]` is the program's name. The file that is
+/// named is read once, and no other. A failed write to `err` changes no outcome.
 pub fn msc_main<F: Files, I: Source, O: Sink, E: Sink>(
     alloc: Global,
     words: &[String],
@@ -35,14 +35,15 @@ pub fn msc_main<F: Files, I: Source, O: Sink, E: Sink>(
     // A fault of the file comes exactly where its read is due to fail, where the files tell that.
     ensures file { FailsWhereDue (request_of (map string_bytes words.now)) (F.told files.old) result }
 
-    // The file that is named is read once. Each count of faults rises by one where the outcome tells that fault, and else
-    // is as before.
+    // The file that is named is read once. Each count of faults rises by one where the outcome tells that fault, and
+    // else is as before.
     ensures told { F.told files.new ≡ told_after (request_of (map string_bytes words.now)) (F.told files.old) }
     ensures file_count { F.faults files.new ≡ file_faults_after result (F.faults files.old) }
     ensures input_count { I.faults input.new ≡ input_faults_after result (I.faults input.old) }
     ensures output_count { O.faults out.new ≡ output_faults_after result (O.faults out.old) }
 
-    ensures line { TookUnlessFault (line_of result) (E.taken err.old) (E.taken err.new) (E.faults err.old) (E.faults err.new) }
+    ensures line { TookUnlessFault (line_of result) (E.taken err.old) (E.taken err.new) (E.faults err.old)
+        (E.faults err.new) }
 {
     let outcome = perform(alloc, words, files, input, out);
     put_line(err, &outcome);

@@ -24,15 +24,18 @@ takes function s = (function == 0x83) && (register s 0 == 3)
 abbrev pub Calls : ℕ → State → Turn → Type 0
 Calls function s turn.Goes = ⊥
 Calls function s (turn.Over h) = (pal_step function s ≡ Over (halt_is h) s) × IsFalse (takes function s)
-Calls function s (turn.Puts byte) = (pal_step function s ≡ next_instruction (with_put byte s)) × (function ≡ 0x83) × (register s 0 ≡ 2)
-Calls function s turn.Takes = (pal_step function s ≡ next_instruction (with_taken s)) × (function ≡ 0x83) × (register s 0 ≡ 3)
+Calls function s (turn.Puts byte) =
+    (pal_step function s ≡ next_instruction (with_put byte s)) × (function ≡ 0x83) × (register s 0 ≡ 2)
+Calls function s turn.Takes =
+    (pal_step function s ≡ next_instruction (with_taken s)) × (function ≡ 0x83) × (register s 0 ≡ 3)
 
 -- what a step does from s, where t is the state in which the processor then stands. A step that waits for
 -- the outside is not done yet
 abbrev pub Steps : Program → Turn → State → State → Type 0
 Steps p turn.Goes s t = (step.step p s ≡ step.Goes t) × IsFalse (asks p 3 s)
 Steps p (turn.Over h) s t = (step.step p s ≡ Over (halt_is h) t) × IsFalse (asks p 3 s)
-Steps p (turn.Puts byte) s t = (step.step p s ≡ next_instruction (with_put byte s)) × IsFalse (asks p 3 s) × IsTrue (asks p 2 s) × (t ≡ s)
+Steps p (turn.Puts byte) s t =
+    (step.step p s ≡ next_instruction (with_put byte s)) × IsFalse (asks p 3 s) × IsTrue (asks p 2 s) × (t ≡ s)
 Steps p turn.Takes s t = (step.step p s ≡ next_instruction (with_taken s)) × IsTrue (asks p 3 s) × (t ≡ s)
 
 -- a turn that waits for the outside

@@ -74,7 +74,9 @@ module _ {T : Type 0} where
 
   -- what holds of the parts that meet between these links
   abbrev pub AtGap : List (ℕ × T) → Option ℕ → Option ℕ → (List (ℕ × T) → List (ℕ × T) → Type 0) → Type 0
-  AtGap pairs prev next P = (before after : List (ℕ × T)) → pairs ≡ before ++ after → prev ≡ last_id before → next ≡ first_id after → P before after
+  AtGap pairs prev next P =
+      (before after : List (ℕ × T)) → pairs ≡ before ++ after → prev ≡ last_id before → next ≡ first_id after →
+      P before after
 
   abbrev pub with_item : Option T → Node T → Node T
   with_item item n = record n { item = item }

@@ -40,7 +40,8 @@ unfoldable pub word_at : List ℕ → Option Cut
 word_at s = let n = prefix_len is_word s in Some (record { piece = p.Token (kind_of_word (take n s)); len = n })
 
 unfoldable pub number_at : List ℕ → Option Cut
-number_at s = let n = prefix_len is_run s in if is_number (take n s) then Some (record { piece = p.Token k.Number; len = n }) else None
+number_at s = let n = prefix_len is_run s in
+    if is_number (take n s) then Some (record { piece = p.Token k.Number; len = n }) else None
 
 abbrev pub cut_to_end : ℕ → Piece → Option ℕ → Option Cut
 cut_to_end before x None = None
@@ -58,7 +59,8 @@ dot_at [] = None
 dot_at (a ∷ s) = if first_passes is_digit s then None else mark_at (a ∷ s)
 
 unfoldable pub marker_at : Bool → List ℕ → Option Cut
-marker_at first s = let n = prefix_len is_inner s in if first && is_linemarker (take n s) then Some (record { piece = p.Blank; len = n + 1 }) else None
+marker_at first s = let n = prefix_len is_inner s in
+    if first && is_linemarker (take n s) then Some (record { piece = p.Blank; len = n + 1 }) else None
 
 -- what a byte that begins neither blanks, a word nor a number begins
 unfoldable pub other_at : Bool → List ℕ → Option Cut

@@ -17,7 +17,8 @@ pub record Making (V B : Type 0) : Type 0 where
 
 -- the trees
 abbrev pub trees : Making Expression Expression
-trees = record { number = Number; tilde = Complement; sum = Sum; difference = Difference; product = Product; whole = λ x. x }
+trees = record {
+  number = Number; tilde = Complement; sum = Sum; difference = Difference; product = Product; whole = λ x. x }
 
 -- the values, and of a whole expression its value modulo 256
 abbrev pub values : Making ℤ ℕ
@@ -65,7 +66,9 @@ digit (b ∷ ts) = if is_ascii_digit b then Some (b - 48, ts) else None
 -- the digits behind a number
 unfoldable pub digits : ℕ → List ℕ → ScanOutcome ℕ
 digits n [] = Some (n, [])
-digits n (b ∷ ts) = if is_ascii_digit b then (if nat_le (10 * n + (b - 48)) most_number then digits (10 * n + (b - 48)) ts else None) else Some (n, b ∷ ts)
+digits n (b ∷ ts) =
+    if is_ascii_digit b then (if nat_le (10 * n + (b - 48)) most_number then digits (10 * n + (b - 48)) ts else None)
+    else Some (n, b ∷ ts)
 
 unfoldable pub number : List ℕ → ScanOutcome ℕ
 number ts = and_then (digit ts) (λ d r. if (d == 0) && is_some (digit r) then None else digits d r)
@@ -130,7 +133,8 @@ module _ {V B : Type 0} (making : Making V B) where
   unfoldable pub puts_by : ℕ → List B → List ℕ → ScanOutcome (List B)
   puts_by zero found ts = Some (found, ts)
   puts_by (suc j) found ts = if starts_with nat_eq ts (codes "putchar(")
-      then and_then (whole_expression (drop 8 ts)) (λ x r. and_then (word (codes ");") r) (λ _. puts_by j (found ++ x ∷ [])))
+      then and_then (whole_expression (drop 8 ts))
+          (λ x r. and_then (word (codes ");") r) (λ _. puts_by j (found ++ x ∷ [])))
       else Some (found, ts)
 
   unfoldable pub puts : List B → List ℕ → ScanOutcome (List B)

@@ -5,7 +5,8 @@ use Rattle.c_nesting.specs.declared.nesting.Role.TheVariants.{Opens, Closes, Clo
 use Rattle.c_nesting.specs.declared.nesting.Group.{Group}
 use Rattle.c_nesting.specs.declared.nesting.Walk.{Walk}
 
--- the groups around the innermost open one, innermost first, then that one, and whether its segment at hand ends if no `else` follows
+-- the groups around the innermost open one, innermost first, then that one, and whether its segment at hand ends if no
+-- `else` follows
 pub record State : Type 0 where
   pub outer : List Group
   pub group : Group
