@@ -2,14 +2,16 @@
 """Prints random assembly texts without far branches, each with the words that GNU binutils makes of it.
 
 What is given is a text in the form of docs/formats.md, Assembly text; what is due are its words in hexadecimal,
-one a line. Branches, and the places of labels, are those of an assembler that is not ours; the addresses of
-labels and data are computed from these places here.
+one a line, where equal words that follow each other are one line with their number. Branches, and the places of
+labels, are those of an assembler that is not ours; the addresses of labels and data are computed from these places
+here.
 
 Needs Debian's binutils-alpha-linux-gnu. Run at the top of the repository:
 
     python3 tools/alpha_texts.py
 """
 
+import itertools
 import os
 import random
 import subprocess
@@ -128,6 +130,11 @@ def spelled(items, size):
     return lines
 
 
+def counted(words):
+    """The words, with how often each follows itself."""
+    return [(word, len(list(same))) for word, same in itertools.groupby(words)]
+
+
 def main():
     draw = random.Random(1)
     for _ in range(TEXTS):
@@ -136,8 +143,8 @@ def main():
         start = (TEXT_START + 4 * len(words) + PART - 1) // PART * PART
         words, _ = assembled(source(items, places, start))
         print("\n".join(spelled(items, size)) + " =>")
-        for word in words:
-            print(f"  {word:08x}")
+        for word, times in counted(words):
+            print(f"  {word:08x}" + (f" {times} times" if times > 1 else ""))
         print()
 
 

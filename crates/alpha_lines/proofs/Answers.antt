@@ -1,5 +1,5 @@
 -- What a line was read as is exactly what it is the line of.
-use Rattle.std.proofs.Common.{◌≡◌, ℕ, ◌^◌, ◌<◌, List, [], ◌∷◌, ◌++◌, refl, append_assoc, append-nil, Option, Some, None, Ok, Err, Result, sym, ap, ◌∙◌, subst}
+use Rattle.std.proofs.Common.{◌≡◌, ℕ, ◌^◌, ◌<◌, List, [], ◌∷◌, ◌++◌, refl, append_assoc, append-nil, Option, Some, None, Ok, Err, Result, sym, ap, ◌∙◌}
 use Rattle.std.specs.Prelude.{IfOk, IfSome, IsSomeAnd, option_map}
 use Rattle.std.specs.List.{All}
 use Rattle.alpha_items.specs.declared.item.AsmItem.{AsmItem}
@@ -83,11 +83,11 @@ bytes_only_at f line (Some v) e bytes small same =
     let some : ◌≡◌ {A = Option (List ℕ)} (Some (f v)) (Some bytes) = e ∙ ap hex_line_of same ∙ hex_line_complete bytes small in
     cc
 
-bytes_found_at : {A : Type 0} (f : A → List ℕ) (line : List ℕ) (o : Option A) → option_map f o ≡ hex_line_of line → IfSome o (λ v. line ≡ hex_line (f v))
+bytes_found_at : {A : Type 0} (f : A → List ℕ) (line : List ℕ) (o : Option A) → option_map f o ≡ hex_line_of line → IfSome o (λ v. All (λ b. b < 256) (f v) × (line ≡ hex_line (f v)))
 bytes_found_at f line None e = tt
-bytes_found_at f line (Some v) e = (hex_line_sound line (f v) (sym e)).1
+bytes_found_at f line (Some v) e = hex_line_sound line (f v) (sym e)
 
-pub hex_found : {A E : Type 0} (f : A → List ℕ) (line : List ℕ) (r : Result (Option A) E) → IfOk r (λ o. option_map f o ≡ hex_line_of line) → IfOk r (λ o. IfSome o (λ v. line ≡ hex_line (f v)))
+pub hex_found : {A E : Type 0} (f : A → List ℕ) (line : List ℕ) (r : Result (Option A) E) → IfOk r (λ o. option_map f o ≡ hex_line_of line) → IfOk r (λ o. IfSome o (λ v. All (λ b. b < 256) (f v) × (line ≡ hex_line (f v))))
 hex_found f line (Ok o) e = bytes_found_at f line o e
 hex_found f line (Err x) e = tt
 

@@ -1,2 +1,14 @@
 pub mod Rows
+pub mod Labels
+pub mod Judged
 pub mod Printed
+pub mod Lines
+pub mod Steps
+pub mod Joined
+pub mod Sound
+pub mod Whole
+pub mod Unique
+pub mod Complete
+pub mod Feeds
+pub mod Again
+pub mod Sizes

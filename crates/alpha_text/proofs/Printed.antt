@@ -1,13 +1,12 @@
 -- The parts that are printed are the text.
-use Rattle.std.proofs.Common.{◌≡◌, ℕ, List, [], ◌∷◌, ◌++◌, length, map, refl, sym, ap, ◌∙◌, append_assoc}
+use Rattle.std.proofs.Common.{◌≡◌, ℕ, List, [], ◌∷◌, ◌++◌, length, map, ap, ◌∙◌, append_assoc}
 use Rattle.std.specs.Prelude.{flat_map, codes}
 use Rattle.std.proofs.lemmas.List.Concat.{flat_map-append}
 use Rattle.std.proofs.lemmas.List.Folds.{flat_map-map}
 use Rattle.alpha_items.specs.declared.item.AsmItem.{AsmItem}
 use Rattle.alpha_items.specs.declared.item.Fix.{Fix}
-use Rattle.alpha_items.specs.Assembly.{Assembly}
 use Rattle.alpha_lines.specs.Lines.{head_line, item_line, data_line, fix_line}
-use Rattle.alpha_text.specs.Texts.{ended, ended_lines, hex_lines, asm_lines, asm_text}
+use Rattle.alpha_text.specs.Texts.{ended, ended_lines, hex_lines, asm_text}
 
 regrouped : (t h a b n c d : List ℕ) → t ++ (h ++ (a ++ ((b ++ n) ++ (c ++ d)))) ≡ (((((t ++ h) ++ a) ++ b) ++ n) ++ c) ++ d
 regrouped t h a b n c d = simp append_assoc

@@ -1,8 +1,8 @@
 -- The lines of the data, row by row.
-use Rattle.std.proofs.Common.{◌≡◌, ℕ, suc, ◌+◌, ◌-◌, ◌%◌, ◌<◌, ◌≤◌, List, [], ◌∷◌, ◌++◌, length, take, drop, min, inl, inr, refl, sym, ap, ◌∙◌, arith, append_assoc, append-nil}
+use Rattle.std.proofs.Common.{◌≡◌, ℕ, suc, ◌%◌, ◌<◌, ◌≤◌, List, [], ◌∷◌, ◌++◌, length, take, drop, min, inl, inr, refl, sym, ap, ◌∙◌, arith, append_assoc, append-nil}
 use Rattle.std.proofs.Math.ListN.{drop_of_length-le}
 use Rattle.std.proofs.lemmas.Bool.{cases_lt}
-use Rattle.std.proofs.lemmas.List.{length-drop, take_all}
+use Rattle.std.proofs.lemmas.List.{length-drop, take_all, take-append-le, drop-append-le}
 use Rattle.alpha_lines.specs.Lines.{hex_line}
 use Rattle.alpha_text.specs.Texts.{ended_lines, hex_rows, hex_lines}
 
@@ -52,3 +52,25 @@ row_pushed text done after whole rest row behind mid some e front back pushed en
 
 pub rows_pushed : (text whole rest : List ℕ) → length rest ≡ 0 → text ++ ended_lines (hex_lines rest) ≡ whole → text ≡ whole
 rows_pushed text whole rest none e = sym (append-nil text) ∙ (ap (λ t. text ++ ended_lines t) (sym (rows_none rest none)) ∙ e)
+
+-- one row more, behind rows that are full
+push_at : (k : ℕ) (done row : List ℕ) → length done ≤ k → length done % 32 ≡ 0 → 0 < length row → length row ≤ 32 → hex_lines (done ++ row) ≡ hex_lines done ++ hex_line row ∷ []
+push_at k [] row low full some short =
+    let whole : take 32 row ≡ row = take_all 32 row short in
+    let none : hex_lines (drop 32 row) ≡ [] = rows_none (drop 32 row) (omega (arith, length-drop 32 row)) in
+    let empty : hex_lines [] ≡ [] = rows_none [] refl in
+    rows_step row some ∙ rw (whole, none, empty) refl
+push_at Prim.Native.Nat.zero (b ∷ done) row low full some short = absurd (omega arith)
+push_at (suc k) (b ∷ done) row low full some short =
+    let wide : 32 ≤ length (b ∷ done) = omega arith in
+    let front : take 32 ((b ∷ done) ++ row) ≡ take 32 (b ∷ done) = take-append-le 32 (b ∷ done) row wide in
+    let behind : drop 32 ((b ∷ done) ++ row) ≡ drop 32 (b ∷ done) ++ row = drop-append-le 32 (b ∷ done) row wide in
+    let later = push_at k (drop 32 (b ∷ done)) row (omega (arith, length-drop 32 (b ∷ done))) (omega (arith, length-drop 32 (b ∷ done))) some short in
+    rows_step ((b ∷ done) ++ row) (omega arith)
+    ∙ (ap (λ t. hex_line t ∷ hex_lines (drop 32 ((b ∷ done) ++ row))) front
+    ∙ (ap (λ t. hex_line (take 32 (b ∷ done)) ∷ hex_lines t) behind
+    ∙ (ap (λ t. hex_line (take 32 (b ∷ done)) ∷ t) later
+    ∙ sym (ap (λ t. t ++ hex_line row ∷ []) (rows_step (b ∷ done) (omega arith))))))
+
+pub rows_push : (done row : List ℕ) → length done % 32 ≡ 0 → 0 < length row → length row ≤ 32 → hex_lines (done ++ row) ≡ hex_lines done ++ hex_line row ∷ []
+rows_push done row full some short = push_at (length done) done row (omega arith) full some short

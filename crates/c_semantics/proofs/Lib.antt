@@ -3,6 +3,8 @@ pub mod Steady
 pub mod Trees
 pub mod Behaviours
 pub mod Computed
+pub mod Facts
 pub mod RefinesExpr
 pub mod RefinesStmt
 pub mod RefinesUnit
+pub mod TypedExamples

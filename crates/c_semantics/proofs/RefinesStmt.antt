@@ -1,57 +1,341 @@
 -- A refinement in the place of a part refines the whole statement, by induction on the level.
-use Rattle.std.proofs.Common.{◌≡◌, ℕ, zero, suc, List, [], ◌∷◌, ◌++◌, Option, Some, None, refl, ap, ◌∙◌}
-use Rattle.std.specs.Prelude.{slice_get, map, if◌then◌else◌, ◌||◌}
+use Rattle.std.proofs.Common.{◌≡◌, ◌≤◌, ◌+◌, ℕ, zero, suc, Bool, true, ◌&&◌, ◌||◌, not, IsTrue, List, [], ◌∷◌, ◌++◌, Option, Some, None, refl, sym, ap, ◌∙◌, arith, sum_by}
+use Rattle.std.specs.Prelude.{slice_get, map, if◌then◌else◌}
+use Rattle.std.specs.List.{list_all, list_any}
+use Rattle.std.proofs.lemmas.List.Sums.{sum_by_from}
 use Rattle.mem_model.specs.World.{Rooms}
+use Rattle.c_arithmetic.specs.declared.integer_type.IntegerType.{IntegerType}
+use Rattle.c_typed_tree.specs.declared.statements.TLabel.{TLabel}
 use Rattle.c_typed_tree.specs.declared.types.StructDef.{StructDef}
 use Rattle.c_typed_tree.specs.declared.units.Local.{Local}
 use Rattle.c_typed_tree.specs.declared.units.TypedUnit.{TypedUnit}
-use Rattle.c_typed_tree.specs.Expressions.{Expr}
+use Rattle.c_typed_tree.specs.Types.{PlainType}
+use Rattle.c_typed_tree.specs.Expressions.{Expr, type_of}
 use Rattle.c_typed_tree.specs.Statements.{Declared, First, Stmt, Else, no_else, else_stmt, Stmts, no_stmts, more_stmts, Sections, no_sections, more_sections}
 use Rattle.c_typed_tree.specs.Statements as q
+use Rattle.c_typed_tree.specs.Layout.{integer_of}
+use Rattle.c_typed_tree.specs.Typing.{Context, is_same_type, is_void, is_scalar, is_array, is_promoted, is_typed}
+use Rattle.c_typed_tree.specs.TypingStatements as types
+use Rattle.c_typed_tree.specs.TypingStatements.{Jumps, in_loop, in_switch, is_value, is_condition, is_optional_value, is_optional_condition, has_initialised_type, is_initialiser, is_declared, is_first, is_returned, is_label, is_same_label, are_labels, is_typed_stmt, is_typed_else, are_typed_stmts, are_typed_sections}
+use Rattle.c_typed_tree.specs.Names.{Named, is_local, names, optional_names, declared_names, first_names, stmt_names, else_names, stmts_names, sections_names}
+use Rattle.c_typed_tree.specs.Weight.{copy_weight, expr_weight, optional_weight, init_weight, declared_weight, first_weight, stmt_weight, else_weight, stmts_weight, sections_weight}
 use Rattle.c_semantics.specs.Runs.{Run, ◌>>=◌, ◌>>◌, pure, turn}
 use Rattle.c_semantics.specs.Objects.{Scope, with_locals}
 use Rattle.c_semantics.specs.Evaluates.{Functions, choose}
-use Rattle.c_semantics.specs.Executes.{Flow, Goes, Breaks, Continues, Returns, after_body, and_next, declared_by, declared_in, declared_first, is_label_of, has_label, target_in, holds, condition, step, initialise, declare, declares, first, returned, exec, exec_else, execs, exec_sections, exec_from, calls_of, locals_of, level}
+use Rattle.c_semantics.specs.Executes.{Flow, Goes, Breaks, Continues, Returns, after_body, and_next, declared_by, declared_in, declared_first, is_label_of, has_label, target_in, holds, condition, step, initialise, declare, declares, first, returned, exec, exec_else, execs, exec_sections, exec_from, calls_of, level}
 use Rattle.c_semantics.specs.Refines as r
-use Rattle.c_semantics.specs.Refines.{RunRefines, ExprRefines, ExprWithin, OptionWithin, DeclaredWithin, AllDeclaredWithin, FirstWithin, StmtRefines, StmtWithin, ElseWithin, StmtsWithin, SectionsWithin}
+use Rattle.c_semantics.specs.Refines.{RunRefines, RefinesIn, ExprWithin, OptionWithin, DeclaredWithin, AllDeclaredWithin, FirstWithin, context_at, result_at, IsTypedAt, StmtRefines, StmtWithin, ElseWithin, StmtsWithin, SectionsWithin}
+use Rattle.c_semantics.proofs.Facts.{front, back, also, either_on, along, three, four}
 use Rattle.c_semantics.proofs.RefinesExpr.{same, equal, refines_on, bind, choose_refines, if_refines, locals_refines, within_refines}
 
--- ---- parts of statements
+-- ---- the locals and labels of both are the same
 
-module _ (ds : List StructDef) (ls : List Local) (f : Functions) where
-  holds_refines : (scope : Scope) {x y : Expr} → ExprWithin x y → RunRefines (holds ds ls f scope x) (holds ds ls f scope y)
-  holds_refines scope h = bind ((within_refines h).value ds ls f scope) (λ v. same)
+all_numbers : {a b : List Declared} → AllDeclaredWithin a b → map (λ d. d.number) a ≡ map (λ d. d.number) b
+all_numbers r.no_more = refl
+all_numbers (r.one_more {e = e} {ds = ds} h g) = ap (λ k. k ∷ map (λ d. d.number) ds) h.number ∙ ap (λ ks. e.number ∷ ks) (all_numbers g)
 
-  condition_refines : (scope : Scope) {x y : Option Expr} → OptionWithin x y → RunRefines (condition ds ls f scope x) (condition ds ls f scope y)
-  condition_refines scope r.missing = same
-  condition_refines scope (r.present h) = holds_refines scope h
+first_numbers : {a b : First} → FirstWithin a b → declared_first a ≡ declared_first b
+first_numbers r.nothing_first = refl
+first_numbers (r.value_first h) = refl
+first_numbers (r.locals_first h) = all_numbers h
 
-  step_refines : (scope : Scope) {x y : Option Expr} → OptionWithin x y → RunRefines (step ds ls f scope x) (step ds ls f scope y)
-  step_refines scope r.missing = same
-  step_refines scope (r.present h) = bind ((within_refines h).value ds ls f scope) (λ v. same)
+same_labels : (target : Option ℕ) {a b : Sections} → SectionsWithin a b → has_label target a ≡ has_label target b
+same_labels target r.no_section_left = refl
+same_labels target (r.one_section {label = label} h g) = ap (λ x. is_label_of target label || x) (same_labels target g)
 
-  initialise_refines : (scope : Scope) (k : ℕ) (l : Option Local) {x y : Option Expr} → OptionWithin x y → RunRefines (initialise ds ls f scope k l x) (initialise ds ls f scope k l y)
-  initialise_refines scope k None h = same
-  initialise_refines scope k (Some l) r.missing = same
-  initialise_refines scope k (Some l) (r.present h) = bind ((within_refines h).value ds ls f scope) (λ v. same)
+same_target : (n : ℕ) {a b : Sections} → SectionsWithin a b → target_in n a ≡ target_in n b
+same_target n h = ap (λ found. if found then Some n else None) (same_labels (Some n) h)
 
-  declare_refines : (scope : Scope) {d e : Declared} → DeclaredWithin d e → RunRefines (declare ds ls f scope d) (declare ds ls f scope e)
-  declare_refines scope {d = d} {e = e} h =
-      refines_on (initialise_refines scope d.number (slice_get ls d.number) h.init)
-      (equal (ap (λ k. initialise ds ls f scope k (slice_get ls k) e.init) h.number))
+label_found : (other : TLabel) {a b : Sections} → SectionsWithin a b → types.is_label_of other a ≡ types.is_label_of other b
+label_found other r.no_section_left = refl
+label_found other (r.one_section {label = label} h g) = ap (λ x. is_same_label other label || x) (label_found other g)
 
-  declares_refines : (scope : Scope) {a b : List Declared} → AllDeclaredWithin a b → RunRefines (declares ds ls f scope a) (declares ds ls f scope b)
-  declares_refines scope r.no_more = same
-  declares_refines scope (r.one_more h g) = bind (declare_refines scope h) (λ _. declares_refines scope g)
+labels_on : (t : Option IntegerType) {a b : Sections} → SectionsWithin a b → are_labels t a ≡ are_labels t b
+labels_on t r.no_section_left = refl
+labels_on t (r.one_section {label = label} {a = a} {b = b} h g) =
+    ap (λ x. is_label t label && not x && are_labels t a) (label_found label g) ∙ ap (λ x. is_label t label && not (types.is_label_of label b) && x) (labels_on t g)
 
-  first_refines : (scope : Scope) {a b : First} → FirstWithin a b → RunRefines (first ds ls f scope a) (first ds ls f scope b)
-  first_refines scope r.nothing_first = same
-  first_refines scope (r.value_first h) = bind ((within_refines h).value ds ls f scope) (λ v. same)
-  first_refines scope (r.locals_first h) = declares_refines scope h
+-- ---- parts of statements: still well typed, naming nothing new, and weighing no more
 
-  returned_refines : (scope : Scope) {x y : Option Expr} → OptionWithin x y → RunRefines (returned ds ls f scope x) (returned ds ls f scope y)
-  returned_refines scope r.missing = same
-  returned_refines scope (r.present h) = bind (bind ((within_refines h).value ds ls f scope) (λ v. same)) (λ v. same)
+record PartIn (typed : Bool) (named others : Named → Bool) (weight most : ℕ) : Type 0 where
+  fits : IsTrue typed
+  names : (a : Named) → IsTrue (named a) → IsTrue (others a)
+  light : weight ≤ most
+
+module _ (c : Context) where
+  abbrev StandsFor : (x y : Expr) → (test : Context → Expr → Bool) → Type 0
+  StandsFor x y test = PartIn (test c x) (λ a. names a x) (λ a. names a y) (expr_weight c.structs x) (expr_weight c.structs y)
+
+  abbrev typed_value : (y : Expr) → IsTrue (is_value c y) → IsTrue (is_typed c y)
+  typed_value y p = back (not (is_array (type_of y))) (is_typed c y) p
+
+  abbrev typed_condition : (y : Expr) → IsTrue (is_condition c y) → IsTrue (is_typed c y)
+  typed_condition y p = back (is_scalar (type_of y)) (is_typed c y) p
+
+  value_part : {x y : Expr} → ExprWithin x y → IsTrue (is_value c y) → StandsFor x y is_value
+  value_part {x = x} {y = y} h p =
+      let e = within_refines h c (typed_value y p) in
+      record {
+        fits = also (not (is_array (type_of x))) (is_typed c x) (along (λ o. not (is_array o)) e.types (front (not (is_array (type_of y))) (is_typed c y) p)) e.typed;
+        names = e.named;
+        light = e.weight;
+      }
+
+  condition_part : {x y : Expr} → ExprWithin x y → IsTrue (is_condition c y) → StandsFor x y is_condition
+  condition_part {x = x} {y = y} h p =
+      let e = within_refines h c (typed_condition y p) in
+      record {
+        fits = also (is_scalar (type_of x)) (is_typed c x) (along (λ o. is_scalar o) e.types (front (is_scalar (type_of y)) (is_typed c y) p)) e.typed;
+        names = e.named;
+        light = e.weight;
+      }
+
+  abbrev StandsForOptional : (x y : Option Expr) → (test : Context → Option Expr → Bool) → Type 0
+  StandsForOptional x y test =
+      PartIn (test c x) (λ a. optional_names a x) (λ a. optional_names a y) (optional_weight c.structs x) (optional_weight c.structs y)
+
+  missing_part : (test : Context → Option Expr → Bool) → IsTrue (test c None) → StandsForOptional None None test
+  missing_part test p = record { fits = p; names = λ a h. h; light = omega arith }
+
+  optional_value : {x y : Option Expr} → OptionWithin x y → IsTrue (is_optional_value c y) → StandsForOptional x y is_optional_value
+  optional_value r.missing p = missing_part is_optional_value p
+  optional_value (r.present h) p = let v = value_part h p in record { fits = v.fits; names = v.names; light = v.light }
+
+  optional_condition : {x y : Option Expr} → OptionWithin x y → IsTrue (is_optional_condition c y) → StandsForOptional x y is_optional_condition
+  optional_condition r.missing p = missing_part is_optional_condition p
+  optional_condition (r.present h) p = let v = condition_part h p in record { fits = v.fits; names = v.names; light = v.light }
+
+  abbrev typed_returned : (result : PlainType) (y : Expr) → IsTrue (is_returned c result (Some y)) → IsTrue (is_typed c y)
+  typed_returned result y p = back (is_same_type (type_of y) result && not (is_void result)) (is_typed c y) p
+
+  returned_part : (result : PlainType) {x y : Option Expr} → OptionWithin x y → IsTrue (is_returned c result y) → StandsForOptional x y (λ d o. is_returned d result o)
+  returned_part result r.missing p = missing_part (λ d o. is_returned d result o) p
+  returned_part result (r.present {x = x} {y = y} h) p =
+      let e = within_refines h c (typed_returned result y p) in
+      let f = front (is_same_type (type_of y) result && not (is_void result)) (is_typed c y) p in
+      record {
+        fits = also (is_same_type (type_of x) result && not (is_void result)) (is_typed c x) (along (λ o. is_same_type o result && not (is_void result)) e.types f) e.typed;
+        names = e.named;
+        light = e.weight;
+      }
+
+  abbrev typed_initialiser : (l : Option Local) (y : Expr) → IsTrue (is_initialiser c l (Some y)) → IsTrue (is_typed c y)
+  typed_initialiser l y p = back (has_initialised_type l (type_of y)) (is_typed c y) p
+
+  initialiser_part : (l : Option Local) {x y : Option Expr} → OptionWithin x y → IsTrue (is_initialiser c l y)
+      → PartIn (is_initialiser c l x) (λ a. optional_names a x) (λ a. optional_names a y) (init_weight c.structs x) (init_weight c.structs y)
+  initialiser_part l r.missing p = record { fits = p; names = λ a h. h; light = omega arith }
+  initialiser_part l (r.present {x = x} {y = y} h) p =
+      let e = within_refines h c (typed_initialiser l y p) in
+      record {
+        fits = also (has_initialised_type l (type_of x)) (is_typed c x) (along (λ o. has_initialised_type l o) e.types (front (has_initialised_type l (type_of y)) (is_typed c y) p)) e.typed;
+        names = e.named;
+        light = omega (arith, e.weight, ap (λ o. copy_weight c.structs o) e.types);
+      }
+
+  declared_part : {d e : Declared} → DeclaredWithin d e → IsTrue (is_declared c e)
+      → PartIn (is_declared c d) (λ a. declared_names a d) (λ a. declared_names a e) (declared_weight c.structs d) (declared_weight c.structs e)
+  declared_part {d = d} {e = e} h p =
+      let i = initialiser_part (slice_get c.locals e.number) h.init p in
+      record {
+        fits = along (λ k. is_initialiser c (slice_get c.locals k) d.init) h.number i.fits;
+        names = λ a. either_on (is_local a d.number) (optional_names a d.init) (is_local a e.number) (optional_names a e.init) (along (λ k. is_local a k) (sym h.number)) (i.names a);
+        light = omega (arith, i.light);
+      }
+
+  all_declared_part : {ds es : List Declared} → AllDeclaredWithin ds es → IsTrue (list_all (is_declared c) es)
+      → PartIn (list_all (is_declared c) ds) (λ a. list_any (declared_names a) ds) (λ a. list_any (declared_names a) es) (sum_by (declared_weight c.structs) ds) (sum_by (declared_weight c.structs) es)
+  all_declared_part r.no_more p = record { fits = p; names = λ a h. h; light = omega arith }
+  all_declared_part (r.one_more {d = d} {e = e} {ds = ds} {es = es} h g) p =
+      let f = declared_part h (front (is_declared c e) (list_all (is_declared c) es) p) in
+      let k = all_declared_part g (back (is_declared c e) (list_all (is_declared c) es) p) in
+      record {
+        fits = also (is_declared c d) (list_all (is_declared c) ds) f.fits k.fits;
+        names = λ a. either_on (declared_names a d) (list_any (declared_names a) ds) (declared_names a e) (list_any (declared_names a) es) (f.names a) (k.names a);
+        light = omega (arith, f.light, k.light, sum_by_from (declared_weight c.structs) (0 + declared_weight c.structs d) ds, sum_by_from (declared_weight c.structs) (0 + declared_weight c.structs e) es);
+      }
+
+  first_part : {a b : First} → FirstWithin a b → IsTrue (is_first c b)
+      → PartIn (is_first c a) (λ n. first_names n a) (λ n. first_names n b) (first_weight c.structs a) (first_weight c.structs b)
+  first_part r.nothing_first p = record { fits = p; names = λ a h. h; light = omega arith }
+  first_part (r.value_first h) p = let v = value_part h p in record { fits = v.fits; names = v.names; light = v.light }
+  first_part (r.locals_first h) p = let v = all_declared_part h p in record { fits = v.fits; names = v.names; light = v.light }
+
+-- ---- what a statement is besides what it does
+
+record StmtIn (unit : TypedUnit) (n : ℕ) (j : Jumps) (s t : Stmt) : Type 0 where
+  typed : IsTypedAt unit n j s
+  declares : declared_by s ≡ declared_by t
+  named : (a : Named) → IsTrue (stmt_names a s) → IsTrue (stmt_names a t)
+  weight : stmt_weight unit.structs s ≤ stmt_weight unit.structs t
+
+module _ (unit : TypedUnit) (n : ℕ) where
+  abbrev here : Context
+  here = context_at unit (slice_get unit.functions n)
+
+  abbrev gives : PlainType
+  gives = result_at (slice_get unit.functions n)
+
+  record ElseIn (j : Jumps) (s t : Else) : Type 0 where
+    typed : IsTrue (is_typed_else here gives j s)
+    named : (a : Named) → IsTrue (else_names a s) → IsTrue (else_names a t)
+    weight : else_weight unit.structs s ≤ else_weight unit.structs t
+
+  record StmtsIn (j : Jumps) (s t : Stmts) : Type 0 where
+    typed : IsTrue (are_typed_stmts here gives j s)
+    declares : declared_in s ≡ declared_in t
+    named : (a : Named) → IsTrue (stmts_names a s) → IsTrue (stmts_names a t)
+    weight : stmts_weight unit.structs s ≤ stmts_weight unit.structs t
+
+  record SectionsIn (j : Jumps) (s t : Sections) : Type 0 where
+    typed : IsTrue (are_typed_sections here gives j s)
+    named : (a : Named) → IsTrue (sections_names a s) → IsTrue (sections_names a t)
+    weight : sections_weight unit.structs s ≤ sections_weight unit.structs t
+
+  mutual
+    unfolding stmt_weight
+
+    stmt_in : {s t : Stmt} → StmtWithin s t → (j : Jumps) → IsTypedAt unit n j t → StmtIn unit n j s t
+    stmt_in (r.refined h) j p = let k = h unit n j p in record { typed = k.typed; declares = k.declares; named = k.named; weight = k.weight }
+    stmt_in (r.block h) j p = let k = stmts_in h j p in record { typed = k.typed; declares = refl; named = k.named; weight = omega (arith, k.weight) }
+    stmt_in (r.choice {x = x} {y = y} {s = s} {t = t} {a = a} {b = b} h g l) j p =
+        let p3 = back (is_condition here y && is_typed_stmt here gives j t) (is_typed_else here gives j b) p in
+        let q3 = front (is_condition here y && is_typed_stmt here gives j t) (is_typed_else here gives j b) p in
+        let e = condition_part here h (front (is_condition here y) (is_typed_stmt here gives j t) q3) in
+        let k = stmt_in g j (back (is_condition here y) (is_typed_stmt here gives j t) q3) in
+        let m = else_in l j p3 in
+        record {
+          typed = three (is_condition here x) (is_typed_stmt here gives j s) (is_typed_else here gives j a) e.fits k.typed m.typed;
+          declares = refl;
+          named = λ o. either_on (names o x || stmt_names o s) (else_names o a) (names o y || stmt_names o t) (else_names o b) (either_on (names o x) (stmt_names o s) (names o y) (stmt_names o t) (e.names o) (k.named o)) (m.named o);
+          weight = omega (arith, e.light, k.weight, m.weight);
+        }
+    stmt_in (r.while_loop {x = x} {y = y} {s = s} {t = t} h g) j p =
+        let e = condition_part here h (front (is_condition here y) (is_typed_stmt here gives in_loop t) p) in
+        let k = stmt_in g in_loop (back (is_condition here y) (is_typed_stmt here gives in_loop t) p) in
+        record {
+          typed = also (is_condition here x) (is_typed_stmt here gives in_loop s) e.fits k.typed;
+          declares = refl;
+          named = λ o. either_on (names o x) (stmt_names o s) (names o y) (stmt_names o t) (e.names o) (k.named o);
+          weight = omega (arith, e.light, k.weight);
+        }
+    stmt_in (r.do_loop {x = x} {y = y} {s = s} {t = t} h g) j p =
+        let e = condition_part here g (front (is_condition here y) (is_typed_stmt here gives in_loop t) p) in
+        let k = stmt_in h in_loop (back (is_condition here y) (is_typed_stmt here gives in_loop t) p) in
+        record {
+          typed = also (is_condition here x) (is_typed_stmt here gives in_loop s) e.fits k.typed;
+          declares = refl;
+          named = λ o. either_on (stmt_names o s) (names o x) (stmt_names o t) (names o y) (k.named o) (e.names o);
+          weight = omega (arith, e.light, k.weight);
+        }
+    stmt_in (r.for_loop {a = a} {b = b} {x = x} {y = y} {v = v} {w = w} {s = s} {t = t} h g l i) j p =
+        let p4 = back (is_first here b && is_optional_condition here y && is_optional_value here w) (is_typed_stmt here gives in_loop t) p in
+        let q4 = front (is_first here b && is_optional_condition here y && is_optional_value here w) (is_typed_stmt here gives in_loop t) p in
+        let p3 = back (is_first here b && is_optional_condition here y) (is_optional_value here w) q4 in
+        let q3 = front (is_first here b && is_optional_condition here y) (is_optional_value here w) q4 in
+        let d = first_part here h (front (is_first here b) (is_optional_condition here y) q3) in
+        let e = optional_condition here g (back (is_first here b) (is_optional_condition here y) q3) in
+        let f = optional_value here l p3 in
+        let k = stmt_in i in_loop p4 in
+        record {
+          typed = four (is_first here a) (is_optional_condition here x) (is_optional_value here v) (is_typed_stmt here gives in_loop s) d.fits e.fits f.fits k.typed;
+          declares = refl;
+          named = λ o. either_on (first_names o a || optional_names o x || optional_names o v) (stmt_names o s) (first_names o b || optional_names o y || optional_names o w) (stmt_names o t)
+              (either_on (first_names o a || optional_names o x) (optional_names o v) (first_names o b || optional_names o y) (optional_names o w)
+              (either_on (first_names o a) (optional_names o x) (first_names o b) (optional_names o y) (d.names o) (e.names o)) (f.names o)) (k.named o);
+          weight = omega (arith, d.light, e.light, f.light, k.weight);
+        }
+    stmt_in (r.switch_on {x = x} {y = y} {ss = a} {ts = b} h g) j p =
+        let p4 = back (is_promoted (type_of y) && are_labels (integer_of (type_of y)) b && is_typed here y) (are_typed_sections here gives (in_switch j) b) p in
+        let q4 = front (is_promoted (type_of y) && are_labels (integer_of (type_of y)) b && is_typed here y) (are_typed_sections here gives (in_switch j) b) p in
+        let p3 = back (is_promoted (type_of y) && are_labels (integer_of (type_of y)) b) (is_typed here y) q4 in
+        let q3 = front (is_promoted (type_of y) && are_labels (integer_of (type_of y)) b) (is_typed here y) q4 in
+        let e = within_refines h here p3 in
+        let k = sections_in g (in_switch j) p4 in
+        record {
+          typed = four (is_promoted (type_of x)) (are_labels (integer_of (type_of x)) a) (is_typed here x) (are_typed_sections here gives (in_switch j) a)
+              (along (λ o. is_promoted o) e.types (front (is_promoted (type_of y)) (are_labels (integer_of (type_of y)) b) q3))
+              (labels_on (integer_of (type_of x)) g ∙ along (λ o. are_labels (integer_of o) b) e.types (back (is_promoted (type_of y)) (are_labels (integer_of (type_of y)) b) q3))
+              e.typed k.typed;
+          declares = refl;
+          named = λ o. either_on (names o x) (sections_names o a) (names o y) (sections_names o b) (e.named o) (k.named o);
+          weight = omega (arith, e.weight, k.weight);
+        }
+    stmt_in (r.returns h) j p = let k = returned_part here gives h p in record { typed = k.fits; declares = refl; named = k.names; weight = omega (arith, k.light) }
+    stmt_in (r.expression h) j p = let k = value_part here h p in record { typed = k.fits; declares = refl; named = k.names; weight = omega (arith, k.light) }
+    stmt_in (r.declaration h) j p = let k = declared_part here h p in record { typed = k.fits; declares = ap (λ i. i ∷ []) h.number; named = k.names; weight = k.light }
+
+    else_in : {s t : Else} → ElseWithin s t → (j : Jumps) → IsTrue (is_typed_else here gives j t) → ElseIn j s t
+    else_in r.no_other j p = record { typed = p; named = λ a h. h; weight = omega arith }
+    else_in (r.other h) j p = let k = stmt_in h j p in record { typed = k.typed; named = k.named; weight = k.weight }
+
+    stmts_in : {s t : Stmts} → StmtsWithin s t → (j : Jumps) → IsTrue (are_typed_stmts here gives j t) → StmtsIn j s t
+    stmts_in r.no_statement j p = record { typed = p; declares = refl; named = λ a h. h; weight = omega arith }
+    stmts_in (r.then_stmts {s = s} {t = t} {ss = ss} {ts = ts} h g) j p =
+        let k = stmt_in h j (front (is_typed_stmt here gives j t) (are_typed_stmts here gives j ts) p) in
+        let m = stmts_in g j (back (is_typed_stmt here gives j t) (are_typed_stmts here gives j ts) p) in
+        record {
+          typed = also (is_typed_stmt here gives j s) (are_typed_stmts here gives j ss) k.typed m.typed;
+          declares = ap (λ ks. ks ++ declared_in ss) k.declares ∙ ap (λ ks. declared_by t ++ ks) m.declares;
+          named = λ o. either_on (stmt_names o s) (stmts_names o ss) (stmt_names o t) (stmts_names o ts) (k.named o) (m.named o);
+          weight = omega (arith, k.weight, m.weight);
+        }
+
+    sections_in : {s t : Sections} → SectionsWithin s t → (j : Jumps) → IsTrue (are_typed_sections here gives j t) → SectionsIn j s t
+    sections_in r.no_section_left j p = record { typed = p; named = λ a h. h; weight = omega arith }
+    sections_in (r.one_section {label = label} {ss = ss} {ts = ts} {a = a} {b = b} h g) j p =
+        let k = stmts_in h j (front (are_typed_stmts here gives j ts) (are_typed_sections here gives j b) p) in
+        let m = sections_in g j (back (are_typed_stmts here gives j ts) (are_typed_sections here gives j b) p) in
+        record {
+          typed = also (are_typed_stmts here gives j ss) (are_typed_sections here gives j a) k.typed m.typed;
+          named = λ o. either_on (stmts_names o ss) (sections_names o a) (stmts_names o ts) (sections_names o b) (k.named o) (m.named o);
+          weight = omega (arith, k.weight, m.weight);
+        }
+
+-- ---- what parts of statements do
+
+module _ (c : Context) (f : Functions) where
+  abbrev ds : List StructDef
+  ds = c.structs
+
+  abbrev ls : List Local
+  ls = c.locals
+
+  holds_refines : (scope : Scope) {x y : Expr} → ExprWithin x y → IsTrue (is_condition c y) → RunRefines (holds ds ls f scope x) (holds ds ls f scope y)
+  holds_refines scope {y = y} h p = bind ((within_refines h c (typed_condition c y p)).value f scope) (λ v. same)
+
+  condition_refines : (scope : Scope) {x y : Option Expr} → OptionWithin x y → IsTrue (is_optional_condition c y) → RunRefines (condition ds ls f scope x) (condition ds ls f scope y)
+  condition_refines scope r.missing p = same
+  condition_refines scope (r.present h) p = holds_refines scope h p
+
+  step_refines : (scope : Scope) {x y : Option Expr} → OptionWithin x y → IsTrue (is_optional_value c y) → RunRefines (step ds ls f scope x) (step ds ls f scope y)
+  step_refines scope r.missing p = same
+  step_refines scope (r.present {y = y} h) p = bind ((within_refines h c (typed_value c y p)).value f scope) (λ v. same)
+
+  initialise_refines : (scope : Scope) (k : ℕ) (l : Option Local) {x y : Option Expr} → OptionWithin x y → IsTrue (is_initialiser c l y) → RunRefines (initialise ds ls f scope k l x) (initialise ds ls f scope k l y)
+  initialise_refines scope k None h p = same
+  initialise_refines scope k (Some l) r.missing p = same
+  initialise_refines scope k (Some l) (r.present {y = y} h) p = bind ((within_refines h c (typed_initialiser c (Some l) y p)).value f scope) (λ v. same)
+
+  declare_refines : (scope : Scope) {d e : Declared} → DeclaredWithin d e → IsTrue (is_declared c e) → RunRefines (declare ds ls f scope d) (declare ds ls f scope e)
+  declare_refines scope {d = d} {e = e} h p =
+      refines_on
+      (equal (ap (λ k. initialise ds ls f scope k (slice_get ls k) d.init) h.number))
+      (initialise_refines scope e.number (slice_get ls e.number) h.init p)
+
+  declares_refines : (scope : Scope) {a b : List Declared} → AllDeclaredWithin a b → IsTrue (list_all (is_declared c) b) → RunRefines (declares ds ls f scope a) (declares ds ls f scope b)
+  declares_refines scope r.no_more p = same
+  declares_refines scope (r.one_more {e = e} {es = es} h g) p =
+      bind (declare_refines scope h (front (is_declared c e) (list_all (is_declared c) es) p)) (λ _. declares_refines scope g (back (is_declared c e) (list_all (is_declared c) es) p))
+
+  first_refines : (scope : Scope) {a b : First} → FirstWithin a b → IsTrue (is_first c b) → RunRefines (first ds ls f scope a) (first ds ls f scope b)
+  first_refines scope r.nothing_first p = same
+  first_refines scope (r.value_first {y = y} h) p = bind ((within_refines h c (typed_value c y p)).value f scope) (λ v. same)
+  first_refines scope (r.locals_first h) p = declares_refines scope h p
+
+  returned_refines : (result : PlainType) (scope : Scope) {x y : Option Expr} → OptionWithin x y → IsTrue (is_returned c result y) → RunRefines (returned ds ls f scope x) (returned ds ls f scope y)
+  returned_refines result scope r.missing p = same
+  returned_refines result scope (r.present {y = y} h) p = bind (bind ((within_refines h c (typed_returned c result y p)).value f scope) (λ v. same)) (λ v. same)
 
 pub after_refines : {c d : Run Flow} → RunRefines c d → (flow : Flow) → RunRefines (after_body c flow) (after_body d flow)
 after_refines h Goes = h
@@ -65,49 +349,15 @@ next_refines h Continues = same
 next_refines h Breaks = same
 next_refines h (Returns v) = same
 
--- ---- the locals and labels of both are the same
-
-all_numbers : {a b : List Declared} → AllDeclaredWithin a b → map (λ d. d.number) a ≡ map (λ d. d.number) b
-all_numbers r.no_more = refl
-all_numbers (r.one_more {e = e} {ds = ds} h g) = ap (λ k. k ∷ map (λ d. d.number) ds) h.number ∙ ap (λ ks. e.number ∷ ks) (all_numbers g)
-
-first_numbers : {a b : First} → FirstWithin a b → declared_first a ≡ declared_first b
-first_numbers r.nothing_first = refl
-first_numbers (r.value_first h) = refl
-first_numbers (r.locals_first h) = all_numbers h
-
-by_numbers : {s t : Stmt} → StmtWithin s t → declared_by s ≡ declared_by t
-by_numbers (r.refined h) = h.declares
-by_numbers (r.block h) = refl
-by_numbers (r.choice h g k) = refl
-by_numbers (r.while_loop h g) = refl
-by_numbers (r.do_loop h g) = refl
-by_numbers (r.for_loop h g k j) = refl
-by_numbers (r.switch_on h g) = refl
-by_numbers (r.returns h) = refl
-by_numbers (r.expression h) = refl
-by_numbers (r.declaration h) = ap (λ k. k ∷ []) h.number
-
-in_numbers : {a b : Stmts} → StmtsWithin a b → declared_in a ≡ declared_in b
-in_numbers r.no_statement = refl
-in_numbers (r.then_stmts {t = t} {ss = ss} h g) = ap (λ ks. ks ++ declared_in ss) (by_numbers h) ∙ ap (λ ks. declared_by t ++ ks) (in_numbers g)
-
-same_labels : (target : Option ℕ) {a b : Sections} → SectionsWithin a b → has_label target a ≡ has_label target b
-same_labels target r.no_section_left = refl
-same_labels target (r.one_section {label = label} h g) = ap (λ x. is_label_of target label || x) (same_labels target g)
-
-same_target : (n : ℕ) {a b : Sections} → SectionsWithin a b → target_in n a ≡ target_in n b
-same_target n h = ap (λ found. if found then Some n else None) (same_labels (Some n) h)
-
--- ---- statements
+-- ---- what statements do
 
 module _ (unit : TypedUnit) (rooms : Rooms) (m n : ℕ)
-    (l : (scope : Scope) (s t : Stmt) → StmtWithin s t → RunRefines (level unit rooms m n scope s) (level unit rooms m n scope t)) where
-  abbrev ds : List StructDef
-  ds = unit.structs
+    (l : (scope : Scope) (s t : Stmt) → StmtWithin s t → (j : Jumps) → IsTypedAt unit n j t → RunRefines (level unit rooms m n scope s) (level unit rooms m n scope t)) where
+  abbrev c : Context
+  c = context_at unit (slice_get unit.functions n)
 
-  abbrev ls : List Local
-  ls = locals_of (slice_get unit.functions n)
+  abbrev res : PlainType
+  res = result_at (slice_get unit.functions n)
 
   abbrev f : Functions
   f = calls_of unit rooms (level unit rooms m)
@@ -116,59 +366,88 @@ module _ (unit : TypedUnit) (rooms : Rooms) (m n : ℕ)
   again = level unit rooms m n
 
   mutual
-    exec_refines : (scope : Scope) {s t : Stmt} → StmtWithin s t → RunRefines (exec ds ls f again scope s) (exec ds ls f again scope t)
-    exec_refines scope (r.refined h) = h.does unit rooms (suc m) n scope
-    exec_refines scope (r.block {ss = ss} {ts = ts} h) =
-        refines_on (locals_refines ds ls (declared_in ss) (λ inner. execs_refines inner h) scope)
-        (equal (ap (λ ks. with_locals ds ls ks (λ inner. execs ds ls f again inner ts) scope) (in_numbers h)))
-    exec_refines scope (r.choice h g k) = bind (holds_refines ds ls f scope h) (choose_refines (exec_refines scope g) (else_refines scope k))
-    exec_refines scope (r.while_loop {x = x} {y = y} {s = s} {t = t} h g) =
-        bind (holds_refines ds ls f scope h)
-        (choose_refines (bind same (λ _. bind (exec_refines scope g) (after_refines (l scope (q.While x s) (q.While y t) (r.while_loop h g))))) same)
-    exec_refines scope (r.do_loop {x = x} {y = y} {s = s} {t = t} h g) =
-        bind same (λ _. bind (exec_refines scope h)
-        (after_refines (bind (holds_refines ds ls f scope g) (choose_refines (l scope (q.Do s x) (q.Do t y) (r.do_loop h g)) same))))
-    exec_refines scope (r.for_loop {a = a} {b = b} {x = x} {y = y} {v = v} {w = w} {s = s} {t = t} h g k j) =
-        refines_on
-        (locals_refines ds ls (declared_first a)
-        (λ inner. bind (first_refines ds ls f inner h) (λ _. bind (condition_refines ds ls f inner g)
+    exec_refines : (scope : Scope) {s t : Stmt} → StmtWithin s t → (j : Jumps) → IsTypedAt unit n j t → RunRefines (exec c.structs c.locals f again scope s) (exec c.structs c.locals f again scope t)
+    exec_refines scope (r.refined h) j p = (h unit n j p).does rooms (suc m) scope
+    exec_refines scope (r.block {ss = ss} {ts = ts} h) j p =
+        refines_on (locals_refines c.structs c.locals (declared_in ss) (λ inner. execs_refines inner h j p) scope)
+        (equal (ap (λ ks. with_locals c.structs c.locals ks (λ inner. execs c.structs c.locals f again inner ts) scope) (stmts_in unit n h j p).declares))
+    exec_refines scope (r.choice {y = y} {t = t} {b = b} h g k) j p =
+        let q3 = front (is_condition c y && is_typed_stmt c res j t) (is_typed_else c res j b) p in
+        bind (holds_refines c f scope h (front (is_condition c y) (is_typed_stmt c res j t) q3))
+        (choose_refines (exec_refines scope g j (back (is_condition c y) (is_typed_stmt c res j t) q3))
+        (else_refines scope k j (back (is_condition c y && is_typed_stmt c res j t) (is_typed_else c res j b) p)))
+    exec_refines scope (r.while_loop {x = x} {y = y} {s = s} {t = t} h g) j p =
+        bind (holds_refines c f scope h (front (is_condition c y) (is_typed_stmt c res in_loop t) p))
         (choose_refines
-        (bind same (λ _. bind (exec_refines inner j)
-        (after_refines (bind (step_refines ds ls f inner k) (λ _. l inner (q.For q.Nothing x v s) (q.For q.Nothing y w t) (r.for_loop r.nothing_first g k j))))))
+        (bind same (λ _. bind (exec_refines scope g in_loop (back (is_condition c y) (is_typed_stmt c res in_loop t) p))
+        (after_refines (l scope (q.While x s) (q.While y t) (r.while_loop h g) j p)))) same)
+    exec_refines scope (r.do_loop {x = x} {y = y} {s = s} {t = t} h g) j p =
+        bind same (λ _. bind (exec_refines scope h in_loop (back (is_condition c y) (is_typed_stmt c res in_loop t) p))
+        (after_refines (bind (holds_refines c f scope g (front (is_condition c y) (is_typed_stmt c res in_loop t) p))
+        (choose_refines (l scope (q.Do s x) (q.Do t y) (r.do_loop h g) j p) same))))
+    exec_refines scope (r.for_loop {a = a} {b = b} {x = x} {y = y} {v = v} {w = w} {s = s} {t = t} h g k i) j p =
+        let p4 = back (is_first c b && is_optional_condition c y && is_optional_value c w) (is_typed_stmt c res in_loop t) p in
+        let q4 = front (is_first c b && is_optional_condition c y && is_optional_value c w) (is_typed_stmt c res in_loop t) p in
+        let p3 = back (is_first c b && is_optional_condition c y) (is_optional_value c w) q4 in
+        let q3 = front (is_first c b && is_optional_condition c y) (is_optional_value c w) q4 in
+        let p2 = back (is_first c b) (is_optional_condition c y) q3 in
+        refines_on
+        (locals_refines c.structs c.locals (declared_first a)
+        (λ inner. bind (first_refines c f inner h (front (is_first c b) (is_optional_condition c y) q3)) (λ _. bind (condition_refines c f inner g p2)
+        (choose_refines
+        (bind same (λ _. bind (exec_refines inner i in_loop p4)
+        (after_refines (bind (step_refines c f inner k p3)
+        (λ _. l inner (q.For q.Nothing x v s) (q.For q.Nothing y w t) (r.for_loop r.nothing_first g k i) j
+        (four true (is_optional_condition c y) (is_optional_value c w) (is_typed_stmt c res in_loop t) refl p2 p3 p4))))))
         same)))
         scope)
-        (equal (ap (λ ks. with_locals ds ls ks
-        (λ inner. first ds ls f inner b >> (condition ds ls f inner y >>= choose
-        (turn >> (exec ds ls f again inner t >>= after_body (step ds ls f inner w >> again inner (q.For q.Nothing y w t))))
+        (equal (ap (λ ks. with_locals c.structs c.locals ks
+        (λ inner. first c.structs c.locals f inner b >> (condition c.structs c.locals f inner y >>= choose
+        (turn >> (exec c.structs c.locals f again inner t >>= after_body (step c.structs c.locals f inner w >> again inner (q.For q.Nothing y w t))))
         (pure Goes))) scope) (first_numbers h)))
-    exec_refines scope (r.switch_on {ts = ts} h g) =
-        bind (bind (bind ((within_refines h).value ds ls f scope) (λ v. same))
-        (λ k. refines_on (from_refines scope _ g) (equal (ap (λ target. exec_from ds ls f again scope target ts) (same_target k g))))) (λ flow. same)
-    exec_refines scope (r.returns h) = returned_refines ds ls f scope h
-    exec_refines scope (r.expression h) = bind ((within_refines h).value ds ls f scope) (λ v. same)
-    exec_refines scope (r.declaration h) = bind (declare_refines ds ls f scope h) (λ _. same)
+    exec_refines scope (r.switch_on {y = y} {ts = ts} h g) j p =
+        let p4 = back (is_promoted (type_of y) && are_labels (integer_of (type_of y)) ts && is_typed c y) (are_typed_sections c res (in_switch j) ts) p in
+        let q4 = front (is_promoted (type_of y) && are_labels (integer_of (type_of y)) ts && is_typed c y) (are_typed_sections c res (in_switch j) ts) p in
+        let p3 = back (is_promoted (type_of y) && are_labels (integer_of (type_of y)) ts) (is_typed c y) q4 in
+        bind (bind (bind ((within_refines h c p3).value f scope) (λ v. same))
+        (λ k. refines_on (from_refines scope _ g (in_switch j) p4) (equal (ap (λ target. exec_from c.structs c.locals f again scope target ts) (same_target k g))))) (λ flow. same)
+    exec_refines scope (r.returns h) j p = returned_refines c f res scope h p
+    exec_refines scope (r.expression {y = y} h) j p = bind ((within_refines h c (typed_value c y p)).value f scope) (λ v. same)
+    exec_refines scope (r.declaration h) j p = bind (declare_refines c f scope h p) (λ _. same)
 
-    else_refines : (scope : Scope) {a b : Else} → ElseWithin a b → RunRefines (exec_else ds ls f again scope a) (exec_else ds ls f again scope b)
-    else_refines scope r.no_other = same
-    else_refines scope (r.other h) = exec_refines scope h
+    else_refines : (scope : Scope) {a b : Else} → ElseWithin a b → (j : Jumps) → IsTrue (is_typed_else c res j b) → RunRefines (exec_else c.structs c.locals f again scope a) (exec_else c.structs c.locals f again scope b)
+    else_refines scope r.no_other j p = same
+    else_refines scope (r.other h) j p = exec_refines scope h j p
 
-    execs_refines : (scope : Scope) {a b : Stmts} → StmtsWithin a b → RunRefines (execs ds ls f again scope a) (execs ds ls f again scope b)
-    execs_refines scope r.no_statement = same
-    execs_refines scope (r.then_stmts h g) = bind (exec_refines scope h) (next_refines (execs_refines scope g))
+    execs_refines : (scope : Scope) {a b : Stmts} → StmtsWithin a b → (j : Jumps) → IsTrue (are_typed_stmts c res j b) → RunRefines (execs c.structs c.locals f again scope a) (execs c.structs c.locals f again scope b)
+    execs_refines scope r.no_statement j p = same
+    execs_refines scope (r.then_stmts {t = t} {ts = ts} h g) j p =
+        bind (exec_refines scope h j (front (is_typed_stmt c res j t) (are_typed_stmts c res j ts) p)) (next_refines (execs_refines scope g j (back (is_typed_stmt c res j t) (are_typed_stmts c res j ts) p)))
 
-    sections_refine : (scope : Scope) {a b : Sections} → SectionsWithin a b → RunRefines (exec_sections ds ls f again scope a) (exec_sections ds ls f again scope b)
-    sections_refine scope r.no_section_left = same
-    sections_refine scope (r.one_section h g) = bind (execs_refines scope h) (next_refines (sections_refine scope g))
+    sections_refine : (scope : Scope) {a b : Sections} → SectionsWithin a b → (j : Jumps) → IsTrue (are_typed_sections c res j b) → RunRefines (exec_sections c.structs c.locals f again scope a) (exec_sections c.structs c.locals f again scope b)
+    sections_refine scope r.no_section_left j p = same
+    sections_refine scope (r.one_section {ts = ts} {b = b} h g) j p =
+        bind (execs_refines scope h j (front (are_typed_stmts c res j ts) (are_typed_sections c res j b) p)) (next_refines (sections_refine scope g j (back (are_typed_stmts c res j ts) (are_typed_sections c res j b) p)))
 
-    from_refines : (scope : Scope) (target : Option ℕ) {a b : Sections} → SectionsWithin a b → RunRefines (exec_from ds ls f again scope target a) (exec_from ds ls f again scope target b)
-    from_refines scope target r.no_section_left = same
-    from_refines scope target (r.one_section {label = label} h g) =
-        if_refines (is_label_of target label) (bind (execs_refines scope h) (next_refines (sections_refine scope g))) (from_refines scope target g)
+    from_refines : (scope : Scope) (target : Option ℕ) {a b : Sections} → SectionsWithin a b → (j : Jumps) → IsTrue (are_typed_sections c res j b) → RunRefines (exec_from c.structs c.locals f again scope target a) (exec_from c.structs c.locals f again scope target b)
+    from_refines scope target r.no_section_left j p = same
+    from_refines scope target (r.one_section {label = label} {ts = ts} {b = b} h g) j p =
+        let p1 = front (are_typed_stmts c res j ts) (are_typed_sections c res j b) p in
+        let p2 = back (are_typed_stmts c res j ts) (are_typed_sections c res j b) p in
+        if_refines (is_label_of target label) (bind (execs_refines scope h j p1) (next_refines (sections_refine scope g j p2))) (from_refines scope target g j p2)
 
 -- at every level
-level_refines : (unit : TypedUnit) (rooms : Rooms) (m n : ℕ) (scope : Scope) {s t : Stmt} → StmtWithin s t → RunRefines (level unit rooms m n scope s) (level unit rooms m n scope t)
-level_refines unit rooms zero n scope h = same
-level_refines unit rooms (suc m) n scope h = exec_refines unit rooms m n (λ inner s t g. level_refines unit rooms m n inner g) scope h
+level_refines : (unit : TypedUnit) (rooms : Rooms) (m n : ℕ) (scope : Scope) {s t : Stmt} → StmtWithin s t → (j : Jumps) → IsTypedAt unit n j t → RunRefines (level unit rooms m n scope s) (level unit rooms m n scope t)
+level_refines unit rooms zero n scope h j p = same
+level_refines unit rooms (suc m) n scope h j p = exec_refines unit rooms m n (λ inner s t g i q. level_refines unit rooms m n inner g i q) scope h j p
 
 pub stmt_refines : {s t : Stmt} → StmtWithin s t → StmtRefines s t
-stmt_refines h = record { declares = by_numbers h; does = λ unit rooms m n scope. level_refines unit rooms m n scope h }
+stmt_refines h unit n j p =
+    let k = stmt_in unit n h j p in
+    record {
+      typed = k.typed;
+      declares = k.declares;
+      named = k.named;
+      weight = k.weight;
+      does = λ rooms m scope. level_refines unit rooms m n scope h j p;
+    }

@@ -22,11 +22,12 @@ use Rattle.c_typed_tree.specs.Statements.{Declared, First, Stmt, Else, no_else, 
 use Rattle.c_typed_tree.specs.Statements as q
 use Rattle.c_typed_tree.specs.View.{type_view, stmt_view}
 use Rattle.c_typed_tree.specs.Layout.{size_of}
+use Rattle.c_typed_tree.specs.Lawful.{is_main}
 use Rattle.c_semantics.specs.Runs.{State, Run, no_turn}
 use Rattle.c_semantics.specs.Objects.{Place, integer_of, offset_of, Scope, no_scope}
 use Rattle.c_semantics.specs.Operators.{operator_of}
 use Rattle.c_semantics.specs.Evaluates.{put, get, builtin, Functions, call, element, member_at, target_of, update, assign, choose, converted_from, eval, place, evals, last_of}
-use Rattle.c_semantics.specs.Executes.{Flow, Goes, Breaks, Continues, Returns, after_body, and_next, after_switch, declared_in, declared_first, is_label_of, target_in, Level, with_parameters, value_of_call, is_main, body_of, call_of, calls_of, holds, condition, step, initialise, declare, declares, first, returned, exec, exec_else, execs, exec_sections, exec_from, locals_of, above, level}
+use Rattle.c_semantics.specs.Executes.{Flow, Goes, Breaks, Continues, Returns, after_body, and_next, after_switch, declared_in, declared_first, is_label_of, target_in, Level, with_parameters, value_of_call, body_of, call_of, calls_of, holds, condition, step, initialise, declare, declares, first, returned, exec, exec_else, execs, exec_sections, exec_from, locals_of, above, level}
 use Rattle.c_semantics.proofs.Grown.{starts_same, later_same, Reaches, Grown, Steady, bind, steady_pure, steady_undefined, steady_trap, steady_exit, steady_write, steady_used, steady_number, grown_if, grown_no_turn, steady_turn, grown_object, grown_call}
 use Rattle.c_semantics.proofs.Steady.{steady_read_at, steady_read_place, steady_write_place, steady_pointer, steady_move, steady_move_by, steady_local, steady_truth, steady_binary, steady_plus, steady_minus, steady_invert, steady_test, steady_convert, steady_combined, steady_stepped, grown_locals}
 

@@ -9,10 +9,11 @@ use Rattle.mem_model.specs.Ending as g
 use Rattle.data_object.specs.Start.{start_memory}
 use Rattle.c_typed_tree.specs.declared.units.TypedFn.{TypedFn}
 use Rattle.c_typed_tree.specs.declared.units.TypedUnit.{TypedUnit}
+use Rattle.c_typed_tree.specs.Lawful.{is_main}
 use Rattle.c_typed_tree.specs.Rooms.{room}
 use Rattle.c_mean.specs.Behaviour.{Behaviour, Done, Trap, Undefined, More, Meaning}
 use Rattle.c_semantics.specs.Runs.{State}
-use Rattle.c_semantics.specs.Executes.{Flow, Goes, Breaks, Continues, Returns, level, entered, left, body_of, is_main}
+use Rattle.c_semantics.specs.Executes.{Flow, Goes, Breaks, Continues, Returns, level, entered, left, body_of}
 
 -- the world before a run: the objects of static storage, the input, and so many turns
 abbrev pub world_of : Memory → (input : List ℕ) → (turns : ℕ) → World

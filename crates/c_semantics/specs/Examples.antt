@@ -1,6 +1,7 @@
 -- Small units, to show the meaning at work: each as C text, and as its tree. Where the text speaks of `main`, another
 -- function stands before it.
-use Rattle.std.specs.Prelude.{ℕ, List, [], ◌∷◌, codes, true, false, Some, None}
+use Rattle.std.specs.Prelude.{ℕ, List, [], ◌∷◌, codes, Bool, true, false, Some, None}
+use Rattle.std.specs.List.{list_all}
 use Rattle.c_tree.specs.declared.expressions.UnaryOp.TheVariants as u
 use Rattle.c_tree.specs.declared.expressions.BinaryOp.TheVariants as b
 use Rattle.c_tree.specs.declared.expressions.AssignOp.TheVariants as a
@@ -21,6 +22,9 @@ use Rattle.c_typed_tree.specs.declared.statements.TFirst.TheVariants as f
 use Rattle.c_typed_tree.specs.declared.units.Local.{Local}
 use Rattle.c_typed_tree.specs.declared.units.TypedFn.{TypedFn}
 use Rattle.c_typed_tree.specs.declared.units.TypedUnit.{TypedUnit}
+use Rattle.c_typed_tree.specs.View.{type_view, stmt_view}
+use Rattle.c_typed_tree.specs.TypingStatements.{no_jumps, is_typed_stmt}
+use Rattle.c_typed_tree.specs.Lawful.{context_of}
 
 abbrev pub int : CType
 int = t.Int 4 true
@@ -53,6 +57,11 @@ unit_of structs globals locals body others = record {
   globals = globals;
   functions = function_of (codes "main") locals 0 body ∷ others;
 }
+
+-- the body of each function of a unit is well typed
+abbrev pub has_typed_bodies : TypedUnit → Bool
+has_typed_bodies u =
+    list_all (λ f. is_typed_stmt (context_of u f) (type_view f.result) no_jumps (stmt_view f.body)) u.functions
 
 -- return 7;
 abbrev pub returns_seven : TypedUnit
@@ -617,3 +626,77 @@ copy_overlaps_itself =
     (e.Index int (e.Convert (t.Pointer int) (e.Local (t.Array int 3) 0)) (e.Number int 1)))))
     (e.Unary (t.Struct 0) u.Dereference
     (e.Cast (t.Pointer (t.Struct 0)) (e.Convert (t.Pointer int) (e.Local (t.Array int 3) 0))))) ∷ []) []
+
+-- all of these
+abbrev pub units : List TypedUnit
+units =
+    returns_seven ∷ returns_nothing ∷ status_is_a_byte ∷ puts_a_byte ∷ gets_a_byte ∷ gets_the_end ∷ aborts ∷
+    exits ∷ has_no_turn ∷ has_turns_enough ∷ sum_overflows ∷ product_overflows ∷ unsigned_wraps ∷
+    narrowing_wraps ∷ increment_overflows ∷ minus_least ∷ division_by_zero ∷ least_by_minus_one ∷
+    remainder_of_least ∷ division_truncates ∷ remainder_has_the_sign ∷ shift_keeps_the_sign ∷
+    shift_keeps_low_bits ∷ unsigned_compares ∷ compound_narrows ∷ and_needs_the_left ∷ or_needs_the_left ∷
+    one_arm_is_chosen ∷ commas_go_on ∷ left_before_right ∷ step_gives_the_old ∷ prefix_gives_the_new ∷
+    while_goes_round ∷ rounds_take_turns ∷ do_goes_once ∷ for_steps_and_continues ∷ switch_falls_through ∷
+    switch_takes_the_default ∷ return_leaves_the_loop ∷ calls_itself ∷ call_takes_a_turn ∷
+    written_through_a_pointer ∷ elements_stand_apart ∷ pointers_have_a_distance ∷ globals_begin ∷
+    globals_hold_addresses ∷ members_have_places ∷ structs_are_copied ∷ parameters_are_objects ∷
+    unset_register ∷ unset_cell ∷ outside_the_object ∷ through_null ∷ misaligned ∷ moved_outside ∷ null_moved ∷
+    dead_object ∷ dead_pointer_tested ∷ compared_apart ∷ compared_at_the_end ∷ shifted_too_far ∷
+    shifted_below_zero ∷ literal_written ∷ no_value_used ∷ no_value_left_alone ∷ pointer_read_in_part ∷
+    copy_overlaps_itself ∷ []
+
+-- ---- trees that are not well typed
+
+-- long l; return l; without a conversion
+abbrev pub result_is_not_converted : TypedUnit
+result_is_not_converted = unit_of [] [] (register long ∷ []) (s.Return (Some (e.Local long 0)) ∷ []) []
+
+-- 1 + 2u, of which no side is converted
+abbrev pub operand_is_not_converted : TypedUnit
+operand_is_not_converted =
+    unit_of [] [] [] (s.Expression (e.Binary unsigned b.Add (e.Number int 1) (e.Number unsigned 2)) ∷ []) []
+
+-- 1 = 2;
+abbrev pub number_is_assigned : TypedUnit
+number_is_assigned = unit_of [] [] [] (s.Expression (e.Assign int a.Set (e.Number int 1) (e.Number int 2)) ∷ []) []
+
+-- &x, of a local that a register holds
+abbrev pub register_has_an_address : TypedUnit
+register_has_an_address =
+    unit_of [] [] (register int ∷ []) (s.Expression (e.Unary (t.Pointer int) u.Address (e.Local int 0)) ∷ []) []
+
+-- a word that is above every value of `int`
+abbrev pub number_is_too_large : TypedUnit
+number_is_too_large = unit_of [] [] [] (s.Return (Some (e.Number int 2147483648)) ∷ []) []
+
+-- a local that the function does not have
+abbrev pub local_is_missing : TypedUnit
+local_is_missing = unit_of [] [] [] (s.Return (Some (e.Local int 0)) ∷ []) []
+
+-- putchar();
+abbrev pub argument_is_missing : TypedUnit
+argument_is_missing = unit_of [] [] [] (s.Return (Some (e.Call int (c.Builtin i.Putchar) [])) ∷ []) []
+
+-- int *p; p = 1;
+abbrev pub one_becomes_a_pointer : TypedUnit
+one_becomes_a_pointer =
+    unit_of [] [] (register (t.Pointer int) ∷ []) (s.Expression (e.Assign (t.Pointer int) a.Set
+    (e.Local (t.Pointer int) 0) (e.Convert (t.Pointer int) (e.Number int 1))) ∷ []) []
+
+-- break;
+abbrev pub break_leaves_nothing : TypedUnit
+break_leaves_nothing = unit_of [] [] [] (s.Break ∷ []) []
+
+-- switch (1) {case 2: case 2: ;}
+abbrev pub label_stands_twice : TypedUnit
+label_stands_twice =
+    unit_of [] [] [] (s.Switch (e.Number int 1) (record { label = l.Case 2; statements = [] } ∷ record {
+      label = l.Case 2;
+      statements = [];
+    } ∷ []) ∷ []) []
+
+abbrev pub ill_typed_units : List TypedUnit
+ill_typed_units =
+    result_is_not_converted ∷ operand_is_not_converted ∷ number_is_assigned ∷ register_has_an_address
+    ∷ number_is_too_large ∷ local_is_missing ∷ argument_is_missing ∷ one_becomes_a_pointer ∷ break_leaves_nothing
+    ∷ label_stands_twice ∷ []

@@ -1,6 +1,6 @@
 -- The meaning of statements and of calls (C99 6.8, 6.5.2.2), by levels: what the body of a called function does, and
 -- the next round of a loop, is handed in from one level down.
-use Rattle.std.specs.Prelude.{ℕ, zero, suc, ◌==◌, ◌||◌, Bool, true, false, List, [], ◌∷◌, ◌++◌, map, take, slice_get, Option, Some, None, bytes_eq, codes, if◌then◌else◌}
+use Rattle.std.specs.Prelude.{ℕ, zero, suc, ◌==◌, ◌||◌, Bool, true, false, List, [], ◌∷◌, ◌++◌, map, take, slice_get, Option, Some, None, if◌then◌else◌}
 use Rattle.mem_model.specs.declared.value.Value.{Value}
 use Rattle.mem_model.specs.declared.value.Value.TheVariants.{Word, Unset}
 use Rattle.mem_model.specs.World.{Rooms, with_meter, enter_call, leave_call, World}
@@ -16,6 +16,7 @@ use Rattle.c_typed_tree.specs.Statements.{Declared, First, Stmt, Else, no_else, 
 use Rattle.c_typed_tree.specs.Statements as q
 use Rattle.c_typed_tree.specs.View.{type_view, stmt_view}
 use Rattle.c_typed_tree.specs.Layout.{size_of}
+use Rattle.c_typed_tree.specs.Lawful.{is_main}
 use Rattle.c_semantics.specs.Reasons.{UsesNoValue}
 use Rattle.c_semantics.specs.Runs.{Run, and_then, ◌>>=◌, ◌>>◌, pure, undefined, no_turn, turn, used, number, write_register}
 use Rattle.c_semantics.specs.Objects.{write, Scope, no_scope, with_local_object, with_locals, local_place}
@@ -107,9 +108,6 @@ abbrev pub within_call : {A : Type 0} → Rooms → (function : ℕ) → Run A �
 within_call rooms n run = λ s.
     and_then (run (record { registers = λ k. Unset; world = entered rooms n s.world }))
     (λ a t. Gives a (record { registers = s.registers; world = left rooms n t.world }))
-
-abbrev pub is_main : TypedFn → Bool
-is_main f = bytes_eq f.name (codes "main")
 
 -- the value of a call: of one that ended without a value none, but of `main` 0 (C99 5.1.2.2.3)
 abbrev pub no_value : (main : Bool) → Value

@@ -11,7 +11,7 @@ use Rattle.c_arithmetic.specs.declared.outcome.Outcome.{Outcome}
 use Rattle.c_arithmetic.specs.declared.outcome.Outcome.TheVariants as o
 use Rattle.c_arithmetic.specs.IntegerTypes.{bytes, is_signed, promoted}
 use Rattle.c_arithmetic.specs.Words.{value, word}
-use Rattle.c_arithmetic.specs.Operations.{conversion, sum, difference, product, negation, quotient, remainder, conjunction, disjunction, exclusive_disjunction, complement, left_shift, right_shift, is_less, is_less_or_equal, is_equal, truth}
+use Rattle.c_arithmetic.specs.Operations.{conversion, negation, complement, truth}
 use Rattle.c_tree.specs.declared.expressions.UnaryOp.{UnaryOp}
 use Rattle.c_tree.specs.declared.expressions.UnaryOp.TheVariants as u
 use Rattle.c_tree.specs.declared.expressions.BinaryOp.{BinaryOp}
@@ -23,6 +23,7 @@ use Rattle.c_tree.specs.declared.expressions.StepOp.TheVariants as s
 use Rattle.c_typed_tree.specs.declared.types.StructDef.{StructDef}
 use Rattle.c_typed_tree.specs.Types.{PlainType, Void, Int, Pointer}
 use Rattle.c_typed_tree.specs.Layout.{size_of}
+use Rattle.c_typed_tree.specs.Constants.{integers_with}
 use Rattle.c_semantics.specs.Reasons.{Reason, UsesDeadObject, ComparesApart, ComparesAtEnd, ShiftsTooFar, UsesNoValue}
 use Rattle.c_semantics.specs.Runs.{Run, ◌>>=◌, pure, undefined, trap, seen, known, used, number}
 use Rattle.c_semantics.specs.Objects.{integer_of, move, move_by}
@@ -33,27 +34,6 @@ outcome (o.Trap code) = trap code
 outcome o.Undefined = undefined ShiftsTooFar
 
 -- ---- integers
-
--- an operator between two integers of one type; the count of a shift has a type of its own. `&&` and `||` are none
-abbrev pub integers_with : BinaryOp → (t count : IntegerType) → ℕ → ℕ → Outcome
-integers_with b.Or t c x y = o.Word (disjunction t x y)
-integers_with b.Xor t c x y = o.Word (exclusive_disjunction t x y)
-integers_with b.And t c x y = o.Word (conjunction t x y)
-integers_with b.Equal t c x y = o.Word (truth (is_equal t x y))
-integers_with b.NotEqual t c x y = o.Word (truth (not (is_equal t x y)))
-integers_with b.Less t c x y = o.Word (truth (is_less t x y))
-integers_with b.Greater t c x y = o.Word (truth (is_less t y x))
-integers_with b.LessEqual t c x y = o.Word (truth (is_less_or_equal t x y))
-integers_with b.GreaterEqual t c x y = o.Word (truth (is_less_or_equal t y x))
-integers_with b.ShiftLeft t c x y = left_shift t c x y
-integers_with b.ShiftRight t c x y = right_shift t c x y
-integers_with b.Add t c x y = sum t x y
-integers_with b.Subtract t c x y = difference t x y
-integers_with b.Multiply t c x y = product t x y
-integers_with b.Divide t c x y = quotient t x y
-integers_with b.Remainder t c x y = remainder t x y
-integers_with b.LogicalOr t c x y = o.Undefined
-integers_with b.LogicalAnd t c x y = o.Undefined
 
 abbrev pub integers : BinaryOp → (t count : IntegerType) → Value → Value → Run Value
 integers op t c v w = number v >>= (λ x. number w >>= (λ y. outcome (integers_with op t c x y)))

@@ -1,7 +1,9 @@
--- When a part of a program refines another one: it means the same, wherever the other is not undefined. The rooms are
--- a parameter of the run and the peak is a part of the world, so a refinement has the same peak for every list of
--- rooms.
-use Rattle.std.specs.Prelude.{◌≡◌, ℕ, List, [], ◌∷◌, Option, Some, None}
+-- When a part of a program refines another one. Nothing is asked where the other one is not well typed. Where it is,
+-- the one is well typed too, with the same type; it weighs no more and names nothing else; a place stays a place and an
+-- integer constant the same constant; and it means the same in every state, wherever the other is not undefined. The
+-- rooms are a parameter of the run and the peak is a part of the world, so a refinement has the same peak for every
+-- list of rooms.
+use Rattle.std.specs.Prelude.{◌≡◌, ◌≤◌, ℕ, List, [], ◌∷◌, map, slice_get, Option, Some, None, IsTrue}
 use Rattle.mem_model.specs.World.{Rooms}
 use Rattle.mem_model.specs.Ending.{Ending, Done, Trap, Undefined, More, GivesAs}
 use Rattle.c_tree.specs.declared.expressions.UnaryOp.{UnaryOp}
@@ -10,42 +12,90 @@ use Rattle.c_tree.specs.declared.expressions.AssignOp.{AssignOp}
 use Rattle.c_tree.specs.declared.expressions.StepOp.{StepOp}
 use Rattle.c_typed_tree.specs.declared.expressions.Callee.{Callee}
 use Rattle.c_typed_tree.specs.declared.statements.TLabel.{TLabel}
-use Rattle.c_typed_tree.specs.declared.types.StructDef.{StructDef}
-use Rattle.c_typed_tree.specs.declared.units.Local.{Local}
 use Rattle.c_typed_tree.specs.declared.units.TypedFn.{TypedFn}
 use Rattle.c_typed_tree.specs.declared.units.TypedUnit.{TypedUnit}
-use Rattle.c_typed_tree.specs.Types.{PlainType}
+use Rattle.c_typed_tree.specs.Types.{PlainType, Void}
 use Rattle.c_typed_tree.specs.Expressions.{Expr, Call, Unary, Binary, Assign, Conditional, Cast, Convert, Index, Field, Arrow, Postfix, Comma, Exprs, no_exprs, more_exprs, type_of}
 use Rattle.c_typed_tree.specs.Statements.{Declared, First, Stmt, Else, no_else, else_stmt, Stmts, no_stmts, more_stmts, Sections, no_sections, more_sections}
 use Rattle.c_typed_tree.specs.Statements as q
-use Rattle.c_typed_tree.specs.View.{stmt_view}
+use Rattle.c_typed_tree.specs.View.{type_view, stmt_view}
+use Rattle.c_typed_tree.specs.Constants.{is_built, constant}
+use Rattle.c_typed_tree.specs.Typing.{Context, is_place, is_in_memory, is_typed}
+use Rattle.c_typed_tree.specs.TypingStatements.{Jumps, is_typed_stmt}
+use Rattle.c_typed_tree.specs.Lawful.{signature_of, IsTypedUnit}
+use Rattle.c_typed_tree.specs.Names.{Named, names, stmt_names}
+use Rattle.c_typed_tree.specs.Weight.{expr_weight, stmt_weight, function_weight}
 use Rattle.c_semantics.specs.Runs.{State, Run}
 use Rattle.c_semantics.specs.Objects.{Scope}
 use Rattle.c_semantics.specs.Evaluates.{Functions, eval, place}
-use Rattle.c_semantics.specs.Executes.{declared_by, level}
+use Rattle.c_semantics.specs.Executes.{declared_by, locals_of, level}
 use Rattle.c_semantics.specs.Behaves.{run}
 
 -- the one run is the other, from every state, unless that is undefined
 pub record RunRefines {A : Type 0} (c b : Run A) : Type 0 where
   pub by : (s : State) → GivesAs (c s) (b s)
 
--- an expression refines another one of its type: as a value, and as a place
-pub record ExprRefines (x y : Expr) : Type 0 where
-  pub types : type_of x ≡ type_of y
-  pub value : (ds : List StructDef) (ls : List Local) (f : Functions) (scope : Scope)
-      → RunRefines (eval ds ls f scope x) (eval ds ls f scope y)
-  pub places : (ds : List StructDef) (ls : List Local) (f : Functions) (scope : Scope)
-      → RunRefines (place ds ls f scope x) (place ds ls f scope y)
+-- ---- expressions
 
--- a statement refines another one that declares the same locals, in every unit and at every level
-pub record StmtRefines (s t : Stmt) : Type 0 where
+-- an expression refines another one, where that stands in a context in which it is well typed
+pub record RefinesIn (c : Context) (x y : Expr) : Type 0 where
+  pub typed : IsTrue (is_typed c x)
+  pub types : type_of x ≡ type_of y
+  pub named : (a : Named) → IsTrue (names a x) → IsTrue (names a y)
+  pub weight : expr_weight c.structs x ≤ expr_weight c.structs y
+  -- a place stays a place, and one in memory stays one in memory
+  pub places : IsTrue (is_place y) → IsTrue (is_place x)
+  pub memory : IsTrue (is_in_memory c.locals y) → IsTrue (is_in_memory c.locals x)
+  -- an integer constant stays one of its value, and what is built as constants are stays so built
+  pub constants : (n : ℕ) → constant y ≡ Some n → constant x ≡ Some n
+  pub built : IsTrue (is_built y) → IsTrue (is_built x)
+  -- the same value, and the same place
+  pub value : (f : Functions) (scope : Scope)
+      → RunRefines (eval c.structs c.locals f scope x) (eval c.structs c.locals f scope y)
+  pub stands : (f : Functions) (scope : Scope)
+      → RunRefines (place c.structs c.locals f scope x) (place c.structs c.locals f scope y)
+
+abbrev pub ExprRefines : Expr → Expr → Type 0
+ExprRefines x y = (c : Context) → IsTrue (is_typed c y) → RefinesIn c x y
+
+-- ---- statements
+
+-- what the numbers in a function of a unit name, and the type of its result
+abbrev pub context_at : TypedUnit → Option TypedFn → Context
+context_at unit f = record {
+  structs = unit.structs;
+  globals = unit.globals;
+  functions = map signature_of unit.functions;
+  locals = locals_of f;
+}
+
+abbrev pub result_at : Option TypedFn → PlainType
+result_at None = Void
+result_at (Some f) = type_view f.result
+
+-- a statement is well typed in the function with a number, where it may leave by these jumps
+abbrev pub IsTypedAt : TypedUnit → (function : ℕ) → Jumps → Stmt → Type 0
+IsTypedAt unit n j s =
+    IsTrue (is_typed_stmt (context_at unit (slice_get unit.functions n)) (result_at (slice_get unit.functions n)) j s)
+
+-- a statement refines another one that declares the same locals, at every level
+pub record StmtRefinesIn (unit : TypedUnit) (n : ℕ) (j : Jumps) (s t : Stmt) : Type 0 where
+  pub typed : IsTypedAt unit n j s
   pub declares : declared_by s ≡ declared_by t
-  pub does : (unit : TypedUnit) (rooms : Rooms) (m n : ℕ) (scope : Scope) →
+  pub named : (a : Named) → IsTrue (stmt_names a s) → IsTrue (stmt_names a t)
+  pub weight : stmt_weight unit.structs s ≤ stmt_weight unit.structs t
+  pub does : (rooms : Rooms) (m : ℕ) (scope : Scope) →
       RunRefines (level unit rooms m n scope s) (level unit rooms m n scope t)
 
--- a function refines another one with the same name, parameters and locals
+abbrev pub StmtRefines : Stmt → Stmt → Type 0
+StmtRefines s t = (unit : TypedUnit) (n : ℕ) (j : Jumps) → IsTypedAt unit n j t → StmtRefinesIn unit n j s t
+
+-- ---- functions and units
+
+-- a function refines another one with the same name, types and locals
 pub record FnRefines (f g : TypedFn) : Type 0 where
   pub name : f.name ≡ g.name
+  pub result : f.result ≡ g.result
   pub params : f.params ≡ g.params
   pub locals : f.locals ≡ g.locals
   pub body : StmtRefines (stmt_view f.body) (stmt_view g.body)
@@ -67,12 +117,25 @@ EndingRefines e (Done w status) = e ≡ Done w status
 EndingRefines e (Trap w code) = e ≡ Trap w code
 EndingRefines e (More w) = e ≡ More w
 
--- refined functions refine the run of a unit, for every list of rooms, input and number of turns
+-- each function weighs no more than its own
+pub data WeighNoMore (unit : TypedUnit) : List TypedFn → List TypedFn → Type 0 where
+  none_weighs : WeighNoMore unit [] []
+  one_weighs : {f g : TypedFn} {fs gs : List TypedFn}
+      → function_weight unit.structs f ≤ function_weight unit.structs g → WeighNoMore unit fs gs
+      → WeighNoMore unit (f ∷ fs) (g ∷ gs)
+
+-- a unit refines another one with the same structs and objects: it is well typed, each function weighs no more, and
+-- its run is the same for every list of rooms, input and number of turns
+pub record UnitRefines (a b : TypedUnit) : Type 0 where
+  pub typed : IsTypedUnit a
+  pub weight : WeighNoMore b a.functions b.functions
+  pub runs : (rooms : Rooms) (input : List ℕ) (turns : ℕ) → EndingRefines (run a rooms input turns) (run b rooms input turns)
+
+-- refined functions refine a well typed unit
 abbrev pub UnitsRefine : Type 0
 UnitsRefine =
-    (unit : TypedUnit) (gs : List TypedFn) → FnsRefine unit.functions gs
-    → (rooms : Rooms) (input : List ℕ) (turns : ℕ) →
-    EndingRefines (run unit rooms input turns) (run (with_functions unit gs) rooms input turns)
+    (unit : TypedUnit) (fs : List TypedFn) → IsTypedUnit unit → FnsRefine fs unit.functions
+    → UnitRefines (with_functions unit fs) unit
 
 -- ---- expressions with a refinement within
 

@@ -1,9 +1,11 @@
 //! Small units with what they come to, computed by the definition of the meaning: each clause is a unit of
 //! `specs/Examples.antt` with its input and its turns. The functions do nothing.
 
-ghost use Rattle.std.specs.Prelude.{◌≡◌, [], ◌∷◌};
+ghost use Rattle.std.specs.Prelude.{◌≡◌, [], ◌∷◌, IsTrue, IsFalse};
+ghost use Rattle.std.specs.List.{list_all, list_any};
 ghost use Rattle.c_mean.specs.Behaviour.{Done, Trap, Undefined, More};
 ghost use Rattle.c_semantics.specs.Behaves.{behave_c};
+ghost use Rattle.c_semantics.specs.Examples.{has_typed_bodies};
 ghost use Rattle.c_semantics.specs.Examples as unit;
 
 /// Units that end in each way.
@@ -95,4 +97,10 @@ pub fn undefined_points()
     ensures no_value_left_alone { behave_c unit.no_value_left_alone [] 9 ≡ Done [] 2 }
     ensures pointer_read_in_part { behave_c unit.pointer_read_in_part [] 9 ≡ Undefined }
     ensures copy_overlaps_itself { behave_c unit.copy_overlaps_itself [] 9 ≡ Undefined }
+{}
+
+/// The bodies of all these units are well typed, and those of some others are not.
+pub fn typing()
+    ensures well_typed { IsTrue (list_all has_typed_bodies unit.units) }
+    ensures ill_typed { IsFalse (list_any has_typed_bodies unit.ill_typed_units) }
 {}

@@ -23,8 +23,7 @@ pub fn peaks_rise()
 {}
 
 /// A refinement in the place of a part refines the whole expression and the whole statement, and refined functions
-/// refine the unit.
-#[tactic(auto, using(crate::proofs::RefinesExpr::within_refines, crate::proofs::RefinesStmt::stmt_refines, crate::proofs::RefinesUnit::unit_refines))]
+/// refine a well typed unit.
 pub fn refinements_go_through()
     ensures expressions { (x y : Expr) → ExprWithin x y → ExprRefines x y }
     ensures statements { (s t : Stmt) → StmtWithin s t → StmtRefines s t }

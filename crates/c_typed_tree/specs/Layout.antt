@@ -1,7 +1,7 @@
 -- How types lie in memory: their size, their alignment and the places of members, in bytes (C99 6.5.3.4, 6.7.2.1).
 --
 -- A struct has its own size and alignment written down, so nothing here goes down into its members.
-use Rattle.std.specs.Prelude.{◌≡◌, ℕ, zero, suc, ◌+◌, ◌-◌, ◌*◌, ◌/◌, max, nat_le, Bool, true, false, ◌&&◌, List, [], ◌∷◌, slice_get, Option, Some, None}
+use Rattle.std.specs.Prelude.{◌≡◌, ℕ, zero, suc, ◌+◌, ◌*◌, ◌/◌, max, nat_le, Bool, true, false, ◌&&◌, List, [], ◌∷◌, slice_get, Option, Some, None}
 use Rattle.c_arithmetic.specs.declared.integer_type.IntegerType.{IntegerType}
 use Rattle.c_arithmetic.specs.IntegerTypes.{integer_type}
 use Rattle.data_object.specs.declared.TheConstants.{MOST_DATA}

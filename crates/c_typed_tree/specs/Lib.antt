@@ -3,5 +3,11 @@ pub mod Expressions
 pub mod Statements
 pub mod View
 pub mod Layout
+pub mod Constants
+pub mod Typing
+pub mod TypingStatements
+pub mod Counts
+pub mod Lawful
+pub mod Names
 pub mod Weight
 pub mod Rooms

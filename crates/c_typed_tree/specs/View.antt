@@ -1,20 +1,12 @@
 -- The plain data of the typed trees.
-use Rattle.std.specs.Prelude.{◌≡◌, ℕ, Bool, List, [], ◌∷◌, Option, Some, None, option_map, map, refl}
-use Rattle.std.proofs.Common.{ap, ◌∙◌}
-use mathlib.Core.Former.{Count}
+use Rattle.std.specs.Prelude.{List, [], ◌∷◌, option_map, map}
 use denote.Hole.Carrier as Carrier
-use Rattle.c_tree.specs.declared.expressions.UnaryOp.{UnaryOp}
-use Rattle.c_tree.specs.declared.expressions.BinaryOp.{BinaryOp}
-use Rattle.c_tree.specs.declared.expressions.AssignOp.{AssignOp}
-use Rattle.c_tree.specs.declared.expressions.StepOp.{StepOp}
-use Rattle.c_typed_tree.specs.declared.expressions.Callee.{Callee}
 use Rattle.c_typed_tree.specs.declared.types.CType as t
 use Rattle.c_typed_tree.specs.declared.types.CType.TheBlock as tb
 use Rattle.c_typed_tree.specs.declared.expressions.TExpr as e
 use Rattle.c_typed_tree.specs.declared.expressions.TExpr.TheBlock as eb
 use Rattle.c_typed_tree.specs.declared.statements.TStmt as s
 use Rattle.c_typed_tree.specs.declared.statements.TStmt.TheBlock as sb
-use Rattle.c_typed_tree.specs.declared.statements.TLabel.{TLabel}
 use Rattle.c_typed_tree.specs.declared.statements.TLocal.{TLocal}
 use Rattle.c_typed_tree.specs.declared.statements.TFirst.{TFirst}
 use Rattle.c_typed_tree.specs.declared.statements.TFirst.TheVariants as d

@@ -1,6 +1,6 @@
 -- The weight of a tree: each statement, block, operator, call, cast, name, literal, written conversion, local and
 -- parameter counts 1, and a struct that is copied a part of its size besides.
-use Rattle.std.specs.Prelude.{ℕ, ◌+◌, ◌-◌, List, [], ◌∷◌, sum_by, slice_get, Option, Some, None}
+use Rattle.std.specs.Prelude.{ℕ, ◌+◌, ◌-◌, List, sum_by, slice_get, Option, Some, None}
 use Rattle.c_tree.specs.declared.expressions.AssignOp.{AssignOp}
 use Rattle.c_tree.specs.declared.expressions.AssignOp.TheVariants as a
 use Rattle.c_typed_tree.specs.declared.types.StructDef.{StructDef}

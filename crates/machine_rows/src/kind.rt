@@ -1,6 +1,6 @@
 //! The kinds of rows, each with its file.
 
-use crate::{divisions, encodings, integers, lists, memory, runs, steps};
+use crate::{assembly, divisions, encodings, integers, lists, memory, runs, steps};
 use anyhow::Result;
 use mem_model::memory::Mem;
 use row_sheets::Table;
@@ -13,17 +13,19 @@ pub enum Kind {
     Integers,
     Steps,
     Divisions,
+    Assembly,
     Runs,
     Memory,
     Lists,
 }
 
 /// The kinds in the order in which they are checked.
-pub const KINDS: [Kind; 7] = [
+pub const KINDS: [Kind; 8] = [
     Kind::Encodings,
     Kind::Integers,
     Kind::Steps,
     Kind::Divisions,
+    Kind::Assembly,
     Kind::Runs,
     Kind::Memory,
     Kind::Lists,
@@ -37,6 +39,7 @@ impl Kind {
             Kind::Integers => "integers.rows",
             Kind::Steps => "steps.rows",
             Kind::Divisions => "divisions.rows",
+            Kind::Assembly => "assembly.rows",
             Kind::Runs => "runs.rows",
             Kind::Memory => "memory.rows",
             Kind::Lists => "lists.rows",
@@ -62,6 +65,7 @@ impl Table for KindTable {
             Kind::Integers => integers::answer(alloc, given),
             Kind::Steps => steps::answer(alloc, given),
             Kind::Divisions => divisions::answer(alloc, given),
+            Kind::Assembly => assembly::answer(alloc, given),
             Kind::Runs => runs::answer(alloc, given),
             Kind::Memory => memory::answer(alloc, &mut self.mem, given),
             Kind::Lists => lists::answer(alloc, given),

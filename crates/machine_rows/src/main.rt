@@ -1,9 +1,10 @@
-//! Checks the tables of the folder `data/`, of integers, objects, lists, instructions and the machine: each row
-//! says what a public function is given and what is due.
+//! Checks the tables of the folder `data/`, of integers, objects, lists, instructions, assembly and the machine:
+//! each row says what a public function is given and what is due.
 //!
 //! The form of the files is described in `docs/rows.md`, and that of each kind of row at the head of its file.
 #![tactic(auto)]
 
+mod assembly;
 mod divisions;
 mod encodings;
 mod integers;

@@ -1,0 +1,44 @@
+-- What stands at the end of a text with no wrong line is whole, and it is the only one.
+use Rattle.std.proofs.Common.{◌≡◌, ◌<◌, ◌≤◌, sym, ◌∙◌, subst, arith}
+use Rattle.alpha_isa.specs.Program.{most_bytes}
+use Rattle.alpha_text.specs.declared.fault.TextFault.TheVariants as fault
+use Rattle.alpha_text.specs.Texts.{Texts}
+use Rattle.alpha_text.specs.Read.{IsFault}
+use Rattle.alpha_text.proofs.Joined.{raised, raised_only}
+use Rattle.alpha_text.proofs.Whole.{read_whole, read_text}
+use Rattle.alpha_text.proofs.Again.{read_again, fault_again}
+use Rattle.alpha_text.proofs.read.read_asm.Goals as goal
+
+pub returns-in_err-parts-clause-fault : goal.returns-in_err-parts-clause-fault
+returns-in_err-parts-clause-fault c = raised (IsFault c.args.text.now) c.from_residual.result c.in_err-parts.field-0.0 c.in_err-parts.ensures.fault c.from_residual.ensures.1
+
+pub returns-in_err-parts-clause-only : goal.returns-in_err-parts-clause-only
+returns-in_err-parts-clause-only c asm whole has e =
+    raised_only (λ found. found ≡ asm) c.from_residual.result c.in_err-parts.field-0.0 fault.NoMemory (fault_again c.args.text.now c.in_err-parts.field-0.0 asm c.in_err-parts.ensures.fault whole has e) c.from_residual.ensures.1
+
+pub returns-then-parts-gt-MOST_BYTES-clause-fault : goal.returns-then-parts-gt-MOST_BYTES-clause-fault
+returns-then-parts-gt-MOST_BYTES-clause-fault c =
+    let p = c.in_ok-parts.parts in
+    ((p.items.items, p.bytes.items, p.fixes.items, c.in_ok-parts.ensures.read), omega (arith, c.if-parts-gt-MOST_BYTES.true))
+
+pub returns-then-parts-gt-MOST_BYTES-clause-only : goal.returns-then-parts-gt-MOST_BYTES-clause-only
+returns-then-parts-gt-MOST_BYTES-clause-only c asm whole has e =
+    let p = c.in_ok-parts.parts in
+    let high : most_bytes < p.count = omega (arith, c.if-parts-gt-MOST_BYTES.true) in
+    fault_again c.args.text.now (fault.Data p.count) asm ((p.items.items, p.bytes.items, p.fixes.items, c.in_ok-parts.ensures.read), high) whole has e
+
+pub new-requires : goal.new-requires
+new-requires c =
+    let p = c.in_ok-parts.parts in
+    let low : p.count ≤ most_bytes = omega (arith, c.if-parts-gt-MOST_BYTES.false) in
+    read_whole c.args.text.now p.items.items p.count p.bytes.items p.fixes.items c.in_ok-parts.ensures.read low
+
+pub returns-clause-text : goal.returns-clause-text
+returns-clause-text c =
+    let p = c.in_ok-parts.parts in
+    subst (Texts c.args.text.now) (sym c.new.ensures.asm) (read_text c.args.text.now p.items.items p.count p.bytes.items p.fixes.items c.in_ok-parts.ensures.read)
+
+pub returns-clause-only : goal.returns-clause-only
+returns-clause-only c asm whole has e =
+    let p = c.in_ok-parts.parts in
+    c.new.ensures.asm ∙ read_again c.args.text.now p.items.items p.count p.bytes.items p.fixes.items asm c.in_ok-parts.ensures.read whole has e

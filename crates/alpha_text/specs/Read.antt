@@ -1,0 +1,19 @@
+-- Why a text is not read.
+use Rattle.std.specs.Prelude.{ℕ, ◌<◌, List}
+use Rattle.alpha_isa.specs.Program.{most_bytes}
+use Rattle.alpha_text.specs.declared.fault.TextFault.{TextFault}
+use Rattle.alpha_text.specs.declared.fault.TextFault.TheVariants as fault
+use Rattle.alpha_text.specs.Wrong.{Data, FirstWrong, NoneWrong}
+use Rattle.alpha_items.specs.declared.item.AsmItem.{AsmItem}
+use Rattle.alpha_items.specs.declared.item.Fix.{Fix}
+
+-- each line is in its form, and this is the count of the data
+abbrev pub IsCounted : List ℕ → ℕ → Type 0
+IsCounted text n =
+    (items : List AsmItem) × (bytes : List ℕ) × (fixes : List Fix) × NoneWrong text (Data items n bytes fixes)
+
+-- the first wrong line, or too many bytes where no line is wrong
+abbrev pub IsFault : List ℕ → TextFault → Type 0
+IsFault text (fault.Line n) = FirstWrong text n
+IsFault text (fault.Data n) = IsCounted text n × (most_bytes < n)
+IsFault text fault.NoMemory = Unit {0}

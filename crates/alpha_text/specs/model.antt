@@ -1,0 +1,5 @@
+pub mod Labels
+pub mod Survey
+pub mod Reaches
+pub mod Said
+pub mod Judged
