@@ -18,7 +18,7 @@ use Rattle.alpha_items.specs.declared.item.AsmItem.TheVariants.{Label, Name, Pla
 use Rattle.alpha_items.specs.Items.{is_name}
 use Rattle.alpha_lines.specs.declared.mnemonic.Mnemonic.{Mnemonic}
 use Rattle.alpha_lines.specs.declared.mnemonic.Mnemonic.TheVariants as m
-use Rattle.alpha_lines.specs.Mnemonics.{spelling, mnemonic_of}
+use Rattle.alpha_lines.specs.model.Mnemonics.{spelling, mnemonic_of}
 use Rattle.alpha_lines.specs.Lines.{register, label, indirect, address, operand, both, statement, operands, item_line, HasLine}
 use Rattle.alpha_lines.specs.model.Parts.{cut}
 use Rattle.alpha_lines.specs.model.Numbers.{number_of}

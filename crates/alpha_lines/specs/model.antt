@@ -2,3 +2,4 @@ pub mod Parts
 pub mod Numbers
 pub mod Readers
 pub mod Data
+pub mod Mnemonics

@@ -1,7 +1,8 @@
 //! The mnemonics of the instructions, and the words of the other lines that give an item.
 
 ghost use Rattle.std.specs.Prelude.{◌≡◌};
-ghost use Rattle.alpha_lines.specs.Mnemonics.{memory_word as memory_spelling, branch_word as branch_spelling, jump_word as jump_spelling, operate_word as operate_spelling, spelling, mnemonic_of};
+ghost use Rattle.alpha_lines.specs.Mnemonics.{memory_word as memory_spelling, branch_word as branch_spelling, jump_word as jump_spelling, operate_word as operate_spelling};
+ghost use Rattle.alpha_lines.specs.model.Mnemonics.{spelling, mnemonic_of};
 
 use alpha_isa::insn::{BranchOp, JumpOp, MemoryOp, OperateOp};
 
@@ -192,7 +193,7 @@ fn spelled(mnemonic: Mnemonic) -> &'static [u8]
 }
 
 /// The mnemonic that is spelled so.
-#[tactic(auto, unfolding(crate::specs::Mnemonics::mnemonic_of, crate::specs::Mnemonics::mnemonics))]
+#[tactic(auto, unfolding(crate::specs::model::Mnemonics::mnemonic_of, crate::specs::model::Mnemonics::mnemonics))]
 pub(crate) fn read_mnemonic(word: &[u8]) -> Option<Mnemonic>
     ensures { result ≡ mnemonic_of word.now }
 {

@@ -18,7 +18,7 @@ use Rattle.alpha_items.specs.Assembly.{Assembly, IsFix, IsWhole}
 use Rattle.alpha_isa.specs.Program.{most_bytes}
 use Rattle.alpha_lines.specs.declared.mnemonic.Mnemonic.{Mnemonic}
 use Rattle.alpha_lines.specs.declared.mnemonic.Mnemonic.TheVariants as m
-use Rattle.alpha_lines.specs.Mnemonics.{spelling, mnemonics, mnemonic_of}
+use Rattle.alpha_lines.specs.model.Mnemonics.{spelling, mnemonics, mnemonic_of}
 use Rattle.alpha_lines.specs.Lines.{HasLine, register, label, indirect, address, operand, statement, both, operands, head_line, item_line, data_line, hex_digit, hex_byte, hex_line, fix_line}
 use Rattle.alpha_lines.proofs.Parts.{Lacks}
 use Rattle.alpha_lines.proofs.Options.{split}

@@ -15,7 +15,7 @@ use Rattle.alpha_items.specs.declared.item.Fix.{Fix}
 use Rattle.alpha_items.specs.Items.{label_used, IsItem}
 use Rattle.alpha_items.specs.Assembly.{labels, IsWhole}
 use Rattle.alpha_lines.specs.Lines.{HasLine, item_line, data_line, fix_line}
-use Rattle.alpha_lines.specs.Mnemonics.{mnemonics, mnemonic_of}
+use Rattle.alpha_lines.specs.model.Mnemonics.{mnemonics, mnemonic_of}
 use Rattle.alpha_lines.specs.model.Readers.{item_of}
 use Rattle.alpha_lines.proofs.Items.{item_complete}
 use Rattle.alpha_text.specs.Texts.{Texts, ended_lines, hex_rows, hex_lines, asm_text}

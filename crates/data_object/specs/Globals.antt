@@ -4,7 +4,7 @@ use Rattle.data_object.specs.declared.DataObject.{DataObject}
 use Rattle.data_object.specs.declared.Cell.{Cell}
 use Rattle.data_object.specs.declared.Cell.TheVariants.{Byte, AddressPart}
 use Rattle.data_object.specs.declared.TheConstants.{MOST_DATA}
-use Rattle.data_object.specs.Layout.{data_end, LieFrom}
+use Rattle.data_object.specs.Layout.{LieFrom}
 
 -- a list of objects names an object with so many bytes at least
 abbrev pub Reaches : (plus : ℕ) → Option DataObject → Type 0
@@ -34,7 +34,3 @@ pub record AreLawful (globals : List DataObject) : Type 0 where
   pub count : length globals < 2 ^ 32
   pub layout : LieFrom 0 globals
   pub objects : All (IsLawfulObject globals) globals
-
--- the data are no longer than they may be
-abbrev pub FitData : List DataObject → Type 0
-FitData globals = data_end globals ≤ MOST_DATA

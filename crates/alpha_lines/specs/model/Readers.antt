@@ -14,7 +14,7 @@ use Rattle.alpha_items.specs.declared.item.AsmItem.TheVariants.{Label, Name, Pla
 use Rattle.alpha_items.specs.Items.{is_name}
 use Rattle.alpha_lines.specs.declared.mnemonic.Mnemonic.{Mnemonic}
 use Rattle.alpha_lines.specs.declared.mnemonic.Mnemonic.TheVariants as m
-use Rattle.alpha_lines.specs.Mnemonics.{mnemonic_of}
+use Rattle.alpha_lines.specs.model.Mnemonics.{mnemonic_of}
 use Rattle.alpha_lines.specs.model.Parts.{cut, pair_of}
 use Rattle.alpha_lines.specs.model.Numbers.{number_of, displacement_of}
 
