@@ -4,3 +4,5 @@ pub mod Judge
 pub mod Steps
 pub mod Text
 pub mod Whole
+pub mod Trees
+pub mod Growth

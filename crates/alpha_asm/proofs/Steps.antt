@@ -32,7 +32,7 @@ whole_text items far k = sum_by-take-drop (λ (n : ℕ). n) (sizes items far) k
 
 -- ---- one far branch more
 
-near-set : (far : List Bool) (k : ℕ) → k < length far → is_far far k ≡ false → near (set far k true) + 1 ≡ near far
+pub near-set : (far : List Bool) (k : ℕ) → k < length far → is_far far k ≡ false → near (set far k true) + 1 ≡ near far
 near-set far k h short =
     let counted = sum_by-set (λ (b : Bool). cond (not b) 1 0) far k true false h in
     let weight : Bool → ℕ = λ b. cond (not b) 1 0 in
@@ -107,7 +107,7 @@ back_set items far places i w x swept inside read words =
           let none : ⊥ = cc in absurd none) (cases_lt k i);
     }
 
-short_of : (items : List AsmItem) (far : List Bool) (i : ℕ) (op : BranchOp) (ra l : ℕ) → length far ≡ length items → i < length items →
+pub short_of : (items : List AsmItem) (far : List Bool) (i : ℕ) (op : BranchOp) (ra l : ℕ) → length far ≡ length items → i < length items →
     get_or items i (Label 0) ≡ Branch op ra l → is_far far i ≡ false → IsShort items far i op ra l
 short_of items far i op ra l e inside is short = record {
   one_each = e;

@@ -2,19 +2,22 @@
 //!
 //! A branch that does not reach makes those longer that pass over it, so that they may no longer reach. A
 //! sweep from the end settles every branch to a label behind it, since the words between stand behind the
-//! branch; a sweep from the front settles every other one. Both go on until the last one finds none.
+//! branch; a sweep from the front settles every other one. Where the second one finds branches, those may make
+//! others far in both directions, and a search goes from branch to branch (`spread`). Both go on until a sweep
+//! finds none.
 
-ghost use Rattle.std.specs.Prelude.{◌≡◌, ℕ, ◌+◌, ◌<◌, ◌≤◌, ◌^◌, List, Bool, length, slice_index, IfOk};
+ghost use Rattle.std.specs.Prelude.{◌≡◌, ℕ, ◌+◌, ◌<◌, ◌≤◌, ◌^◌, List, Bool, length, slice_index, IfOk, OnOk};
 ghost use Rattle.std.specs.Bool.{OnTrue, OnFalse, MatchBool};
 ghost use Rattle.alpha_items.specs.Layout.{place, AllReach, IsForced, IsLeastFar};
 ghost use Rattle.alpha_asm.specs.model.Sweeps.{AreTargets, SweptBack, SweptForth, BackReachesAt, ForthReachesAt, TooFarBack, TooFarForth, Grown, ArePlaces, near};
 
 use crate::sizes::{is_branch, words_of_item};
+use crate::spread::spread;
 use alpha_items::item::AsmItem;
 use std::alloc::{AllocError, Global};
 
 /// A branch goes less than so many words past the next one, and at most so many before it.
-const REACH: u64 = 1 << 20;
+pub(crate) const REACH: u64 = 1 << 20;
 
 /// Whether the branch at `i`, if there is one that is not far, goes to a label before it that it does not
 /// reach.
@@ -181,6 +184,30 @@ pub(crate) struct Layout {
     pub(crate) places: Vec<u64>,
 }
 
+/// Makes those branches far that have to be, where each that is far already has to be.
+fn settle(
+    alloc: Global,
+    items: &[AsmItem],
+    targets: &[usize],
+    far: &mut [bool],
+    places: &mut [u64],
+) -> Result<(), AllocError>
+    requires few { length items.now < 2 ^ 60 }
+    requires targets { AreTargets items.now targets.now }
+    requires far { length far.old ≡ length items.now }
+    requires places { length places.old ≡ length items.now + 1 }
+    requires forced { IsForced items.now far.old }
+    ensures far { length far.new ≡ length items.now }
+    ensures places { length places.new ≡ length items.now + 1 }
+    ensures least { OnOk result (IsLeastFar items.now far.new) }
+    ensures are_places { OnOk result (ArePlaces items.now far.new places.new) }
+{
+    while sweep(items, targets, far, places) {
+        spread(alloc, items, targets, far, places)?;
+    }
+    Ok(())
+}
+
 /// The least far branches of a text such that every other branch reaches.
 #[tactic(auto, using(crate::proofs::Steps::none_forced))]
 pub(crate) fn lay_out(
@@ -196,6 +223,12 @@ pub(crate) fn lay_out(
     far.resize(items.len(), false)?;
     let mut places = Vec::new(alloc);
     places.resize(items.len() + 1, 0)?;
-    while sweep(items, targets, far.as_mut_slice(), places.as_mut_slice()) {}
+    settle(
+        alloc,
+        items,
+        targets,
+        far.as_mut_slice(),
+        places.as_mut_slice(),
+    )?;
     Ok(Layout { far, places })
 }

@@ -3,7 +3,12 @@
 
 pub mod assemble;
 mod data;
+mod ends;
 mod far;
 mod labels;
+mod rooms;
 mod sizes;
+mod spans;
+mod spread;
+mod sums;
 mod words;

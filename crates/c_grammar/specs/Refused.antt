@@ -11,8 +11,8 @@ pub record CanGoOn (front : List Lexeme) : Type 0 where
   pub unit : TranslationUnit
   pub reads : Reads (record { items = front ++ more; size = size }) unit
 
--- Some list with a reading begins with the tokens before the rest, and none with these and the first token of the rest. Where
--- the rest is empty, some list with a reading begins with all of the tokens.
+-- Some list with a reading begins with the tokens before the rest, and none with these and the first token of the rest.
+-- Where the rest is empty, some list with a reading begins with all of the tokens.
 pub record RefusedFrom (tokens rest : List Lexeme) : Type 0 where
   pub front : List Lexeme
   pub whole : tokens ≡ front ++ rest

@@ -4,7 +4,6 @@ ghost use Rattle.std.specs.Prelude.{◌≡◌, ◌++◌, [], length, IfOk};
 ghost use Rattle.c_grammar.specs.ParseSpecifiers as model;
 ghost use Rattle.c_expression_parser.specs.Answers.{Answers};
 
-use crate::endings::close;
 use c_expression_parser::{
     Fault, Scope, SpecifierType, Tokens, declarator, expr, named_type, read_words, with_shapes,
 };
@@ -154,7 +153,7 @@ fn member(
 {
     let base = specifier(alloc, scope, tokens, depth)?;
     let found = member_declarators(alloc, scope, tokens, depth, base)?;
-    close(tokens, Punct::Semicolon, found)
+    tokens.close(Punct::Semicolon, found)
 }
 
 /// Reads the declarations of members, one or more, up to the brace that closes them.

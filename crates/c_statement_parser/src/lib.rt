@@ -5,8 +5,8 @@
 //! nothing is known of it.
 #![tactic(auto)]
 
+mod boxes;
 mod braces;
-mod endings;
 mod statements;
 
 pub use braces::{append, declaration, specifier};

@@ -1,14 +1,18 @@
 //! Statements.
 
 ghost use Rattle.std.specs.Prelude.{◌≡◌, ◌++◌, [], length, OnOk};
+ghost use Rattle.c_lexer.specs.declared.token.Punct.TheVariants.{Semicolon};
+ghost use Rattle.c_tree.specs.declared.statements.Stmt as trees;
+ghost use Rattle.c_grammar.specs.Parser.{and_then, expect, pure};
 ghost use Rattle.c_grammar.specs.Types.{bare};
 ghost use Rattle.c_grammar.specs.Statements.{locals_of};
 ghost use Rattle.c_grammar.specs.ParseExpr.{list_from};
 ghost use Rattle.c_grammar.specs.ParseStatements as model;
 ghost use Rattle.c_expression_parser.specs.Answers.{Answers};
+ghost use Rattle.c_statement_parser.specs.model.Parts.{statement_of};
 
+use crate::boxes::{Parts, boxed};
 use crate::braces::declaration;
-use crate::endings::close;
 use c_expression_parser::{Fault, Scope, SpecifierType, Tokens, expr, plain, whole};
 use c_grammar::{Head, Naming, head_of, levels};
 use c_lexer::{Keyword, Punct};
@@ -78,10 +82,11 @@ fn line(
 {
     let base = Box::new(alloc, plain(alloc, scope, tokens)?)?;
     let found = locals(alloc, scope, tokens, depth, &base)?;
-    close(tokens, Punct::Semicolon, found)
+    tokens.close(Punct::Semicolon, found)
 }
 
-/// Reads an expression that is missing where this punctuator stands.
+/// Reads an expression that is missing where this punctuator stands. It is in a box, so that what waits for it to
+/// be used is small.
 #[tactic(auto, unfolding(c_grammar::specs::ParseStatements::optional))]
 fn optional(
     alloc: Global,
@@ -89,16 +94,16 @@ fn optional(
     tokens: &mut Tokens<'_>,
     depth: usize,
     mark: Punct,
-) -> Result<Option<Expr>, Fault>
+) -> Result<Box<Option<Expr>>, Fault>
     ensures { Answers (model.optional scope.now depth mark tokens.old) result tokens.new }
 {
     if tokens.sees(mark) {
-        return Ok(None);
+        return Ok(Box::new(alloc, None)?);
     }
-    Ok(Some(whole(alloc, scope, tokens, depth)?))
+    Ok(Box::new(alloc, Some(whole(alloc, scope, tokens, depth)?))?)
 }
 
-/// Reads an expression in brackets. It is in a box, so that what waits for it to be used is small.
+/// Reads an expression in brackets, into a box too.
 #[tactic(auto, unfolding(c_grammar::specs::ParseStatements::condition))]
 fn condition(
     alloc: Global,
@@ -110,39 +115,41 @@ fn condition(
 {
     tokens.expect(Punct::LeftParen)?;
     let found = Box::new(alloc, whole(alloc, scope, tokens, depth)?)?;
-    close(tokens, Punct::RightParen, found)
+    tokens.close(Punct::RightParen, found)
 }
 
-/// Reads the first part of a `for`, where it is an expression.
+/// Reads the first part of a `for`, where it is an expression, into a box.
 #[tactic(auto, unfolding(c_grammar::specs::ParseStatements::first_value))]
 fn first_value(
     alloc: Global,
     scope: &Scope,
     tokens: &mut Tokens<'_>,
     depth: usize,
-) -> Result<ForFirst, Fault>
+) -> Result<Box<ForFirst>, Fault>
     ensures { Answers (model.first_value scope.now depth tokens.old) result tokens.new }
 {
-    let found = whole(alloc, scope, tokens, depth)?;
-    close(tokens, Punct::Semicolon, ForFirst::Value(found))
+    let found = ForFirst::Value(whole(alloc, scope, tokens, depth)?);
+    let found = Box::new(alloc, found)?;
+    tokens.close(Punct::Semicolon, found)
 }
 
-/// Reads the first part of a `for`, up to the semicolon behind it.
+/// Reads the first part of a `for` into a box, up to the semicolon behind it.
 #[tactic(auto, unfolding(c_grammar::specs::ParseStatements::first))]
 fn for_first(
     alloc: Global,
     scope: &Scope,
     tokens: &mut Tokens<'_>,
     depth: usize,
-) -> Result<ForFirst, Fault>
+) -> Result<Box<ForFirst>, Fault>
     ensures { Answers (model.first scope.now depth tokens.old) result tokens.new }
 {
     if tokens.sees(Punct::Semicolon) {
         tokens.take();
-        return Ok(ForFirst::Nothing);
+        return Ok(Box::new(alloc, ForFirst::Nothing)?);
     }
     if scope.begins_type(tokens) {
-        return Ok(ForFirst::Locals(line(alloc, scope, tokens, depth)?));
+        let locals = line(alloc, scope, tokens, depth)?;
+        return Ok(Box::new(alloc, ForFirst::Locals(locals))?);
     }
     first_value(alloc, scope, tokens, depth)
 }
@@ -159,7 +166,7 @@ fn case_label(
     ensures { Answers (model.case_label scope.now depth at tokens.old) result tokens.new }
 {
     let value = expr(alloc, scope, tokens, depth, levels::CONDITIONAL)?;
-    close(tokens, Punct::Colon, Label::Case { at, value })
+    tokens.close(Punct::Colon, Label::Case { at, value })
 }
 
 /// Reads a label of a `switch`.
@@ -178,7 +185,15 @@ fn label(
         return case_label(alloc, scope, tokens, depth, at);
     }
     tokens.expect_word(Keyword::Default)?;
-    close(tokens, Punct::Colon, Label::Default { at })
+    tokens.close(Punct::Colon, Label::Default { at })
+}
+
+/// Reads the semicolon that ends the statement of these parts, and gives that in a box.
+fn end_statement(alloc: Global, tokens: &mut Tokens<'_>, parts: Parts) -> Result<Box<Stmt>, Fault>
+    ensures { Answers (and_then (expect Semicolon tokens.old) (λ _. pure (statement_of parts))) result tokens.new }
+{
+    let found = boxed(alloc, parts)?;
+    tokens.close(Punct::Semicolon, found)
 }
 
 /// Reads the value of a `return` behind its word, up to the semicolon behind it.
@@ -189,11 +204,11 @@ fn return_behind(
     tokens: &mut Tokens<'_>,
     depth: usize,
     at: u32,
-) -> Result<Stmt, Fault>
+) -> Result<Box<Stmt>, Fault>
     ensures { Answers (model.return scope.now depth at tokens.old) result tokens.new }
 {
     let value = optional(alloc, scope, tokens, depth, Punct::Semicolon)?;
-    close(tokens, Punct::Semicolon, Stmt::Return { at, value })
+    end_statement(alloc, tokens, Parts::Return { at, value })
 }
 
 /// Reads an expression as a statement.
@@ -203,11 +218,11 @@ fn expression_statement(
     scope: &Scope,
     tokens: &mut Tokens<'_>,
     depth: usize,
-) -> Result<Stmt, Fault>
+) -> Result<Box<Stmt>, Fault>
     ensures { Answers (model.value scope.now depth tokens.old) result tokens.new }
 {
-    let found = whole(alloc, scope, tokens, depth)?;
-    close(tokens, Punct::Semicolon, Stmt::Expression(found))
+    let found = Box::new(alloc, whole(alloc, scope, tokens, depth)?)?;
+    end_statement(alloc, tokens, Parts::Expression(found))
 }
 
 /// Whether the statements under a label end here.
@@ -256,10 +271,26 @@ pub fn items(
         if scope.begins_type(tokens) {
             push_locals(&mut found, line(alloc, scope, tokens, depth)?)?;
         } else {
-            found.push(stmt(alloc, scope, tokens, inner)?)?;
+            found.push(Box::into_inner(stmt(alloc, scope, tokens, inner)?))?;
         }
     }
     Err(Fault::Refused)
+}
+
+/// Reads a block behind its brace.
+#[cycle(stmt)]
+fn block(
+    alloc: Global,
+    scope: &Scope,
+    tokens: &mut Tokens<'_>,
+    depth: usize,
+    inner: usize,
+) -> Result<Box<Stmt>, Fault>
+    ensures { Answers (and_then (model.items_from scope.now depth (model.stmt scope.now inner) (length tokens.old)
+        [] tokens.old) (λ xs. pure (trees.Block xs))) result tokens.new }
+{
+    let found = items(alloc, scope, tokens, depth, inner)?;
+    Ok(boxed(alloc, Parts::Block(found))?)
 }
 
 /// Reads the statements under a label.
@@ -280,7 +311,7 @@ fn stmts(
         if ends_section(tokens) {
             return Ok(found);
         }
-        found.push(stmt(alloc, scope, tokens, inner)?)?;
+        found.push(Box::into_inner(stmt(alloc, scope, tokens, inner)?))?;
     }
     Err(Fault::Refused)
 }
@@ -340,24 +371,26 @@ fn alternative(
     inner: usize,
     condition: Box<Expr>,
     then: Box<Stmt>,
-) -> Result<Stmt, Fault>
+) -> Result<Box<Stmt>, Fault>
     ensures { Answers (model.alternative scope.now depth (model.stmt scope.now inner) condition then
         tokens.old) result tokens.new }
 {
     if !tokens.sees_word(Keyword::Else) {
-        return Ok(Stmt::If {
-            condition: Box::into_inner(condition),
+        let parts = Parts::If {
+            condition,
             then,
             otherwise: None,
-        });
+        };
+        return Ok(boxed(alloc, parts)?);
     }
     tokens.take();
-    let otherwise = Box::new(alloc, stmt(alloc, scope, tokens, inner)?)?;
-    Ok(Stmt::If {
-        condition: Box::into_inner(condition),
+    let otherwise = Some(stmt(alloc, scope, tokens, inner)?);
+    let parts = Parts::If {
+        condition,
         then,
-        otherwise: Some(otherwise),
-    })
+        otherwise,
+    };
+    Ok(boxed(alloc, parts)?)
 }
 
 /// Reads an `if` behind its word.
@@ -369,11 +402,11 @@ fn if_else(
     tokens: &mut Tokens<'_>,
     depth: usize,
     inner: usize,
-) -> Result<Stmt, Fault>
+) -> Result<Box<Stmt>, Fault>
     ensures { Answers (model.if_else scope.now depth (model.stmt scope.now inner) tokens.old) result tokens.new }
 {
     let condition = condition(alloc, scope, tokens, depth)?;
-    let then = Box::new(alloc, stmt(alloc, scope, tokens, inner)?)?;
+    let then = stmt(alloc, scope, tokens, inner)?;
     alternative(alloc, scope, tokens, depth, inner, condition, then)
 }
 
@@ -386,15 +419,12 @@ fn while_loop(
     tokens: &mut Tokens<'_>,
     depth: usize,
     inner: usize,
-) -> Result<Stmt, Fault>
+) -> Result<Box<Stmt>, Fault>
     ensures { Answers (model.while scope.now depth (model.stmt scope.now inner) tokens.old) result tokens.new }
 {
     let condition = condition(alloc, scope, tokens, depth)?;
-    let body = Box::new(alloc, stmt(alloc, scope, tokens, inner)?)?;
-    Ok(Stmt::While {
-        condition: Box::into_inner(condition),
-        body,
-    })
+    let body = stmt(alloc, scope, tokens, inner)?;
+    Ok(boxed(alloc, Parts::While { condition, body })?)
 }
 
 /// Reads a `do` behind its word.
@@ -406,13 +436,13 @@ fn do_loop(
     tokens: &mut Tokens<'_>,
     depth: usize,
     inner: usize,
-) -> Result<Stmt, Fault>
+) -> Result<Box<Stmt>, Fault>
     ensures { Answers (model.do_while scope.now depth (model.stmt scope.now inner) tokens.old) result tokens.new }
 {
-    let body = Box::new(alloc, stmt(alloc, scope, tokens, inner)?)?;
+    let body = stmt(alloc, scope, tokens, inner)?;
     tokens.expect_word(Keyword::While)?;
-    let condition = Box::into_inner(condition(alloc, scope, tokens, depth)?);
-    close(tokens, Punct::Semicolon, Stmt::Do { body, condition })
+    let condition = condition(alloc, scope, tokens, depth)?;
+    end_statement(alloc, tokens, Parts::Do { body, condition })
 }
 
 /// Reads a `for` behind its word.
@@ -424,7 +454,7 @@ fn for_loop(
     tokens: &mut Tokens<'_>,
     depth: usize,
     inner: usize,
-) -> Result<Stmt, Fault>
+) -> Result<Box<Stmt>, Fault>
     ensures { Answers (model.for scope.now depth (model.stmt scope.now inner) tokens.old) result tokens.new }
 {
     tokens.expect(Punct::LeftParen)?;
@@ -433,13 +463,14 @@ fn for_loop(
     tokens.expect(Punct::Semicolon)?;
     let step = optional(alloc, scope, tokens, depth, Punct::RightParen)?;
     tokens.expect(Punct::RightParen)?;
-    let body = Box::new(alloc, stmt(alloc, scope, tokens, inner)?)?;
-    Ok(Stmt::For {
+    let body = stmt(alloc, scope, tokens, inner)?;
+    let parts = Parts::For {
         first,
         condition,
         step,
         body,
-    })
+    };
+    Ok(boxed(alloc, parts)?)
 }
 
 /// Reads a `switch` behind its word.
@@ -451,19 +482,17 @@ fn switch(
     tokens: &mut Tokens<'_>,
     depth: usize,
     inner: usize,
-) -> Result<Stmt, Fault>
+) -> Result<Box<Stmt>, Fault>
     ensures { Answers (model.switch scope.now depth (model.stmt scope.now inner) tokens.old) result tokens.new }
 {
     let operand = condition(alloc, scope, tokens, depth)?;
     tokens.expect(Punct::LeftBrace)?;
     let sections = sections(alloc, scope, tokens, depth, inner)?;
-    Ok(Stmt::Switch {
-        operand: Box::into_inner(operand),
-        sections,
-    })
+    Ok(boxed(alloc, Parts::Switch { operand, sections })?)
 }
 
-/// Reads a statement. The depth bounds how deep it goes: as much as there are tokens is enough.
+/// Reads a statement into a box, so that what is open takes little of the machine's stack. The depth bounds how
+/// deep it goes: as much as there are tokens is enough.
 ///
 /// # Errors
 ///
@@ -476,7 +505,7 @@ pub fn stmt(
     scope: &Scope,
     tokens: &mut Tokens<'_>,
     depth: usize,
-) -> Result<Stmt, Fault>
+) -> Result<Box<Stmt>, Fault>
     ensures { Answers (model.stmt scope.now depth tokens.old) result tokens.new }
 {
     if depth == 0 {
@@ -490,15 +519,15 @@ pub fn stmt(
         tokens.take();
     }
     match head {
-        Head::Block => Ok(Stmt::Block(items(alloc, scope, tokens, depth, inner)?)),
-        Head::Empty => Ok(Stmt::Empty),
+        Head::Block => block(alloc, scope, tokens, depth, inner),
+        Head::Empty => Ok(boxed(alloc, Parts::Empty)?),
         Head::If => if_else(alloc, scope, tokens, depth, inner),
         Head::While => while_loop(alloc, scope, tokens, depth, inner),
         Head::Do => do_loop(alloc, scope, tokens, depth, inner),
         Head::For => for_loop(alloc, scope, tokens, depth, inner),
         Head::Switch => switch(alloc, scope, tokens, depth, inner),
-        Head::Break => { close(tokens, Punct::Semicolon, Stmt::Break { at }) }
-        Head::Continue => { close(tokens, Punct::Semicolon, Stmt::Continue { at }) }
+        Head::Break => end_statement(alloc, tokens, Parts::Break { at }),
+        Head::Continue => end_statement(alloc, tokens, Parts::Continue { at }),
         Head::Return => return_behind(alloc, scope, tokens, depth, at),
         Head::Other => expression_statement(alloc, scope, tokens, depth),
     }

@@ -5,6 +5,7 @@ pub mod MigrateImages
 pub mod Numbers
 pub mod RunImages
 pub mod PrintTrees
+pub mod AssembleTexts
 pub mod SmallRun
 pub mod SmallSame
 pub mod SmallSteps

@@ -5,11 +5,12 @@ use Rattle.alpha_run.specs.Run.{Traffic}
 use Rattle.msc_cli.specs.declared.outcome.Outcome.{Outcome}
 use Rattle.msc_cli.specs.declared.outcome.Outcome.TheVariants.{Usage, FileFault}
 use Rattle.msc_cli.specs.declared.request.Command.{Command}
-use Rattle.msc_cli.specs.declared.request.Command.TheVariants.{Build, Run, Exec, Migrate, Print}
+use Rattle.msc_cli.specs.declared.request.Command.TheVariants.{Build, Run, Exec, Migrate, Assemble, Print}
 use Rattle.msc_cli.specs.FromFile.{text_of}
 use Rattle.msc_cli.specs.BuildImage.{Builds}
 use Rattle.msc_cli.specs.RunImage.{Runs, Executes}
 use Rattle.msc_cli.specs.MigrateImage.{Migrates}
+use Rattle.msc_cli.specs.AssembleText.{Assembles}
 use Rattle.msc_cli.specs.PrintTree.{Prints}
 
 -- what is asked for: a command and the name of its file
@@ -28,10 +29,16 @@ AnswersCall (Some (Build, file)) told answer before after =
     Builds (text_of told file) answer before.taken after.taken × LeavesInput before after
 AnswersCall (Some (Run, file)) told answer before after = Runs (text_of told file) answer before after
 AnswersCall (Some (Exec, file)) told answer before after = Executes (text_of told file) answer before after
+<<<<<<< HEAD
 AnswersCall (Some (Migrate, file)) told answer before after =
     Migrates (text_of told file) answer before.taken after.taken × LeavesInput before after
 AnswersCall (Some (Print, file)) told answer before after =
     Prints (text_of told file) answer before.taken after.taken × LeavesInput before after
+=======
+AnswersCall (Some (Migrate, file)) told answer before after = Migrates (text_of told file) answer before.taken after.taken × LeavesInput before after
+AnswersCall (Some (Assemble, file)) told answer before after = Assembles (text_of told file) answer before.taken after.taken × LeavesInput before after
+AnswersCall (Some (Print, file)) told answer before after = Prints (text_of told file) answer before.taken after.taken × LeavesInput before after
+>>>>>>> origin/work
 
 -- a fault of the file comes exactly where its read is due to fail
 abbrev pub FailsWhereDue : Call → Option Shelf → Outcome → Type 0

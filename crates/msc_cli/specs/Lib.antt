@@ -8,6 +8,7 @@ pub mod FromFile
 pub mod BuildImage
 pub mod RunImage
 pub mod MigrateImage
+pub mod AssembleText
 pub mod PrintTree
 pub mod Call
 pub mod model

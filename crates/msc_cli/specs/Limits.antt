@@ -15,3 +15,10 @@ most_source = 4194304
 -- how many bytes are read of a C file: one more than it may have
 abbrev pub source_limit : ℕ
 source_limit = 4194305
+
+-- how many bytes an assembly text may have, and how many are read of one: one more
+abbrev pub most_assembly : ℕ
+most_assembly = 67108864
+
+abbrev pub assembly_limit : ℕ
+assembly_limit = 67108865

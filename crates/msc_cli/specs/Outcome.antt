@@ -1,9 +1,9 @@
 -- The line that is written for an outcome, and the status of the process.
 use Rattle.std.specs.Prelude.{ℕ, List, [], ◌∷◌, ◌++◌, Option, Some, None, codes, decimal}
 use Rattle.msc_cli.specs.declared.outcome.Outcome.{Outcome}
-use Rattle.msc_cli.specs.declared.outcome.Outcome.TheVariants.{Built, Printed, Ran, Trapped, Stuck, Budget, Usage, FileFault, InputFault, WriteFault, Refused, Limit, BadImage, NoMemory}
+use Rattle.msc_cli.specs.declared.outcome.Outcome.TheVariants.{Built, Printed, Ran, Trapped, Stuck, Budget, Usage, FileFault, InputFault, WriteFault, Refused, Limit, BadImage, BadAsm, NoMemory}
 use Rattle.msc_cli.specs.declared.outcome.SourceFault.TheVariants.{Form, Lex, Syntax}
-use Rattle.msc_cli.specs.declared.outcome.Which.TheVariants.{Text, Nesting}
+use Rattle.msc_cli.specs.declared.outcome.Which.TheVariants.{Text, Nesting, Data, Code}
 
 -- the whole line with its line feed, none where nothing is to be said, or what stands before a number
 abbrev pub words_of : Outcome → List ℕ
@@ -17,11 +17,14 @@ words_of (Refused (Syntax at)) = codes "msc: syntax at "
 words_of FileFault = codes "msc: file\n"
 words_of (Limit Text counted) = codes "msc: limit text "
 words_of (Limit Nesting counted) = codes "msc: limit nesting "
+words_of (Limit Data counted) = codes "msc: limit data "
+words_of (Limit Code counted) = codes "msc: limit code "
 words_of NoMemory = codes "msc: memory\n"
 words_of WriteFault = codes "msc: write\n"
 words_of InputFault = codes "msc: input\n"
 words_of (Budget steps) = codes "msc: budget "
 words_of (BadImage at) = codes "msc: image at "
+words_of (BadAsm line) = codes "msc: assembly line "
 words_of (Trapped code) = codes "msc: trap "
 words_of (Stuck pc) = codes "msc: stuck at "
 
@@ -29,6 +32,7 @@ words_of (Stuck pc) = codes "msc: stuck at "
 abbrev pub number_of : Outcome → Option ℕ
 number_of (Budget steps) = Some steps
 number_of (BadImage at) = Some at
+number_of (BadAsm line) = Some line
 number_of (Limit which counted) = Some counted
 number_of (Refused (Lex at)) = Some at
 number_of (Refused (Syntax at)) = Some at
@@ -60,5 +64,6 @@ status_of WriteFault = 73
 status_of InputFault = 74
 status_of (Budget steps) = 75
 status_of (BadImage at) = 76
+status_of (BadAsm line) = 77
 status_of (Trapped code) = 134
 status_of (Stuck pc) = 139

@@ -1,7 +1,7 @@
 -- The words of a call: what they ask for.
 use Rattle.std.specs.Prelude.{ℕ, Bool, false, ◌==◌, ◌&&◌, List, [], ◌∷◌, Option, Some, None, if◌then◌else◌, option_map, codes, bytes_eq}
 use Rattle.msc_cli.specs.declared.request.Command.{Command}
-use Rattle.msc_cli.specs.declared.request.Command.TheVariants.{Build, Run, Exec, Migrate, Print}
+use Rattle.msc_cli.specs.declared.request.Command.TheVariants.{Build, Run, Exec, Migrate, Assemble, Print}
 
 -- the command of a word
 abbrev pub command_at : List ℕ → Option Command
@@ -10,6 +10,7 @@ command_at word =
     else if bytes_eq word (codes "run") then Some Run
     else if bytes_eq word (codes "exec") then Some Exec
     else if bytes_eq word (codes "migrate") then Some Migrate
+    else if bytes_eq word (codes "assemble") then Some Assemble
     else None
 
 -- the command of a word with an option and its value

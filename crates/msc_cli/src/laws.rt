@@ -1,6 +1,6 @@
 //! Laws of runs and of trees.
 
-ghost use Rattle.std.specs.Prelude.{◌≡◌, ◌≢◌, ◌⊎◌, List, ℕ, Option, Some};
+ghost use Rattle.std.specs.Prelude.{◌≡◌, ◌≢◌, ◌⊎◌, ◌≤◌, List, length, ℕ, Option, Some};
 ghost use Rattle.bk_io.specs.Outside.{taken_with};
 ghost use Rattle.c_tree.specs.declared.declarations.TranslationUnit.{TranslationUnit};
 ghost use Rattle.alpha_isa.specs.Program.{Program};
@@ -8,6 +8,10 @@ ghost use Rattle.alpha_run.specs.Run.{Traffic};
 ghost use Rattle.alpha_isa.specs.ImageFormat.{IsImage};
 ghost use Rattle.msc_cli.specs.RunImage.{RunsBy, Runs, EndsWith};
 ghost use Rattle.msc_cli.specs.MigrateImage.{Migrates};
+ghost use Rattle.alpha_items.specs.Assembly.{Assembly, IsWhole};
+ghost use Rattle.alpha_text.specs.Texts.{Texts, HasText};
+ghost use Rattle.msc_cli.specs.Limits.{most_assembly};
+ghost use Rattle.msc_cli.specs.AssembleText.{Assembles};
 ghost use Rattle.msc_cli.specs.PrintTree.{Spells, SpellsNone};
 ghost use Rattle.msc_cli.specs.declared.outcome.Outcome.{Outcome as Answer};
 ghost use Rattle.msc_cli.specs.BuildImage.{IsCompiled, DoesAlike};
@@ -34,6 +38,14 @@ pub fn a_small_program_ends()
 pub fn an_image_is_migrated()
     ensures { (bytes : List ℕ) (p : Program) (answer : Answer) (old new : Option (List ℕ)) → IsImage bytes p →
         Migrates (Some bytes) answer old new → answer ≢ FileFault → answer ≢ WriteFault →
+        (answer ≡ Built) ⊎ (answer ≡ NoMemory) }
+{}
+
+/// The text of a whole assembly, within the limit, is assembled, unless the outside fails or memory is short.
+pub fn an_assembly_is_assembled()
+    ensures { (text : List ℕ) (a : Assembly) (answer : Answer) (old new : Option (List ℕ)) →
+        length text ≤ most_assembly → IsWhole a → HasText a → Texts text a → Assembles (Some text) answer old new →
+        answer ≢ FileFault → answer ≢ WriteFault →
         (answer ≡ Built) ⊎ (answer ≡ NoMemory) }
 {}
 

@@ -1,6 +1,7 @@
 //! The top call of the compiler: its words, its outcomes, and what each command writes.
 #![tactic(auto)]
 
+pub mod assemble;
 pub mod build;
 mod cursor;
 mod expression;

@@ -24,13 +24,17 @@ pub enum SourceFault {
     Syntax { at: u32 },
 }
 
-/// What of a C text is beyond its limit.
+/// What of a text is beyond its limit.
 #[derive(Clone, Copy, Debug, PartialEq, Eq)]
 pub enum Which {
     /// Its bytes.
     Text,
     /// How deep its constructs nest.
     Nesting,
+    /// The bytes of its data.
+    Data,
+    /// The words of its image.
+    Code,
 }
 
 /// How a call of the compiler ended.
@@ -62,6 +66,8 @@ pub enum Outcome {
     Limit { which: Which, counted: u64 },
     /// The bytes are no image. They stop being one at this place, in bytes.
     BadImage { at: u64 },
+    /// The text is no assembly. This line of it, from 1 on, is the first that is wrong.
+    BadAsm { line: u64 },
     /// There was no memory.
     NoMemory,
 }
@@ -82,6 +88,7 @@ pub fn exit_code(outcome: &Outcome) -> u8
         Outcome::InputFault => 74,
         Outcome::Budget { .. } => 75,
         Outcome::BadImage { .. } => 76,
+        Outcome::BadAsm { .. } => 77,
         Outcome::Trapped { .. } => 134,
         Outcome::Stuck { .. } => 139,
     }
@@ -127,11 +134,20 @@ fn said(outcome: &Outcome) -> &'static str
             which: Which::Nesting,
             ..
         } => "msc: limit nesting ",
+        Outcome::Limit {
+            which: Which::Data,
+            ..
+        } => "msc: limit data ",
+        Outcome::Limit {
+            which: Which::Code,
+            ..
+        } => "msc: limit code ",
         Outcome::NoMemory => "msc: memory\n",
         Outcome::WriteFault => "msc: write\n",
         Outcome::InputFault => "msc: input\n",
         Outcome::Budget { .. } => "msc: budget ",
         Outcome::BadImage { .. } => "msc: image at ",
+        Outcome::BadAsm { .. } => "msc: assembly line ",
         Outcome::Trapped { .. } => "msc: trap ",
         Outcome::Stuck { .. } => "msc: stuck at ",
     }
@@ -146,6 +162,7 @@ fn number(outcome: &Outcome) -> Option<u64>
         Outcome::Stuck { pc } => Some(*pc),
         Outcome::Budget { steps } => Some(*steps),
         Outcome::BadImage { at } => Some(*at),
+        Outcome::BadAsm { line } => Some(*line),
         Outcome::Limit { counted, .. } => Some(*counted),
         Outcome::Refused(SourceFault::Lex { at }) => Some(u64::from(*at)),
         Outcome::Refused(SourceFault::Syntax { at }) => Some(u64::from(*at)),

@@ -14,6 +14,8 @@ pub enum Command {
     Exec,
     /// To read an image, and write it in the version that is written today.
     Migrate,
+    /// To read an assembly text, and write its image.
+    Assemble,
     /// To read a C file, and write its syntax tree.
     Print,
 }
@@ -54,6 +56,7 @@ fn command_of(word: &str) -> Option<Command>
         "run" => Some(Command::Run),
         "exec" => Some(Command::Exec),
         "migrate" => Some(Command::Migrate),
+        "assemble" => Some(Command::Assemble),
         _ => None,
     }
 }

@@ -6,6 +6,7 @@ ghost use Rattle.msc_cli.specs.Output.{TookUnlessFault, file_faults_after, input
 ghost use Rattle.msc_cli.specs.Request.{request_of};
 ghost use Rattle.msc_cli.specs.Call.{AnswersCall, FailsWhereDue, told_after};
 
+use crate::assemble::assemble;
 use crate::build::build;
 use crate::migrate::migrate;
 use crate::outcome::{Outcome, put_line};
@@ -15,9 +16,15 @@ use crate::run::{exec, run};
 use bk_io::outside::{Files, Sink, Source};
 use std::alloc::Global;
 
+<<<<<<< HEAD
 /// Does what the words ask for, `build FILE`, `run FILE`, `exec FILE`, `migrate FILE` or
 /// `print FILE --pass tree`, and writes the outcome's line to `err`. `words[0]` is the program's name. The file that is
 /// named is read once, and no other. A failed write to `err` changes no outcome.
+=======
+/// Does what the words ask for, `build FILE`, `run FILE`, `exec FILE`, `migrate FILE`, `assemble FILE` or
+/// `print FILE --pass tree`, and writes the outcome's line to `err`. `words[0]` is the program's name. The
+/// file that is named is read once, and no other. A failed write to `err` changes no outcome.
+>>>>>>> origin/work
 pub fn msc_main<F: Files, I: Source, O: Sink, E: Sink>(
     alloc: Global,
     words: &[String],
@@ -76,6 +83,7 @@ fn perform<F: Files, I: Source, O: Sink>(
         Command::Run => run(alloc, request.file, files, input, out),
         Command::Exec => exec(alloc, request.file, files, input, out),
         Command::Migrate => migrate(alloc, request.file, files, out),
+        Command::Assemble => assemble(alloc, request.file, files, out),
         Command::Print => print(alloc, request.file, files, out),
     }
 }

@@ -23,6 +23,8 @@ fn limit(name: &str) -> Result<Which> {
     Ok(match name {
         "Text" => Which::Text,
         "Nesting" => Which::Nesting,
+        "Data" => Which::Data,
+        "Code" => Which::Code,
         _ => bail!("no limit: {name:?}"),
     })
 }
@@ -51,6 +53,7 @@ fn numbered_outcome(name: &str, n: u64) -> Result<Outcome> {
         "Stuck" => Outcome::Stuck { pc: n },
         "Budget" => Outcome::Budget { steps: n },
         "BadImage" => Outcome::BadImage { at: n },
+        "BadAsm" => Outcome::BadAsm { line: n },
         _ => bail!("no outcome: {name:?}"),
     })
 }

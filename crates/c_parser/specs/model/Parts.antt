@@ -14,7 +14,8 @@ use Rattle.c_grammar.specs.ParseUnits.{object_named}
 
 -- one declarator of a `typedef`, whose name is that of a type from then on
 unfoldable pub typedef_declarator : TypeNames → ℕ → TypeNode → Parser (External × TypeNames)
-typedef_declarator s n ty ts = and_then (declaration s n nm.Required ty ts) (λ d. pure (x.Typedef d, with_type s d.name))
+typedef_declarator s n ty ts =
+    and_then (declaration s n nm.Required ty ts) (λ d. pure (x.Typedef d, with_type s d.name))
 
 -- one declarator of another declaration at file scope, with its initialiser
 unfoldable pub object_declarator : TypeNames → ℕ → Option Storage → TypeNode → Parser External

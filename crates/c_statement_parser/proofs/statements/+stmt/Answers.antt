@@ -3,14 +3,8 @@ use Rattle.std.proofs.lemmas.Grind.{common_steps}
 use Rattle.c_statement_parser.proofs.Deeper.{stmt_deeper}
 use Rattle.c_statement_parser.proofs.statements.+stmt.Goals as goal
 
-pub stmt-returns-in_err-items-in-Block : goal.stmt-returns-in_err-items-in-Block
-stmt-returns-in_err-items-in-Block t c =
-    let some : 0 < c.args.depth = omega arith in
-    let e = stmt_deeper c.args.scope.now c.args.depth c.args.tokens.now some in
-    first_of (search rules, grind (arith, common_steps))
-
-pub stmt-returns-in_ok-items-in-Block : goal.stmt-returns-in_ok-items-in-Block
-stmt-returns-in_ok-items-in-Block t c =
+pub stmt-returns-in-Block : goal.stmt-returns-in-Block
+stmt-returns-in-Block t c =
     let some : 0 < c.args.depth = omega arith in
     let e = stmt_deeper c.args.scope.now c.args.depth c.args.tokens.now some in
     first_of (search rules, grind (arith, common_steps))

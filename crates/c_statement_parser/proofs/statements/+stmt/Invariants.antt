@@ -43,3 +43,6 @@ decreases-for_loop l = 10 * l.inner + 1
 
 abbrev pub decreases-switch : goal.decreases-switch
 decreases-switch l = 10 * l.inner + 4
+
+abbrev pub decreases-block : goal.decreases-block
+decreases-block l = 10 * l.inner + 2

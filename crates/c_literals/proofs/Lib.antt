@@ -1,0 +1,2 @@
+mod DigitSteps
+mod TextItems

@@ -1,0 +1,4 @@
+pub mod Integers
+pub mod Characters
+pub mod Texts
+pub mod model

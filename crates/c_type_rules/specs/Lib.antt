@@ -1,0 +1,9 @@
+pub mod Rulings
+pub mod Types
+pub mod Values
+pub mod Arithmetic
+pub mod Comparisons
+pub mod Conversions
+pub mod Places
+pub mod Assignments
+pub mod Members

@@ -1,0 +1,99 @@
+-- Places: what pointers lead to, addresses, and steps (C99 6.5.2.1, 6.5.2.4, 6.5.3.1, 6.5.3.2).
+use Rattle.std.specs.Prelude.{ℕ, Bool, true, false, ◌||◌, if◌then◌else◌, List, Option, Some, None, Ok}
+use denote.Hole.Carrier as Carrier
+use Rattle.c_tree.specs.declared.expressions.UnaryOp.{UnaryOp}
+use Rattle.c_tree.specs.declared.expressions.UnaryOp.TheVariants.{Address, Dereference}
+use Rattle.c_tree.specs.declared.expressions.StepOp.{StepOp}
+use Rattle.c_typed_tree.specs.declared.types.CType as t
+use Rattle.c_typed_tree.specs.declared.types.CType.TheBlock as tb
+use Rattle.c_typed_tree.specs.declared.types.StructDef.{StructDef}
+use Rattle.c_typed_tree.specs.declared.expressions.TExpr as x
+use Rattle.c_typed_tree.specs.View.{type_view}
+use Rattle.c_type_faults.specs.declared.faults.Kind.TheVariants.{BadOperand, NotAssignable}
+use Rattle.c_type_rules.specs.declared.typed.Place.{Place}
+use Rattle.c_type_rules.specs.declared.typed.Place.TheVariants as p
+use Rattle.c_type_rules.specs.declared.typed.Typed.{Typed}
+use Rattle.c_type_rules.specs.Rulings.{Ruling, fault}
+use Rattle.c_typed_tree.specs.Constants.{is_integer}
+use Rattle.c_typed_tree.specs.Typing.{is_scalar, is_struct, points_to_object}
+use Rattle.c_type_rules.specs.Values.{value, unary}
+
+-- ---- what a pointer to an object leads to
+
+unfoldable pub target : t.CType → Option t.CType
+target t.Void = None
+target (t.Int bytes signed) = None
+target (t.Pointer' _ (t.more_of-CType x t.end_of-CType)) = Some x
+target (t.Array' _ element length) = None
+target (t.Struct number) = None
+
+-- a place that is found by a pointer
+abbrev pub led_to : ℕ → t.CType → x.TExpr → Typed
+led_to at ty tree = record { at = at; tree = tree; ty = ty; place = p.Elsewhere }
+
+-- the type of what a pointer to an object leads to
+abbrev pub object_of : List StructDef → t.CType → Option t.CType
+object_of ds ty = if points_to_object ds (type_view ty) then target ty else None
+
+abbrev pub dereferenced : ℕ → t.CType → x.TExpr → Typed
+dereferenced at ty operand = led_to at ty (x.Unary ty Dereference operand)
+
+abbrev pub dereference_of : ℕ → Typed → Option t.CType → Ruling Typed
+dereference_of at a None = fault at BadOperand
+dereference_of at a (Some ty) = Ok (dereferenced at ty a.tree)
+
+abbrev pub dereference : List StructDef → ℕ → Typed → Ruling Typed
+dereference ds at a = dereference_of at a (object_of ds a.ty)
+
+-- `[ ]` takes a pointer and an integer in either order
+abbrev pub element_at : ℕ → t.CType → (left right : x.TExpr) → Typed
+element_at at ty left right = led_to at ty (x.Index ty left right)
+
+abbrev pub indexed : ℕ → (left right : Typed) → (is_index : Bool) → Option t.CType → Ruling Typed
+indexed at a b is_index None = fault at BadOperand
+indexed at a b is_index (Some ty) =
+    if is_index then Ok (element_at at ty a.tree b.tree) else fault at BadOperand
+
+abbrev pub index : List StructDef → ℕ → (left right : Typed) → Ruling Typed
+index ds at a b =
+    if points_to_object ds (type_view a.ty) then indexed at a b (is_integer (type_view b.ty)) (object_of ds a.ty)
+    else indexed at a b (is_integer (type_view a.ty)) (object_of ds b.ty)
+
+-- ---- addresses, and what may be changed
+
+abbrev pub is_somewhere : Place → Bool
+is_somewhere p.Nowhere = false
+is_somewhere (p.Local number) = true
+is_somewhere (p.Global number) = true
+is_somewhere p.Elsewhere = true
+
+abbrev pub address : ℕ → Typed → Ruling Typed
+address at a = if is_somewhere a.place then Ok (unary at (t.Pointer a.ty) Address a.tree) else fault a.at NotAssignable
+
+-- a place of scalar or struct type
+abbrev pub is_assignable : Typed → Bool
+is_assignable a = if is_somewhere a.place then is_scalar (type_view a.ty) || is_struct (type_view a.ty) else false
+
+-- ---- `++` and `--`, in front of their operand and behind it: integers, and pointers to objects
+
+abbrev pub is_steppable : List StructDef → Typed → Bool
+is_steppable ds a = is_integer (type_view a.ty) || points_to_object ds (type_view a.ty)
+
+abbrev pub step_before : List StructDef → ℕ → UnaryOp → Typed → Ruling Typed
+step_before ds at op a =
+    if is_assignable a then (if is_steppable ds a then Ok (unary at a.ty op a.tree) else fault at BadOperand)
+    else fault a.at NotAssignable
+
+abbrev pub postfix : ℕ → t.CType → StepOp → x.TExpr → Typed
+postfix at ty op operand = value at ty (x.Postfix ty op operand)
+
+abbrev pub step_behind : List StructDef → ℕ → StepOp → Typed → Ruling Typed
+step_behind ds at op a =
+    if is_assignable a then
+    (if is_steppable ds a then Ok (postfix at a.ty op a.tree) else fault at BadOperand)
+    else fault a.at NotAssignable
+
+-- opens what looks into a type
+unfoldable pub opens : Unit {0}
+unfolding target tb.hidden-the_row-CType-0 Carrier.hidden
+opens = tt

@@ -1,0 +1,48 @@
+-- Values made of their parts, with each conversion written.
+use Rattle.std.specs.Prelude.{ℕ, Bool, if◌then◌else◌, Option}
+use Rattle.c_arithmetic.specs.declared.integer_type.IntegerType.{IntegerType}
+use Rattle.c_arithmetic.specs.declared.integer_type.IntegerType.TheVariants as i
+use Rattle.c_arithmetic.specs.IntegerTypes.{bytes, is_signed}
+use Rattle.c_tree.specs.declared.expressions.UnaryOp.{UnaryOp}
+use Rattle.c_tree.specs.declared.expressions.BinaryOp.{BinaryOp}
+use Rattle.c_typed_tree.specs.declared.types.CType as t
+use Rattle.c_typed_tree.specs.declared.expressions.TExpr as x
+use Rattle.c_typed_tree.specs.Layout.{integer_of}
+use Rattle.c_typed_tree.specs.View.{type_view}
+use Rattle.c_type_rules.specs.declared.typed.Place.TheVariants as p
+use Rattle.c_type_rules.specs.declared.typed.Typed.{Typed}
+use Rattle.c_typed_tree.specs.Typing.{is_same_type}
+
+abbrev pub integer_type : IntegerType → t.CType
+integer_type u = t.Int (bytes u) (is_signed u)
+
+abbrev pub int : t.CType
+int = integer_type i.Int
+
+abbrev pub long : t.CType
+long = integer_type i.Long
+
+abbrev pub is_same : t.CType → t.CType → Bool
+is_same a b = is_same_type (type_view a) (type_view b)
+
+-- the integer type of an operand, if it has one
+abbrev pub integer : Typed → Option IntegerType
+integer a = integer_of (type_view a.ty)
+
+-- what is no place
+abbrev pub value : ℕ → t.CType → x.TExpr → Typed
+value at ty tree = record { at = at; tree = tree; ty = ty; place = p.Nowhere }
+
+-- a value where one of this type is wanted: it is converted where its own is another
+abbrev pub converted : t.CType → Typed → x.TExpr
+converted to a = if is_same to a.ty then a.tree else x.Convert to a.tree
+
+abbrev pub unary : ℕ → t.CType → UnaryOp → x.TExpr → Typed
+unary at ty op operand = value at ty (x.Unary ty op operand)
+
+abbrev pub binary : ℕ → t.CType → BinaryOp → (left right : x.TExpr) → Typed
+binary at ty op left right = value at ty (x.Binary ty op left right)
+
+-- both operands are converted to one type
+abbrev pub binary_in : ℕ → t.CType → BinaryOp → (to : t.CType) → (left right : Typed) → Typed
+binary_in at ty op to a b = binary at ty op (converted to a) (converted to b)

@@ -1,0 +1,145 @@
+//! Assignments (C99 6.5.16).
+
+ghost use Rattle.std.specs.Prelude.{◌≡◌, IfOk};
+ghost use Rattle.c_type_rules.specs.Assignments as spec;
+ghost use Rattle.c_type_rules.specs.Rulings.{Gives};
+
+use crate::conversions::wanted;
+use crate::places::is_assignable;
+use crate::refusal::{Refusal, refused};
+use crate::trees::converted;
+use crate::typed::{Typed, value};
+use crate::types::{integer_type, points_to_object};
+use c_arithmetic::integer_type::IntegerType;
+use c_tree::{AssignOp, Box};
+use c_type_faults::Kind;
+use c_typed_tree::layout::integer_of;
+use c_typed_tree::{CType, StructDef, TExpr};
+use std::alloc::{AllocError, Global};
+
+fn assigned(
+    alloc: Global,
+    at: u32,
+    op: AssignOp,
+    a: Typed,
+    right: Box<TExpr>,
+) -> Result<Typed, AllocError>
+    ensures { IfOk result (λ r. r ≡ spec.assigned at op a right) }
+{
+    let ty = a.ty.copy(alloc)?;
+    let left = a.tree;
+    let tree = Box::new(
+        alloc,
+        TExpr::Assign {
+            ty,
+            op,
+            left,
+            right,
+        },
+    )?;
+    Ok(value(at, a.ty, tree))
+}
+
+/// `=`. It is given whether the right side is a null pointer constant.
+pub fn set(alloc: Global, at: u32, a: Typed, b: Typed, null: bool) -> Result<Typed, Refusal>
+    ensures { Gives (spec.set at a b null) result }
+{
+    if is_assignable(&a) {
+        return match wanted(alloc, &a.ty, b, null) {
+            Ok(right) => Ok(assigned(alloc, at, AssignOp::Set, a, right)?),
+            Err(Refusal::Refused(fault)) => Err(Refusal::Refused(fault)),
+            Err(Refusal::NoMemory) => Err(Refusal::NoMemory),
+        };
+    }
+    Err(refused(a.at, Kind::NotAssignable))
+}
+
+fn shifts(op: AssignOp) -> bool
+    ensures { result ≡ spec.shifts op }
+{
+    match op {
+        AssignOp::ShiftLeft | AssignOp::ShiftRight => true,
+        AssignOp::Set
+        | AssignOp::Multiply
+        | AssignOp::Divide
+        | AssignOp::Remainder
+        | AssignOp::Add
+        | AssignOp::Subtract
+        | AssignOp::And
+        | AssignOp::Xor
+        | AssignOp::Or => false,
+    }
+}
+
+fn moves(op: AssignOp) -> bool
+    ensures { result ≡ spec.moves op }
+{
+    match op {
+        AssignOp::Add | AssignOp::Subtract => true,
+        AssignOp::Set
+        | AssignOp::Multiply
+        | AssignOp::Divide
+        | AssignOp::Remainder
+        | AssignOp::ShiftLeft
+        | AssignOp::ShiftRight
+        | AssignOp::And
+        | AssignOp::Xor
+        | AssignOp::Or => false,
+    }
+}
+
+fn right_type(op: AssignOp, s: IntegerType, t: IntegerType) -> CType
+    ensures { result ≡ spec.right_type op s t }
+{
+    if shifts(op) {
+        return integer_type(t.promoted());
+    }
+    integer_type(s.common(t))
+}
+
+/// A pointer that is moved in its place.
+fn moved_place(
+    alloc: Global,
+    structs: &[StructDef],
+    at: u32,
+    op: AssignOp,
+    a: Typed,
+    b: Typed,
+) -> Result<Typed, Refusal>
+    ensures { Gives (spec.moved_place structs.now at op a b) result }
+{
+    if moves(op) {
+        if points_to_object(structs, &a.ty) {
+            return Ok(assigned(alloc, at, op, a, b.tree)?);
+        }
+        return Err(refused(at, Kind::BadOperand));
+    }
+    Err(refused(at, Kind::BadOperand))
+}
+
+/// A compound assignment.
+pub fn compound(
+    alloc: Global,
+    structs: &[StructDef],
+    at: u32,
+    op: AssignOp,
+    a: Typed,
+    b: Typed,
+) -> Result<Typed, Refusal>
+    ensures { Gives (spec.compound structs.now at op a b) result }
+{
+    if is_assignable(&a) {
+        return match integer_of(&b.ty) {
+            None => Err(refused(at, Kind::BadOperand)),
+            Some(t) => match integer_of(&a.ty) {
+                None => moved_place(alloc, structs, at, op, a, b),
+                Some(s) => {
+                    let ty = right_type(op, s, t);
+                    let right = converted(alloc, &ty, b)?;
+                    Ok(assigned(alloc, at, op, a, right)?)
+                }
+            },
+        };
+    }
+    Err(refused(a.at, Kind::NotAssignable))
+}

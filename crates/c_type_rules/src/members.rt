@@ -1,0 +1,173 @@
+//! Members and sizes (C99 6.5.2.3, 6.5.3.4).
+
+ghost use Rattle.std.specs.Prelude.{◌≡◌, IfOk};
+ghost use Rattle.c_typed_tree.specs.declared.expressions.TExpr as x;
+ghost use Rattle.c_type_rules.specs.Members as spec;
+ghost use Rattle.c_type_rules.specs.Rulings.{Gives};
+
+use crate::places::{is_somewhere, led_to};
+use crate::refusal::{Refusal, refused};
+use crate::typed::{Place, Typed, value};
+use crate::types::{integer_type, is_object, is_struct, points_to_struct};
+use c_arithmetic::integer_type::IntegerType;
+use c_tree::Box;
+use c_type_faults::Kind;
+use c_typed_tree::layout::size_of;
+use c_typed_tree::{CType, StructDef, TExpr};
+use std::alloc::{AllocError, Global};
+
+/// What was found of a member's name.
+#[derive(Drop)]
+pub struct FoundMember {
+    /// The member's number in its struct.
+    pub number: u32,
+    pub ty: CType,
+}
+
+fn place_of_member(place: Place) -> Place
+    ensures { result ≡ spec.place_of_member place }
+{
+    match place {
+        Place::Nowhere => Place::Nowhere,
+        Place::Local(number) => Place::Local(number),
+        Place::Global(_) => Place::Elsewhere,
+        Place::Elsewhere => Place::Elsewhere,
+    }
+}
+
+fn field_tree(
+    alloc: Global,
+    of: &CType,
+    operand: Box<TExpr>,
+    member: u32,
+) -> Result<Box<TExpr>, AllocError>
+    ensures { IfOk result (λ r. r ≡ x.Field of.now operand member) }
+{
+    let ty = of.copy(alloc)?;
+    Box::new(
+        alloc,
+        TExpr::Field {
+            ty,
+            operand,
+            member,
+        },
+    )
+}
+
+fn field_found(
+    alloc: Global,
+    at: u32,
+    a: Typed,
+    found: Option<FoundMember>,
+) -> Result<Typed, Refusal>
+    ensures { Gives (spec.field_found at a found) result }
+{
+    match found {
+        None => Err(refused(at, Kind::NoMember)),
+        Some(FoundMember { number, ty }) => {
+            let place = place_of_member(a.place);
+            let tree = field_tree(alloc, &ty, a.tree, number)?;
+            Ok(Typed {
+                at,
+                tree,
+                ty,
+                place,
+            })
+        }
+    }
+}
+
+fn is_struct_place(a: &Typed) -> bool
+    ensures { result ≡ spec.is_struct_place a.now }
+{
+    if is_somewhere(a.place) {
+        return is_struct(&a.ty);
+    }
+    false
+}
+
+/// `a.name`.
+pub fn field(alloc: Global, at: u32, a: Typed, found: Option<FoundMember>) -> Result<Typed, Refusal>
+    ensures { Gives (spec.field at a found) result }
+{
+    if is_struct_place(&a) {
+        return field_found(alloc, at, a, found);
+    }
+    Err(refused(at, Kind::BadOperand))
+}
+
+fn arrow_tree(
+    alloc: Global,
+    of: &CType,
+    operand: Box<TExpr>,
+    member: u32,
+) -> Result<Box<TExpr>, AllocError>
+    ensures { IfOk result (λ r. r ≡ x.Arrow of.now operand member) }
+{
+    let ty = of.copy(alloc)?;
+    Box::new(
+        alloc,
+        TExpr::Arrow {
+            ty,
+            operand,
+            member,
+        },
+    )
+}
+
+fn arrow_found(
+    alloc: Global,
+    at: u32,
+    a: Typed,
+    found: Option<FoundMember>,
+) -> Result<Typed, Refusal>
+    ensures { Gives (spec.arrow_found at a found) result }
+{
+    match found {
+        None => Err(refused(at, Kind::NoMember)),
+        Some(FoundMember { number, ty }) => {
+            let tree = arrow_tree(alloc, &ty, a.tree, number)?;
+            Ok(led_to(at, ty, tree))
+        }
+    }
+}
+
+/// `a->name`.
+pub fn arrow(
+    alloc: Global,
+    structs: &[StructDef],
+    at: u32,
+    a: Typed,
+    found: Option<FoundMember>,
+) -> Result<Typed, Refusal>
+    ensures { Gives (spec.arrow structs.now at a found) result }
+{
+    if points_to_struct(structs, &a.ty) {
+        return arrow_found(alloc, at, a, found);
+    }
+    Err(refused(at, Kind::BadOperand))
+}
+
+/// An integer, as a word of its type.
+pub fn number(alloc: Global, at: u32, t: IntegerType, word: u64) -> Result<Typed, AllocError>
+    ensures { IfOk result (λ r. r ≡ spec.number at t word) }
+{
+    let tree = Box::new(
+        alloc,
+        TExpr::Number {
+            ty: integer_type(t),
+            value: word,
+        },
+    )?;
+    Ok(value(at, integer_type(t), tree))
+}
+
+/// `sizeof` of a type, or of an expression of the type.
+pub fn size(alloc: Global, structs: &[StructDef], at: u32, ty: &CType) -> Result<Typed, Refusal>
+    ensures { Gives (spec.size structs.now at ty.now) result }
+{
+    if is_object(structs, ty) {
+        return Ok(number(alloc, at, IntegerType::UnsignedLong, size_of(structs, ty))?);
+    }
+    Err(refused(at, Kind::BadOperand))
+}

@@ -1,0 +1,225 @@
+//! Places: what pointers lead to, addresses, and steps (C99 6.5.2.1, 6.5.2.4, 6.5.3.1, 6.5.3.2).
+
+ghost use Rattle.std.specs.Prelude.{◌≡◌, IfOk};
+ghost use Rattle.c_type_rules.specs.Places as spec;
+ghost use Rattle.c_type_rules.specs.Rulings.{Gives};
+
+use crate::refusal::{Refusal, refused};
+use crate::trees::unary;
+use crate::typed::{Place, Typed, value};
+use crate::types::{is_integer, is_scalar, is_struct, points_to_object};
+use c_tree::{Box, StepOp, UnaryOp};
+use c_type_faults::Kind;
+use c_typed_tree::{CType, StructDef, TExpr};
+use std::alloc::{AllocError, Global};
+
+/// The type that a pointer type points to.
+#[tactic(auto, unfolding(crate::specs::Places::opens))]
+fn target(alloc: Global, ty: &CType) -> Result<Option<CType>, AllocError>
+    ensures { IfOk result (λ r. r ≡ spec.target ty.now) }
+{
+    match ty {
+        CType::Void => Ok(None),
+        CType::Int { .. } => Ok(None),
+        CType::Pointer(target) => Ok(Some(target.copy(alloc)?)),
+        CType::Array(_, _) => Ok(None),
+        CType::Struct(_) => Ok(None),
+    }
+}
+
+/// The type of what a pointer to an object leads to.
+fn object_of(alloc: Global, structs: &[StructDef], ty: &CType) -> Result<Option<CType>, AllocError>
+    ensures { IfOk result (λ r. r ≡ spec.object_of structs.now ty.now) }
+{
+    if points_to_object(structs, ty) {
+        return target(alloc, ty);
+    }
+    Ok(None)
+}
+
+pub(crate) fn led_to(at: u32, ty: CType, tree: Box<TExpr>) -> Typed
+    ensures { result ≡ spec.led_to at ty tree }
+{
+    Typed {
+        at,
+        tree,
+        ty,
+        place: Place::Elsewhere,
+    }
+}
+
+fn dereferenced(alloc: Global, at: u32, of: CType, operand: Box<TExpr>) -> Result<Typed, AllocError>
+    ensures { IfOk result (λ r. r ≡ spec.dereferenced at of operand) }
+{
+    let ty = of.copy(alloc)?;
+    let tree = Box::new(
+        alloc,
+        TExpr::Unary {
+            ty,
+            op: UnaryOp::Dereference,
+            operand,
+        },
+    )?;
+    Ok(led_to(at, of, tree))
+}
+
+/// `*` in front of an operand.
+pub fn dereference(
+    alloc: Global,
+    structs: &[StructDef],
+    at: u32,
+    a: Typed,
+) -> Result<Typed, Refusal>
+    ensures { Gives (spec.dereference structs.now at a) result }
+{
+    match object_of(alloc, structs, &a.ty)? {
+        None => Err(refused(at, Kind::BadOperand)),
+        Some(ty) => Ok(dereferenced(alloc, at, ty, a.tree)?),
+    }
+}
+
+fn element_at(
+    alloc: Global,
+    at: u32,
+    of: CType,
+    left: Box<TExpr>,
+    right: Box<TExpr>,
+) -> Result<Typed, AllocError>
+    ensures { IfOk result (λ r. r ≡ spec.element_at at of left right) }
+{
+    let ty = of.copy(alloc)?;
+    let tree = Box::new(alloc, TExpr::Index { ty, left, right })?;
+    Ok(led_to(at, of, tree))
+}
+
+/// An element of this type.
+fn indexed(
+    alloc: Global,
+    at: u32,
+    a: Typed,
+    b: Typed,
+    is_index: bool,
+    object: Option<CType>,
+) -> Result<Typed, Refusal>
+    ensures { Gives (spec.indexed at a b is_index object) result }
+{
+    match object {
+        None => Err(refused(at, Kind::BadOperand)),
+        Some(ty) => {
+            if is_index {
+                return Ok(element_at(alloc, at, ty, a.tree, b.tree)?);
+            }
+            Err(refused(at, Kind::BadOperand))
+        }
+    }
+}
+
+/// `a[b]`.
+pub fn index(
+    alloc: Global,
+    structs: &[StructDef],
+    at: u32,
+    a: Typed,
+    b: Typed,
+) -> Result<Typed, Refusal>
+    ensures { Gives (spec.index structs.now at a b) result }
+{
+    if points_to_object(structs, &a.ty) {
+        let is_index = is_integer(&b.ty);
+        let object = object_of(alloc, structs, &a.ty)?;
+        return indexed(alloc, at, a, b, is_index, object);
+    }
+    let is_index = is_integer(&a.ty);
+    let object = object_of(alloc, structs, &b.ty)?;
+    indexed(alloc, at, a, b, is_index, object)
+}
+
+pub(crate) fn is_somewhere(place: Place) -> bool
+    ensures { result ≡ spec.is_somewhere place }
+{
+    match place {
+        Place::Nowhere => false,
+        Place::Local(_) => true,
+        Place::Global(_) => true,
+        Place::Elsewhere => true,
+    }
+}
+
+/// `&`.
+pub fn address(alloc: Global, at: u32, a: Typed) -> Result<Typed, Refusal>
+    ensures { Gives (spec.address at a) result }
+{
+    if is_somewhere(a.place) {
+        let ty = CType::Pointer(Box::new(alloc, a.ty)?);
+        return Ok(unary(alloc, at, ty, UnaryOp::Address, a.tree)?);
+    }
+    Err(refused(a.at, Kind::NotAssignable))
+}
+
+/// Whether an expression is a place that an assignment can change.
+pub fn is_assignable(a: &Typed) -> bool
+    ensures { result ≡ spec.is_assignable a.now }
+{
+    if is_somewhere(a.place) {
+        return is_scalar(&a.ty) || is_struct(&a.ty);
+    }
+    false
+}
+
+fn is_steppable(structs: &[StructDef], a: &Typed) -> bool
+    ensures { result ≡ spec.is_steppable structs.now a.now }
+{
+    is_integer(&a.ty) || points_to_object(structs, &a.ty)
+}
+
+/// `++` or `--` in front of an operand.
+pub fn step_before(
+    alloc: Global,
+    structs: &[StructDef],
+    at: u32,
+    op: UnaryOp,
+    a: Typed,
+) -> Result<Typed, Refusal>
+    ensures { Gives (spec.step_before structs.now at op a) result }
+{
+    if is_assignable(&a) {
+        if is_steppable(structs, &a) {
+            return Ok(unary(alloc, at, a.ty, op, a.tree)?);
+        }
+        return Err(refused(at, Kind::BadOperand));
+    }
+    Err(refused(a.at, Kind::NotAssignable))
+}
+
+fn postfix(
+    alloc: Global,
+    at: u32,
+    of: CType,
+    op: StepOp,
+    operand: Box<TExpr>,
+) -> Result<Typed, AllocError>
+    ensures { IfOk result (λ r. r ≡ spec.postfix at of op operand) }
+{
+    let ty = of.copy(alloc)?;
+    let tree = Box::new(alloc, TExpr::Postfix { ty, op, operand })?;
+    Ok(value(at, of, tree))
+}
+
+/// `++` or `--` behind an operand.
+pub fn step_behind(
+    alloc: Global,
+    structs: &[StructDef],
+    at: u32,
+    op: StepOp,
+    a: Typed,
+) -> Result<Typed, Refusal>
+    ensures { Gives (spec.step_behind structs.now at op a) result }
+{
+    if is_assignable(&a) {
+        if is_steppable(structs, &a) {
+            return Ok(postfix(alloc, at, a.ty, op, a.tree)?);
+        }
+        return Err(refused(at, Kind::BadOperand));
+    }
+    Err(refused(a.at, Kind::NotAssignable))
+}

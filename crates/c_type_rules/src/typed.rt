@@ -1,0 +1,41 @@
+//! Expressions that are judged.
+
+ghost use Rattle.std.specs.Prelude.{◌≡◌};
+ghost use Rattle.c_type_rules.specs.Values as spec;
+
+use c_tree::Box;
+use c_typed_tree::{CType, TExpr};
+
+/// Which place an expression is, if it is one (C99 6.3.2.1).
+#[derive(Clone, Copy, Debug, PartialEq, Eq)]
+pub enum Place {
+    /// A value, and no place.
+    Nowhere,
+    /// The local with this number, or a member of it.
+    Local(u32),
+    /// The global with this number.
+    Global(u32),
+    /// What a pointer points to, or a part of an object.
+    Elsewhere,
+}
+
+/// An expression without fault, at its first token, with its type.
+#[derive(Drop)]
+pub struct Typed {
+    pub at: u32,
+    pub tree: Box<TExpr>,
+    pub ty: CType,
+    pub place: Place,
+}
+
+/// A value.
+pub(crate) fn value(at: u32, ty: CType, tree: Box<TExpr>) -> Typed
+    ensures { result ≡ spec.value at ty tree }
+{
+    Typed {
+        at,
+        tree,
+        ty,
+        place: Place::Nowhere,
+    }
+}

@@ -1,0 +1,102 @@
+//! The command `assemble`: an assembly text in, the bytes of its image out.
+
+ghost use Rattle.std.specs.Prelude.{◌≡◌, ◌≢◌, ◌↔◌, ◌≤◌, length, IfSome, IfErr, IfOk, Some, IsTrue, option_map};
+ghost use Rattle.bk_io.specs.Shelf.{is_due, after_call};
+ghost use Rattle.msc_cli.specs.FromFile.{IsCause, text_of};
+ghost use Rattle.msc_cli.specs.Limits.{most_assembly};
+ghost use Rattle.msc_cli.specs.model.Causes as spec;
+ghost use Rattle.msc_cli.specs.AssembleText.{IsAssembled, RefusesAssembly, Assembles};
+ghost use Rattle.msc_cli.specs.Output.{file_faults_after, output_faults_after};
+
+use crate::build::write_image;
+use crate::from_file::read_file;
+use crate::outcome::{Outcome, Which};
+use alpha_asm::assemble::{AsmFault, assemble as image_of};
+use alpha_isa::image::Image;
+use alpha_text::fault::TextFault;
+use alpha_text::read::read_asm;
+use bk_io::outside::{Files, Sink};
+use std::alloc::Global;
+
+/// How many bytes of an assembly text are read: one more than it may have.
+const ASSEMBLY_LIMIT: u64 = 67_108_865;
+
+/// The outcome where a text is not read as an assembly.
+fn outcome_of_text_fault(fault: TextFault) -> Outcome
+    ensures { result ≡ spec.outcome_of_text_fault fault }
+{
+    match fault {
+        TextFault::Line { line } => Outcome::BadAsm { line },
+        TextFault::Data { counted } => Outcome::Limit {
+            which: Which::Data,
+            counted,
+        },
+        TextFault::NoMemory => Outcome::NoMemory,
+    }
+}
+
+/// The outcome where an assembly has no image.
+fn outcome_of_asm_fault(fault: AsmFault) -> Outcome
+    ensures { result ≡ spec.outcome_of_asm_fault fault }
+{
+    match fault {
+        AsmFault::CodeTooLong { words } => Outcome::Limit {
+            which: Which::Code,
+            counted: words,
+        },
+        AsmFault::NoMemory => Outcome::NoMemory,
+    }
+}
+
+/// Reads an assembly text and writes the image of its assembly.
+pub fn assemble<F: Files, O: Sink>(alloc: Global, name: &str, files: &mut F, out: &mut O) -> Outcome
+    ensures answer { Assembles (text_of (F.told files.old) name.now) result (O.taken out.old) (O.taken out.new) }
+    ensures due { IfSome (F.told files.old) (λ shelf. (result ≡ Outcome.FileFault) ↔ IsTrue (is_due shelf name.now)) }
+    ensures told { F.told files.new ≡ option_map after_call (F.told files.old) }
+    ensures file_count { F.faults files.new ≡ file_faults_after result (F.faults files.old) }
+    ensures output_count { O.faults out.new ≡ output_faults_after result (O.faults out.old) }
+    ensures reads_none { result ≢ Outcome.InputFault }
+{
+    match read_file(alloc, files, name, ASSEMBLY_LIMIT) {
+        Ok(text) => assemble_text(alloc, text.as_slice(), out),
+        Err(outcome) => outcome,
+    }
+}
+
+/// Writes the image of the assembly whose text this is.
+fn assemble_text<O: Sink>(alloc: Global, text: &[u8], out: &mut O) -> Outcome
+    ensures answer { Assembles (Some text.now) result (O.taken out.old) (O.taken out.new) }
+    ensures count { O.faults out.new ≡ output_faults_after result (O.faults out.old) }
+    ensures no_file { result ≢ Outcome.FileFault }
+    ensures no_input { result ≢ Outcome.InputFault }
+{
+    if text.len() as u64 >= ASSEMBLY_LIMIT {
+        return Outcome::Limit {
+            which: Which::Text,
+            counted: ASSEMBLY_LIMIT,
+        };
+    }
+    match image_of_text(alloc, text) {
+        Ok(image) => write_image(alloc, &image, out),
+        Err(outcome) => outcome,
+    }
+}
+
+/// The image of the assembly whose text this is.
+#[tactic(auto, using(crate::proofs::AssembleTexts::text_cause, crate::proofs::AssembleTexts::asm_cause, crate::proofs::AssembleTexts::text_no_fault, crate::proofs::AssembleTexts::asm_no_fault, crate::proofs::AssembleTexts::assembled_by))]
+fn image_of_text(alloc: Global, text: &[u8]) -> Result<Image, Outcome>
+    requires { length text.now ≤ most_assembly }
+    ensures image { IfOk result (λ image. IsAssembled text.now image) }
+    ensures cause { IfErr result (IsCause (RefusesAssembly (Some text.now))) }
+    ensures no_fault { IfErr result (λ outcome. (outcome ≢ Outcome.FileFault)
+        × (outcome ≢ Outcome.InputFault) × (outcome ≢ Outcome.WriteFault)) }
+{
+    let asm = match read_asm(alloc, text) {
+        Ok(asm) => asm,
+        Err(fault) => return Err(outcome_of_text_fault(fault)),
+    };
+    match image_of(alloc, &asm) {
+        Ok(image) => Ok(image),
+        Err(fault) => Err(outcome_of_asm_fault(fault)),
+    }
+}
