@@ -20,8 +20,8 @@ pub record IsAssembled (source : List ℕ) (p : Program) : Type 0 where
   pub spells : Texts source assembly
   pub image : Words assembly p
 
--- Why no image is made of a text: it is too long, or a line of it is wrong. Too many bytes of data, or too many words, are
--- no cause: a text within the limit has neither.
+-- Why no image is made of a text: it is too long, or a line of it is wrong. Too many bytes of data, or too many words,
+-- are no cause: a text within the limit has neither.
 abbrev pub SpellsNoImage : List ℕ → Outcome → Type 0
 SpellsNoImage source (Limit Text counted) = (most_assembly < length source) × (counted ≡ assembly_limit)
 SpellsNoImage source (BadAsm line) = (length source ≤ most_assembly) × FirstWrong source line

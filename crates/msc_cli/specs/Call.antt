@@ -29,16 +29,12 @@ AnswersCall (Some (Build, file)) told answer before after =
     Builds (text_of told file) answer before.taken after.taken × LeavesInput before after
 AnswersCall (Some (Run, file)) told answer before after = Runs (text_of told file) answer before after
 AnswersCall (Some (Exec, file)) told answer before after = Executes (text_of told file) answer before after
-<<<<<<< HEAD
 AnswersCall (Some (Migrate, file)) told answer before after =
     Migrates (text_of told file) answer before.taken after.taken × LeavesInput before after
+AnswersCall (Some (Assemble, file)) told answer before after =
+    Assembles (text_of told file) answer before.taken after.taken × LeavesInput before after
 AnswersCall (Some (Print, file)) told answer before after =
     Prints (text_of told file) answer before.taken after.taken × LeavesInput before after
-=======
-AnswersCall (Some (Migrate, file)) told answer before after = Migrates (text_of told file) answer before.taken after.taken × LeavesInput before after
-AnswersCall (Some (Assemble, file)) told answer before after = Assembles (text_of told file) answer before.taken after.taken × LeavesInput before after
-AnswersCall (Some (Print, file)) told answer before after = Prints (text_of told file) answer before.taken after.taken × LeavesInput before after
->>>>>>> origin/work
 
 -- a fault of the file comes exactly where its read is due to fail
 abbrev pub FailsWhereDue : Call → Option Shelf → Outcome → Type 0

@@ -16,15 +16,9 @@ use crate::run::{exec, run};
 use bk_io::outside::{Files, Sink, Source};
 use std::alloc::Global;
 
-<<<<<<< HEAD
-/// Does what the words ask for, `build FILE`, `run FILE`, `exec FILE`, `migrate FILE` or
-/// `print FILE --pass tree`, and writes the outcome's line to `err`. `words[0]` is the program's name. The file that is
-/// named is read once, and no other. A failed write to `err` changes no outcome.
-=======
 /// Does what the words ask for, `build FILE`, `run FILE`, `exec FILE`, `migrate FILE`, `assemble FILE` or
 /// `print FILE --pass tree`, and writes the outcome's line to `err`. `words[0]` is the program's name. The
 /// file that is named is read once, and no other. A failed write to `err` changes no outcome.
->>>>>>> origin/work
 pub fn msc_main<F: Files, I: Source, O: Sink, E: Sink>(
     alloc: Global,
     words: &[String],
