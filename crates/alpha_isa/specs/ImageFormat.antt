@@ -16,8 +16,8 @@ mark = 0x4D ∷ 0x53 ∷ 0x41 ∷ 0x31 ∷ []
 abbrev pub spelling_with : ℕ → List ℕ → Program → List ℕ
 spelling_with version fields p =
     mark ++ (number version
-        ++ (number (length p.words)
-        ++ (number (length p.bytes) ++ (number p.entry ++ (fields ++ (flat_map number p.words ++ p.bytes))))))
+    ++ (number (length p.words)
+    ++ (number (length p.bytes) ++ (number p.entry ++ (fields ++ (flat_map number p.words ++ p.bytes))))))
 
 -- version 2, which is what is written, has a field for the zeros
 unfoldable pub image_spelling : Program → List ℕ

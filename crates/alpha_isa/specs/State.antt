@@ -48,7 +48,7 @@ abbrev pub with_bytes : Program → State → ℕ → List ℕ → Option State
 with_bytes p s a new =
     if not (a % length new == 0) then None
     else if lies_in a (length new) (data_start p) s.data_bytes
-        then Some (record s { data_bytes = with_part s.data_bytes (a - data_start p) new })
+    then Some (record s { data_bytes = with_part s.data_bytes (a - data_start p) new })
     else if lies_in a (length new) (stack_start p) s.stack_bytes
-        then Some (record s { stack_bytes = with_part s.stack_bytes (a - stack_start p) new })
+    then Some (record s { stack_bytes = with_part s.stack_bytes (a - stack_start p) new })
     else None

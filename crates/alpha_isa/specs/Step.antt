@@ -120,7 +120,7 @@ service_step number s =
     if number == 1 then Over (Done (register s 16 % 256)) s
     else if number == 2 then next_instruction (record s { output = s.output ++ (register s 16 % 256) ∷ [] })
     else if number == 3
-        then next_instruction (with_register 0 (input_word s.input) (record s { input = input_rest s.input }))
+    then next_instruction (with_register 0 (input_word s.input) (record s { input = input_rest s.input }))
     else stuck s
 
 -- 83 (hexadecimal) calls a service, AA traps with the code in register 16

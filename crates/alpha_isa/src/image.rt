@@ -27,8 +27,7 @@ impl Model for Image {
 
     ghost view = { λ i. record { words = i.words.items; bytes = i.bytes.items; zeros = i.zeros; entry = i.entry } };
 
-    ghost invariant =
-        { λ i. IsLawful (record { words = i.words.items; bytes = i.bytes.items; zeros = i.zeros; entry = i.entry }) };
+    ghost invariant = { λ i. IsLawful (record { words = i.words.items; bytes = i.bytes.items; zeros = i.zeros; entry = i.entry }) };
 }
 
 impl Image {

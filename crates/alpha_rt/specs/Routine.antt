@@ -34,7 +34,7 @@ is_least_by_minus_one w a b = (a == 2 ^ 64 - 2 ^ hbits w) && (b == 2 ^ 64 - 1)
 abbrev pub signed_outcome : Width → (ℤ → ℤ → ℤ) → ℕ → ℕ → Outcome
 signed_outcome w operation a b =
     by b (if is_least_by_minus_one w a b then Traps 3
-        else Answers (word_from (operation (signed_value w a) (signed_value w b))))
+    else Answers (word_from (operation (signed_value w a) (signed_value w b))))
 
 abbrev pub unsigned_outcome : (ℕ → ℕ → ℕ) → ℕ → ℕ → Outcome
 unsigned_outcome operation a b = by b (Answers (operation a b))

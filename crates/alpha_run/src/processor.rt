@@ -286,9 +286,9 @@ impl Processor {
         requires pc { self.old.pc < 2 ^ 32 }
         ensures step { (x y : List ℕ) →
             next_if_fits result (processor_state self.new x y) ≡ operate_step
-                (operation_effect op
-                    (register (processor_state self.old x y) ra) (operand (processor_state self.old x y) rb))
-                rc (processor_state self.old x y) }
+            (operation_effect op
+            (register (processor_state self.old x y) ra) (operand (processor_state self.old x y) rb))
+            rc (processor_state self.old x y) }
         ensures kept { KeepsText self.old self.new }
     {
         match operate(op, self.registers.get(ra), self.operand(rb)) {

@@ -32,8 +32,7 @@ impl<T> Model for IndexList<T> {
 
     ghost use Rattle.bk_ilist.specs.model.Chain.{pairs_from, IsChain};
 
-    ghost view =
-        { λ l. record { pairs = pairs_from l.nodes.items l.first; spare = l.spare; made = length l.nodes.items } };
+    ghost view = { λ l. record { pairs = pairs_from l.nodes.items l.first; spare = l.spare; made = length l.nodes.items } };
 
     ghost invariant = { λ l. IsChain l.nodes.items l.first l.last (pairs_from l.nodes.items l.first)
         × (length l.nodes.items + l.spare ≤ vec_capacity l.nodes)

@@ -26,8 +26,7 @@ impl Model for MemSource {
 
     ghost Value = { Stream };
 
-    ghost view =
-        { λ s. record { left = drop s.next s.bytes.items; failing = s.fails.items; made = s.made; faults = s.faults } };
+    ghost view = { λ s. record { left = drop s.next s.bytes.items; failing = s.fails.items; made = s.made; faults = s.faults } };
 
     ghost invariant = { λ s. s.next ≤ vec_len s.bytes };
 }
@@ -93,7 +92,12 @@ impl Model for MemSink {
     ghost Value = { Bin };
 
     ghost view = { λ s. record {
-        taken = s.bytes.items; room = s.room; failing = s.fails.items; made = s.made; faults = s.faults } };
+      taken = s.bytes.items;
+      room = s.room;
+      failing = s.fails.items;
+      made = s.made;
+      faults = s.faults;
+    } };
 
     ghost invariant = { λ s. (vec_len s.bytes ≤ s.room) × (s.room ≤ vec_capacity s.bytes) };
 }
@@ -173,8 +177,7 @@ impl Model for MemFiles {
 
     ghost Value = { Drawer };
 
-    ghost view =
-        { λ s. record { files = map named s.files.items; failing = s.fails.items; made = s.made; faults = s.faults } };
+    ghost view = { λ s. record { files = map named s.files.items; failing = s.fails.items; made = s.made; faults = s.faults } };
 
     ghost invariant = { λ s. s.faults ≤ count_end };
 }

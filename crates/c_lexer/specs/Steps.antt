@@ -15,7 +15,7 @@ pub record Place : Type 0 where
 abbrev pub place_code : Coded Place
 place_code =
     code_by (List ℕ × ℕ) (coded× (coded_list coded_ℕ) coded_ℕ)
-        (λ p. (p.text, p.at)) (λ p. record { text = p.0; at = p.1 }) (λ _. refl)
+    (λ p. (p.text, p.at)) (λ p. record { text = p.0; at = p.1 }) (λ _. refl)
 
 -- the end of the text
 pub record IsEnd (text : List ℕ) (t : Token) : Type 0 where

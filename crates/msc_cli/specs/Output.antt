@@ -12,7 +12,7 @@ TookFront bytes old new = (n : ℕ) × (n ≤ length bytes) × (new ≡ taken_wi
 abbrev pub TookUnlessFault : List ℕ → Option (List ℕ) → Option (List ℕ) → ℕ → ℕ → Type 0
 TookUnlessFault bytes old new faults_old faults_new =
     ((new ≡ taken_with bytes old) × (faults_new ≡ faults_old)) ⊎
-        (TookFront bytes old new × (faults_new ≡ next_count faults_old))
+    (TookFront bytes old new × (faults_new ≡ next_count faults_old))
 
 -- the counts of faults after a call with this outcome: one more where the outcome tells a fault, and else as before
 abbrev pub file_faults_after : Outcome → ℕ → ℕ

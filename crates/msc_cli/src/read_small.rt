@@ -38,7 +38,7 @@ pub enum ReadFault {
 pub fn read_small(alloc: Global, text: &[u8]) -> Result<Small, ReadFault>
     ensures found { IfOk result
         (λ small. (u : SmallUnit) × IsSmall text.now u ×
-            (small.puts.items ≡ written_by u) × (small.status ≡ status_of u)) }
+        (small.puts.items ≡ written_by u) × (small.status ≡ status_of u)) }
     ensures form { IsErrOf result ReadFault.Form → (u : SmallUnit) → IsSmall text.now u → ⊥ }
 {
     if text.len() > MOST_TEXT {

@@ -46,7 +46,11 @@ pub fn check_table<T: Table>(rt: &HostRuntime, table: &mut T, path: &str) -> Res
 }
 
 /// The first row whose answer is not the one that is due, with both.
-fn first_difference<T: Table>(alloc: Global, table: &mut T, rows: &[Row]) -> Result<Option<String>> {
+fn first_difference<T: Table>(
+    alloc: Global,
+    table: &mut T,
+    rows: &[Row],
+) -> Result<Option<String>> {
     for row in rows {
         let line = row.line;
         let came = table

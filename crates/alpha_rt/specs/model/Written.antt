@@ -39,7 +39,7 @@ unfoldable pub common_behind : List AsmItem → List AsmItem
 common_behind items =
     let ready : List AsmItem = behind (behind items refusal_items) preparation_items in
     let places : List AsmItem =
-        behind (behind (behind (behind ready (place_items 13)) (place_items 14)) (place_items 15)) (place_items 16) in
+    behind (behind (behind (behind ready (place_items 13)) (place_items 14)) (place_items 15)) (place_items 16) in
     behind (behind places turn_items) epilogue_items
 
 unfoldable pub all_behind : List AsmItem → List AsmItem

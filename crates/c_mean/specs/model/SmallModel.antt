@@ -18,7 +18,13 @@ pub record Making (V B : Type 0) : Type 0 where
 -- the trees
 abbrev pub trees : Making Expression Expression
 trees = record {
-  number = Number; tilde = Complement; sum = Sum; difference = Difference; product = Product; whole = λ x. x }
+  number = Number;
+  tilde = Complement;
+  sum = Sum;
+  difference = Difference;
+  product = Product;
+  whole = λ x. x;
+}
 
 -- the values, and of a whole expression its value modulo 256
 abbrev pub values : Making ℤ ℕ
@@ -134,7 +140,7 @@ module _ {V B : Type 0} (making : Making V B) where
   puts_by zero found ts = Some (found, ts)
   puts_by (suc j) found ts = if starts_with nat_eq ts (codes "putchar(")
       then and_then (whole_expression (drop 8 ts))
-          (λ x r. and_then (word (codes ");") r) (λ _. puts_by j (found ++ x ∷ [])))
+      (λ x r. and_then (word (codes ");") r) (λ _. puts_by j (found ++ x ∷ [])))
       else Some (found, ts)
 
   unfoldable pub puts : List B → List ℕ → ScanOutcome (List B)
