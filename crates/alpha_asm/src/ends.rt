@@ -85,6 +85,14 @@ impl Ends {
         node.wrapping_sub(self.size)
     }
 
+    /// The place of the first end that is past another end.
+    pub(crate) fn first_of_all_past(&self, end: usize) -> Option<usize> {
+        if self.greatest(1) > end {
+            return Some(self.first_below(1, end));
+        }
+        None
+    }
+
     /// The place of the first end, from a place of the row on, that is past another end.
     pub(crate) fn first_past(&self, from: usize, end: usize) -> Option<usize> {
         let mut node = self.size.wrapping_add(from);

@@ -50,9 +50,11 @@ impl Rooms {
         let left = node.wrapping_mul(2);
         let right = left.wrapping_add(1);
         let common = self.common(left).min(self.common(right));
-        self.add(left, common.wrapping_neg());
-        self.add(right, common.wrapping_neg());
-        self.add(node, common);
+        if common != 0 {
+            self.add(left, common.wrapping_neg());
+            self.add(right, common.wrapping_neg());
+            self.add(node, common);
+        }
         common
     }
 
@@ -72,11 +74,10 @@ impl Rooms {
         room
     }
 
-    /// Sets the room of a span.
-    fn set(&mut self, at: usize, room: i64) {
-        let more = room.wrapping_sub(self.room(at));
+    /// Adds to the room of a span.
+    fn add_room(&mut self, at: usize, room: i64) {
         let mut node = self.leaf(at);
-        self.add(node, more);
+        self.add(node, room);
         for _level in 0..self.levels {
             node /= 2;
             if self.settle(node) == 0 {
@@ -87,12 +88,13 @@ impl Rooms {
 
     /// Looks at a span from now on, whose room is the words that its branch may pass over less those that it does.
     pub(crate) fn look_at(&mut self, at: usize, most: u64, words: u64) {
-        self.set(at, most.wrapping_sub(words).cast_signed());
+        let room = most.wrapping_sub(words).cast_signed();
+        self.add_room(at, room.wrapping_sub(self.room(at)));
     }
 
     /// Looks at a span no more.
     pub(crate) fn leave(&mut self, at: usize) {
-        self.set(at, NEVER);
+        self.add_room(at, NEVER);
     }
 
     /// Takes words from the rooms within two leaves, at each level those whose neighbours are not.

@@ -137,7 +137,7 @@ impl Outermost {
         let past = self
             .spans
             .partition_point(|span: &Span| span.start <= branch);
-        if let Some(first) = self.ends.first_past(0, branch) {
+        if let Some(first) = self.ends.first_of_all_past(branch) {
             self.rooms.take(first, past, words);
         }
         self.rooms.leave(at);

@@ -1,10 +1,12 @@
 pub mod Grown
-pub mod Steady
+pub mod Forms
 pub mod Trees
 pub mod Behaviours
 pub mod Computed
 pub mod Facts
+pub mod Below
 pub mod RefinesExpr
 pub mod RefinesStmt
 pub mod RefinesUnit
+pub mod RefinesOrder
 pub mod TypedExamples

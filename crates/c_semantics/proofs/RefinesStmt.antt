@@ -1,5 +1,5 @@
 -- A refinement in the place of a part refines the whole statement, by induction on the level.
-use Rattle.std.proofs.Common.{◌≡◌, ◌≤◌, ◌+◌, ℕ, zero, suc, Bool, true, ◌&&◌, ◌||◌, not, IsTrue, List, [], ◌∷◌, ◌++◌, Option, Some, None, refl, sym, ap, ◌∙◌, arith, sum_by}
+use Rattle.std.proofs.Common.{◌≡◌, ◌≤◌, ◌+◌, ℕ, zero, suc, Bool, true, ◌&&◌, ◌||◌, not, IsTrue, List, [], ◌∷◌, ◌++◌, Option, Some, None, refl, sym, ap, ◌∙◌, subst, arith, sum_by}
 use Rattle.std.specs.Prelude.{slice_get, map, if◌then◌else◌}
 use Rattle.std.specs.List.{list_all, list_any}
 use Rattle.std.proofs.lemmas.List.Sums.{sum_by_from}
@@ -14,6 +14,7 @@ use Rattle.c_typed_tree.specs.Expressions.{Expr, type_of}
 use Rattle.c_typed_tree.specs.Statements.{Declared, First, Stmt, Else, no_else, else_stmt, Stmts, no_stmts, more_stmts, Sections, no_sections, more_sections}
 use Rattle.c_typed_tree.specs.Statements as q
 use Rattle.c_typed_tree.specs.Layout.{integer_of}
+use Rattle.c_typed_tree.specs.View.{type_view}
 use Rattle.c_typed_tree.specs.Typing.{Context, is_same_type, is_void, is_scalar, is_array, is_promoted, is_typed}
 use Rattle.c_typed_tree.specs.TypingStatements as types
 use Rattle.c_typed_tree.specs.TypingStatements.{Jumps, in_loop, in_switch, is_value, is_condition, is_optional_value, is_optional_condition, has_initialised_type, is_initialiser, is_declared, is_first, is_returned, is_label, is_same_label, are_labels, is_typed_stmt, is_typed_else, are_typed_stmts, are_typed_sections}
@@ -22,11 +23,13 @@ use Rattle.c_typed_tree.specs.Weight.{copy_weight, expr_weight, optional_weight,
 use Rattle.c_semantics.specs.Runs.{Run, ◌>>=◌, ◌>>◌, pure, turn}
 use Rattle.c_semantics.specs.Objects.{Scope, with_locals}
 use Rattle.c_semantics.specs.Evaluates.{Functions, choose}
-use Rattle.c_semantics.specs.Executes.{Flow, Goes, Breaks, Continues, Returns, after_body, and_next, declared_by, declared_in, declared_first, is_label_of, has_label, target_in, holds, condition, step, initialise, declare, declares, first, returned, exec, exec_else, execs, exec_sections, exec_from, calls_of, level}
+use Rattle.c_semantics.specs.Executes.{Flow, Goes, after_body, declared_by, declared_in, declared_first, is_label_of, has_label, target_in, holds, condition, step, initialise, declare, declares, first, returned, exec, exec_else, execs, exec_sections, exec_from, calls_of, level, locals_of}
 use Rattle.c_semantics.specs.Refines as r
-use Rattle.c_semantics.specs.Refines.{RunRefines, RefinesIn, ExprWithin, OptionWithin, DeclaredWithin, AllDeclaredWithin, FirstWithin, context_at, result_at, IsTypedAt, StmtRefines, StmtWithin, ElseWithin, StmtsWithin, SectionsWithin}
+use Rattle.c_semantics.specs.Refines.{IsBelow, IgnorePeak, ExprWithin, OptionWithin, DeclaredWithin, AllDeclaredWithin, FirstWithin, context_at, result_at, IsTypedAt, StmtRefines, StmtWithin, ElseWithin, StmtsWithin, SectionsWithin}
 use Rattle.c_semantics.proofs.Facts.{front, back, also, either_on, along, three, four}
-use Rattle.c_semantics.proofs.RefinesExpr.{same, equal, refines_on, bind, choose_refines, if_refines, locals_refines, within_refines}
+use Rattle.c_semantics.proofs.RefinesExpr.{within_below}
+use Rattle.c_semantics.proofs.Forms as forms
+use Rattle.c_semantics.proofs.Below.{below_refines, refines_below, BelowOf, kept, no_turn_below}
 
 -- ---- the locals and labels of both are the same
 
@@ -74,7 +77,7 @@ module _ (c : Context) where
 
   value_part : {x y : Expr} → ExprWithin x y → IsTrue (is_value c y) → StandsFor x y is_value
   value_part {x = x} {y = y} h p =
-      let e = within_refines h c (typed_value y p) in
+      let e = within_below h c (typed_value y p) in
       record {
         fits = also (not (is_array (type_of x))) (is_typed c x) (along (λ o. not (is_array o)) e.types (front (not (is_array (type_of y))) (is_typed c y) p)) e.typed;
         names = e.named;
@@ -83,7 +86,7 @@ module _ (c : Context) where
 
   condition_part : {x y : Expr} → ExprWithin x y → IsTrue (is_condition c y) → StandsFor x y is_condition
   condition_part {x = x} {y = y} h p =
-      let e = within_refines h c (typed_condition y p) in
+      let e = within_below h c (typed_condition y p) in
       record {
         fits = also (is_scalar (type_of x)) (is_typed c x) (along (λ o. is_scalar o) e.types (front (is_scalar (type_of y)) (is_typed c y) p)) e.typed;
         names = e.named;
@@ -111,7 +114,7 @@ module _ (c : Context) where
   returned_part : (result : PlainType) {x y : Option Expr} → OptionWithin x y → IsTrue (is_returned c result y) → StandsForOptional x y (λ d o. is_returned d result o)
   returned_part result r.missing p = missing_part (λ d o. is_returned d result o) p
   returned_part result (r.present {x = x} {y = y} h) p =
-      let e = within_refines h c (typed_returned result y p) in
+      let e = within_below h c (typed_returned result y p) in
       let f = front (is_same_type (type_of y) result && not (is_void result)) (is_typed c y) p in
       record {
         fits = also (is_same_type (type_of x) result && not (is_void result)) (is_typed c x) (along (λ o. is_same_type o result && not (is_void result)) e.types f) e.typed;
@@ -126,7 +129,7 @@ module _ (c : Context) where
       → PartIn (is_initialiser c l x) (λ a. optional_names a x) (λ a. optional_names a y) (init_weight c.structs x) (init_weight c.structs y)
   initialiser_part l r.missing p = record { fits = p; names = λ a h. h; light = omega arith }
   initialiser_part l (r.present {x = x} {y = y} h) p =
-      let e = within_refines h c (typed_initialiser l y p) in
+      let e = within_below h c (typed_initialiser l y p) in
       record {
         fits = also (has_initialised_type l (type_of x)) (is_typed c x) (along (λ o. has_initialised_type l o) e.types (front (has_initialised_type l (type_of y)) (is_typed c y) p)) e.typed;
         names = e.named;
@@ -250,7 +253,7 @@ module _ (unit : TypedUnit) (n : ℕ) where
         let q4 = front (is_promoted (type_of y) && are_labels (integer_of (type_of y)) b && is_typed here y) (are_typed_sections here gives (in_switch j) b) p in
         let p3 = back (is_promoted (type_of y) && are_labels (integer_of (type_of y)) b) (is_typed here y) q4 in
         let q3 = front (is_promoted (type_of y) && are_labels (integer_of (type_of y)) b) (is_typed here y) q4 in
-        let e = within_refines h here p3 in
+        let e = within_below h here p3 in
         let k = sections_in g (in_switch j) p4 in
         record {
           typed = four (is_promoted (type_of x)) (are_labels (integer_of (type_of x)) a) (is_typed here x) (are_typed_sections here gives (in_switch j) a)
@@ -294,65 +297,68 @@ module _ (unit : TypedUnit) (n : ℕ) where
 
 -- ---- what parts of statements do
 
-module _ (c : Context) (f : Functions) where
+module _ (c : Context) (f : Functions) (i : IgnorePeak f) where
   abbrev ds : List StructDef
   ds = c.structs
 
   abbrev ls : List Local
   ls = c.locals
 
-  holds_refines : (scope : Scope) {x y : Expr} → ExprWithin x y → IsTrue (is_condition c y) → RunRefines (holds ds ls f scope x) (holds ds ls f scope y)
-  holds_refines scope {y = y} h p = bind ((within_refines h c (typed_condition c y p)).value f scope) (λ v. same)
+  holds_below : (scope : Scope) {x y : Expr} → ExprWithin x y → IsTrue (is_condition c y) → IsBelow (holds ds ls f scope x) (holds ds ls f scope y)
+  holds_below scope {y = y} h p = kept.bind ((within_below h c (typed_condition c y p)).value f i scope) (forms.steady_test BelowOf kept)
 
-  condition_refines : (scope : Scope) {x y : Option Expr} → OptionWithin x y → IsTrue (is_optional_condition c y) → RunRefines (condition ds ls f scope x) (condition ds ls f scope y)
-  condition_refines scope r.missing p = same
-  condition_refines scope (r.present h) p = holds_refines scope h p
+  condition_below : (scope : Scope) {x y : Option Expr} → OptionWithin x y → IsTrue (is_optional_condition c y) → IsBelow (condition ds ls f scope x) (condition ds ls f scope y)
+  condition_below scope r.missing p = kept.pure true
+  condition_below scope (r.present h) p = holds_below scope h p
 
-  step_refines : (scope : Scope) {x y : Option Expr} → OptionWithin x y → IsTrue (is_optional_value c y) → RunRefines (step ds ls f scope x) (step ds ls f scope y)
-  step_refines scope r.missing p = same
-  step_refines scope (r.present {y = y} h) p = bind ((within_refines h c (typed_value c y p)).value f scope) (λ v. same)
+  step_below : (scope : Scope) {x y : Option Expr} → OptionWithin x y → IsTrue (is_optional_value c y) → IsBelow (step ds ls f scope x) (step ds ls f scope y)
+  step_below scope r.missing p = kept.pure tt
+  step_below scope (r.present {y = y} h) p = kept.bind ((within_below h c (typed_value c y p)).value f i scope) (λ v. kept.pure tt)
 
-  initialise_refines : (scope : Scope) (k : ℕ) (l : Option Local) {x y : Option Expr} → OptionWithin x y → IsTrue (is_initialiser c l y) → RunRefines (initialise ds ls f scope k l x) (initialise ds ls f scope k l y)
-  initialise_refines scope k None h p = same
-  initialise_refines scope k (Some l) r.missing p = same
-  initialise_refines scope k (Some l) (r.present {y = y} h) p = bind ((within_refines h c (typed_initialiser c (Some l) y p)).value f scope) (λ v. same)
+  initialise_below : (scope : Scope) (k : ℕ) (l : Option Local) {x y : Option Expr} → OptionWithin x y → IsTrue (is_initialiser c l y) → IsBelow (initialise ds ls f scope k l x) (initialise ds ls f scope k l y)
+  initialise_below scope k None h p = kept.pure tt
+  initialise_below scope k (Some l) r.missing p = kept.pure tt
+  initialise_below scope k (Some l) (r.present {y = y} h) p =
+      kept.bind ((within_below h c (typed_initialiser c (Some l) y p)).value f i scope)
+      (λ v. kept.bind (forms.steady_local BelowOf kept scope k (Some l)) (λ at. forms.steady_write_place BelowOf kept ds (type_view l.ty) at v))
 
-  declare_refines : (scope : Scope) {d e : Declared} → DeclaredWithin d e → IsTrue (is_declared c e) → RunRefines (declare ds ls f scope d) (declare ds ls f scope e)
-  declare_refines scope {d = d} {e = e} h p =
-      refines_on
-      (equal (ap (λ k. initialise ds ls f scope k (slice_get ls k) d.init) h.number))
-      (initialise_refines scope e.number (slice_get ls e.number) h.init p)
+  declare_below : (scope : Scope) {d e : Declared} → DeclaredWithin d e → IsTrue (is_declared c e) → IsBelow (declare ds ls f scope d) (declare ds ls f scope e)
+  declare_below scope {d = d} {e = e} h p =
+      subst (λ z. IsBelow z (declare ds ls f scope e)) (sym (ap (λ k. initialise ds ls f scope k (slice_get ls k) d.init) h.number))
+      (initialise_below scope e.number (slice_get ls e.number) h.init p)
 
-  declares_refines : (scope : Scope) {a b : List Declared} → AllDeclaredWithin a b → IsTrue (list_all (is_declared c) b) → RunRefines (declares ds ls f scope a) (declares ds ls f scope b)
-  declares_refines scope r.no_more p = same
-  declares_refines scope (r.one_more {e = e} {es = es} h g) p =
-      bind (declare_refines scope h (front (is_declared c e) (list_all (is_declared c) es) p)) (λ _. declares_refines scope g (back (is_declared c e) (list_all (is_declared c) es) p))
+  declares_below : (scope : Scope) {a b : List Declared} → AllDeclaredWithin a b → IsTrue (list_all (is_declared c) b) → IsBelow (declares ds ls f scope a) (declares ds ls f scope b)
+  declares_below scope r.no_more p = kept.pure tt
+  declares_below scope (r.one_more {e = e} {es = es} h g) p =
+      kept.bind (declare_below scope h (front (is_declared c e) (list_all (is_declared c) es) p)) (λ _. declares_below scope g (back (is_declared c e) (list_all (is_declared c) es) p))
 
-  first_refines : (scope : Scope) {a b : First} → FirstWithin a b → IsTrue (is_first c b) → RunRefines (first ds ls f scope a) (first ds ls f scope b)
-  first_refines scope r.nothing_first p = same
-  first_refines scope (r.value_first {y = y} h) p = bind ((within_refines h c (typed_value c y p)).value f scope) (λ v. same)
-  first_refines scope (r.locals_first h) p = declares_refines scope h p
+  first_below : (scope : Scope) {a b : First} → FirstWithin a b → IsTrue (is_first c b) → IsBelow (first ds ls f scope a) (first ds ls f scope b)
+  first_below scope r.nothing_first p = kept.pure tt
+  first_below scope (r.value_first {y = y} h) p = kept.bind ((within_below h c (typed_value c y p)).value f i scope) (λ v. kept.pure tt)
+  first_below scope (r.locals_first h) p = declares_below scope h p
 
-  returned_refines : (result : PlainType) (scope : Scope) {x y : Option Expr} → OptionWithin x y → IsTrue (is_returned c result y) → RunRefines (returned ds ls f scope x) (returned ds ls f scope y)
-  returned_refines result scope r.missing p = same
-  returned_refines result scope (r.present {y = y} h) p = bind (bind ((within_refines h c (typed_returned c result y p)).value f scope) (λ v. same)) (λ v. same)
+  returned_below : (result : PlainType) (scope : Scope) {x y : Option Expr} → OptionWithin x y → IsTrue (is_returned c result y) → IsBelow (returned ds ls f scope x) (returned ds ls f scope y)
+  returned_below result scope r.missing p = kept.pure _
+  returned_below result scope (r.present {y = y} h) p =
+      kept.bind (kept.bind ((within_below h c (typed_returned c result y p)).value f i scope) (forms.steady_used BelowOf kept _)) (λ v. kept.pure _)
 
-pub after_refines : {c d : Run Flow} → RunRefines c d → (flow : Flow) → RunRefines (after_body c flow) (after_body d flow)
-after_refines h Goes = h
-after_refines h Continues = h
-after_refines h Breaks = same
-after_refines h (Returns v) = same
+-- ---- levels do not look at the peak
 
-pub next_refines : {c d : Run Flow} → RunRefines c d → (flow : Flow) → RunRefines (and_next c flow) (and_next d flow)
-next_refines h Goes = h
-next_refines h Continues = same
-next_refines h Breaks = same
-next_refines h (Returns v) = same
+pub level_itself : (unit : TypedUnit) (rooms : Rooms) (m n : ℕ) (scope : Scope) (s : Stmt) → IsBelow (level unit rooms m n scope s) (level unit rooms m n scope s)
+level_itself unit rooms zero n scope s = no_turn_below
+level_itself unit rooms (suc m) n scope s =
+    forms.exec_related BelowOf kept unit.structs (locals_of (slice_get unit.functions n)) (calls_of unit rooms (level unit rooms m)) (calls_of unit rooms (level unit rooms m))
+    (λ k vs. forms.call_of_related BelowOf kept unit.structs rooms (level unit rooms m) (level unit rooms m) (λ o inner t. level_itself unit rooms m o inner t) k (slice_get unit.functions k) vs)
+    (level unit rooms m n) (level unit rooms m n) (λ inner t. level_itself unit rooms m n inner t) scope s
+
+pub calls_itself : (unit : TypedUnit) (rooms : Rooms) (m : ℕ) → IgnorePeak (calls_of unit rooms (level unit rooms m))
+calls_itself unit rooms m n vs =
+    forms.call_of_related BelowOf kept unit.structs rooms (level unit rooms m) (level unit rooms m) (λ k inner t. level_itself unit rooms m k inner t) n (slice_get unit.functions n) vs
 
 -- ---- what statements do
 
 module _ (unit : TypedUnit) (rooms : Rooms) (m n : ℕ)
-    (l : (scope : Scope) (s t : Stmt) → StmtWithin s t → (j : Jumps) → IsTypedAt unit n j t → RunRefines (level unit rooms m n scope s) (level unit rooms m n scope t)) where
+    (l : (scope : Scope) (s t : Stmt) → StmtWithin s t → (j : Jumps) → IsTypedAt unit n j t → IsBelow (level unit rooms m n scope s) (level unit rooms m n scope t)) where
   abbrev c : Context
   c = context_at unit (slice_get unit.functions n)
 
@@ -362,84 +368,90 @@ module _ (unit : TypedUnit) (rooms : Rooms) (m n : ℕ)
   abbrev f : Functions
   f = calls_of unit rooms (level unit rooms m)
 
+  abbrev i : IgnorePeak f
+  i = calls_itself unit rooms m
+
   abbrev again : Scope → Stmt → Run Flow
   again = level unit rooms m n
 
   mutual
-    exec_refines : (scope : Scope) {s t : Stmt} → StmtWithin s t → (j : Jumps) → IsTypedAt unit n j t → RunRefines (exec c.structs c.locals f again scope s) (exec c.structs c.locals f again scope t)
-    exec_refines scope (r.refined h) j p = (h unit n j p).does rooms (suc m) scope
-    exec_refines scope (r.block {ss = ss} {ts = ts} h) j p =
-        refines_on (locals_refines c.structs c.locals (declared_in ss) (λ inner. execs_refines inner h j p) scope)
-        (equal (ap (λ ks. with_locals c.structs c.locals ks (λ inner. execs c.structs c.locals f again inner ts) scope) (stmts_in unit n h j p).declares))
-    exec_refines scope (r.choice {y = y} {t = t} {b = b} h g k) j p =
+    exec_below : (scope : Scope) {s t : Stmt} → StmtWithin s t → (j : Jumps) → IsTypedAt unit n j t → IsBelow (exec c.structs c.locals f again scope s) (exec c.structs c.locals f again scope t)
+    exec_below scope (r.refined {t = t} h) j p = refines_below (level_itself unit rooms (suc m) n scope t) ((h unit n j p).does rooms (suc m) scope)
+    exec_below scope (r.block {ss = ss} {ts = ts} h) j p =
+        subst (λ z. IsBelow (exec c.structs c.locals f again scope (q.Block ss)) z)
+        (ap (λ ks. with_locals c.structs c.locals ks (λ inner. execs c.structs c.locals f again inner ts) scope) (stmts_in unit n h j p).declares)
+        (forms.related_locals BelowOf kept c.structs c.locals (declared_in ss) (λ inner. execs_below inner h j p) scope)
+    exec_below scope (r.choice {y = y} {t = t} {b = b} h g k) j p =
         let q3 = front (is_condition c y && is_typed_stmt c res j t) (is_typed_else c res j b) p in
-        bind (holds_refines c f scope h (front (is_condition c y) (is_typed_stmt c res j t) q3))
-        (choose_refines (exec_refines scope g j (back (is_condition c y) (is_typed_stmt c res j t) q3))
-        (else_refines scope k j (back (is_condition c y && is_typed_stmt c res j t) (is_typed_else c res j b) p)))
-    exec_refines scope (r.while_loop {x = x} {y = y} {s = s} {t = t} h g) j p =
-        bind (holds_refines c f scope h (front (is_condition c y) (is_typed_stmt c res in_loop t) p))
-        (choose_refines
-        (bind same (λ _. bind (exec_refines scope g in_loop (back (is_condition c y) (is_typed_stmt c res in_loop t) p))
-        (after_refines (l scope (q.While x s) (q.While y t) (r.while_loop h g) j p)))) same)
-    exec_refines scope (r.do_loop {x = x} {y = y} {s = s} {t = t} h g) j p =
-        bind same (λ _. bind (exec_refines scope h in_loop (back (is_condition c y) (is_typed_stmt c res in_loop t) p))
-        (after_refines (bind (holds_refines c f scope g (front (is_condition c y) (is_typed_stmt c res in_loop t) p))
-        (choose_refines (l scope (q.Do s x) (q.Do t y) (r.do_loop h g) j p) same))))
-    exec_refines scope (r.for_loop {a = a} {b = b} {x = x} {y = y} {v = v} {w = w} {s = s} {t = t} h g k i) j p =
+        kept.bind (holds_below c f i scope h (front (is_condition c y) (is_typed_stmt c res j t) q3))
+        (forms.related_choose BelowOf kept (exec_below scope g j (back (is_condition c y) (is_typed_stmt c res j t) q3))
+        (else_below scope k j (back (is_condition c y && is_typed_stmt c res j t) (is_typed_else c res j b) p)))
+    exec_below scope (r.while_loop {x = x} {y = y} {s = s} {t = t} h g) j p =
+        kept.bind (holds_below c f i scope h (front (is_condition c y) (is_typed_stmt c res in_loop t) p))
+        (forms.related_choose BelowOf kept
+        (kept.bind kept.turn (λ _. kept.bind (exec_below scope g in_loop (back (is_condition c y) (is_typed_stmt c res in_loop t) p))
+        (forms.related_after BelowOf kept (l scope (q.While x s) (q.While y t) (r.while_loop h g) j p)))) (kept.pure _))
+    exec_below scope (r.do_loop {x = x} {y = y} {s = s} {t = t} h g) j p =
+        kept.bind kept.turn (λ _. kept.bind (exec_below scope h in_loop (back (is_condition c y) (is_typed_stmt c res in_loop t) p))
+        (forms.related_after BelowOf kept (kept.bind (holds_below c f i scope g (front (is_condition c y) (is_typed_stmt c res in_loop t) p))
+        (forms.related_choose BelowOf kept (l scope (q.Do s x) (q.Do t y) (r.do_loop h g) j p) (kept.pure _)))))
+    exec_below scope (r.for_loop {a = a} {b = b} {x = x} {y = y} {v = v} {w = w} {s = s} {t = t} h g k o) j p =
         let p4 = back (is_first c b && is_optional_condition c y && is_optional_value c w) (is_typed_stmt c res in_loop t) p in
         let q4 = front (is_first c b && is_optional_condition c y && is_optional_value c w) (is_typed_stmt c res in_loop t) p in
         let p3 = back (is_first c b && is_optional_condition c y) (is_optional_value c w) q4 in
         let q3 = front (is_first c b && is_optional_condition c y) (is_optional_value c w) q4 in
         let p2 = back (is_first c b) (is_optional_condition c y) q3 in
-        refines_on
-        (locals_refines c.structs c.locals (declared_first a)
-        (λ inner. bind (first_refines c f inner h (front (is_first c b) (is_optional_condition c y) q3)) (λ _. bind (condition_refines c f inner g p2)
-        (choose_refines
-        (bind same (λ _. bind (exec_refines inner i in_loop p4)
-        (after_refines (bind (step_refines c f inner k p3)
-        (λ _. l inner (q.For q.Nothing x v s) (q.For q.Nothing y w t) (r.for_loop r.nothing_first g k i) j
-        (four true (is_optional_condition c y) (is_optional_value c w) (is_typed_stmt c res in_loop t) refl p2 p3 p4))))))
-        same)))
-        scope)
-        (equal (ap (λ ks. with_locals c.structs c.locals ks
+        subst (λ z. IsBelow (exec c.structs c.locals f again scope (q.For a x v s)) z)
+        (ap (λ ks. with_locals c.structs c.locals ks
         (λ inner. first c.structs c.locals f inner b >> (condition c.structs c.locals f inner y >>= choose
         (turn >> (exec c.structs c.locals f again inner t >>= after_body (step c.structs c.locals f inner w >> again inner (q.For q.Nothing y w t))))
-        (pure Goes))) scope) (first_numbers h)))
-    exec_refines scope (r.switch_on {y = y} {ts = ts} h g) j p =
+        (pure Goes))) scope) (first_numbers h))
+        (forms.related_locals BelowOf kept c.structs c.locals (declared_first a)
+        (λ inner. kept.bind (first_below c f i inner h (front (is_first c b) (is_optional_condition c y) q3)) (λ _. kept.bind (condition_below c f i inner g p2)
+        (forms.related_choose BelowOf kept
+        (kept.bind kept.turn (λ _. kept.bind (exec_below inner o in_loop p4)
+        (forms.related_after BelowOf kept (kept.bind (step_below c f i inner k p3)
+        (λ _. l inner (q.For q.Nothing x v s) (q.For q.Nothing y w t) (r.for_loop r.nothing_first g k o) j
+        (four true (is_optional_condition c y) (is_optional_value c w) (is_typed_stmt c res in_loop t) refl p2 p3 p4))))))
+        (kept.pure _))))
+        scope)
+    exec_below scope (r.switch_on {y = y} {ss = ss} {ts = ts} h g) j p =
         let p4 = back (is_promoted (type_of y) && are_labels (integer_of (type_of y)) ts && is_typed c y) (are_typed_sections c res (in_switch j) ts) p in
         let q4 = front (is_promoted (type_of y) && are_labels (integer_of (type_of y)) ts && is_typed c y) (are_typed_sections c res (in_switch j) ts) p in
         let p3 = back (is_promoted (type_of y) && are_labels (integer_of (type_of y)) ts) (is_typed c y) q4 in
-        bind (bind (bind ((within_refines h c p3).value f scope) (λ v. same))
-        (λ k. refines_on (from_refines scope _ g (in_switch j) p4) (equal (ap (λ target. exec_from c.structs c.locals f again scope target ts) (same_target k g))))) (λ flow. same)
-    exec_refines scope (r.returns h) j p = returned_refines c f res scope h p
-    exec_refines scope (r.expression {y = y} h) j p = bind ((within_refines h c (typed_value c y p)).value f scope) (λ v. same)
-    exec_refines scope (r.declaration h) j p = bind (declare_refines c f scope h p) (λ _. same)
+        kept.bind (kept.bind (kept.bind ((within_below h c p3).value f i scope) (forms.steady_number BelowOf kept))
+        (λ k. subst (λ z. IsBelow (exec_from c.structs c.locals f again scope (target_in k ss) ss) z)
+        (ap (λ target. exec_from c.structs c.locals f again scope target ts) (same_target k g)) (from_below scope _ g (in_switch j) p4)))
+        (forms.steady_switch BelowOf kept)
+    exec_below scope (r.returns h) j p = returned_below c f i res scope h p
+    exec_below scope (r.expression {y = y} h) j p = kept.bind ((within_below h c (typed_value c y p)).value f i scope) (λ v. kept.pure _)
+    exec_below scope (r.declaration h) j p = kept.bind (declare_below c f i scope h p) (λ _. kept.pure _)
 
-    else_refines : (scope : Scope) {a b : Else} → ElseWithin a b → (j : Jumps) → IsTrue (is_typed_else c res j b) → RunRefines (exec_else c.structs c.locals f again scope a) (exec_else c.structs c.locals f again scope b)
-    else_refines scope r.no_other j p = same
-    else_refines scope (r.other h) j p = exec_refines scope h j p
+    else_below : (scope : Scope) {a b : Else} → ElseWithin a b → (j : Jumps) → IsTrue (is_typed_else c res j b) → IsBelow (exec_else c.structs c.locals f again scope a) (exec_else c.structs c.locals f again scope b)
+    else_below scope r.no_other j p = kept.pure _
+    else_below scope (r.other h) j p = exec_below scope h j p
 
-    execs_refines : (scope : Scope) {a b : Stmts} → StmtsWithin a b → (j : Jumps) → IsTrue (are_typed_stmts c res j b) → RunRefines (execs c.structs c.locals f again scope a) (execs c.structs c.locals f again scope b)
-    execs_refines scope r.no_statement j p = same
-    execs_refines scope (r.then_stmts {t = t} {ts = ts} h g) j p =
-        bind (exec_refines scope h j (front (is_typed_stmt c res j t) (are_typed_stmts c res j ts) p)) (next_refines (execs_refines scope g j (back (is_typed_stmt c res j t) (are_typed_stmts c res j ts) p)))
+    execs_below : (scope : Scope) {a b : Stmts} → StmtsWithin a b → (j : Jumps) → IsTrue (are_typed_stmts c res j b) → IsBelow (execs c.structs c.locals f again scope a) (execs c.structs c.locals f again scope b)
+    execs_below scope r.no_statement j p = kept.pure _
+    execs_below scope (r.then_stmts {t = t} {ts = ts} h g) j p =
+        kept.bind (exec_below scope h j (front (is_typed_stmt c res j t) (are_typed_stmts c res j ts) p)) (forms.related_next BelowOf kept (execs_below scope g j (back (is_typed_stmt c res j t) (are_typed_stmts c res j ts) p)))
 
-    sections_refine : (scope : Scope) {a b : Sections} → SectionsWithin a b → (j : Jumps) → IsTrue (are_typed_sections c res j b) → RunRefines (exec_sections c.structs c.locals f again scope a) (exec_sections c.structs c.locals f again scope b)
-    sections_refine scope r.no_section_left j p = same
-    sections_refine scope (r.one_section {ts = ts} {b = b} h g) j p =
-        bind (execs_refines scope h j (front (are_typed_stmts c res j ts) (are_typed_sections c res j b) p)) (next_refines (sections_refine scope g j (back (are_typed_stmts c res j ts) (are_typed_sections c res j b) p)))
+    sections_below : (scope : Scope) {a b : Sections} → SectionsWithin a b → (j : Jumps) → IsTrue (are_typed_sections c res j b) → IsBelow (exec_sections c.structs c.locals f again scope a) (exec_sections c.structs c.locals f again scope b)
+    sections_below scope r.no_section_left j p = kept.pure _
+    sections_below scope (r.one_section {ts = ts} {b = b} h g) j p =
+        kept.bind (execs_below scope h j (front (are_typed_stmts c res j ts) (are_typed_sections c res j b) p)) (forms.related_next BelowOf kept (sections_below scope g j (back (are_typed_stmts c res j ts) (are_typed_sections c res j b) p)))
 
-    from_refines : (scope : Scope) (target : Option ℕ) {a b : Sections} → SectionsWithin a b → (j : Jumps) → IsTrue (are_typed_sections c res j b) → RunRefines (exec_from c.structs c.locals f again scope target a) (exec_from c.structs c.locals f again scope target b)
-    from_refines scope target r.no_section_left j p = same
-    from_refines scope target (r.one_section {label = label} {ts = ts} {b = b} h g) j p =
+    from_below : (scope : Scope) (target : Option ℕ) {a b : Sections} → SectionsWithin a b → (j : Jumps) → IsTrue (are_typed_sections c res j b) → IsBelow (exec_from c.structs c.locals f again scope target a) (exec_from c.structs c.locals f again scope target b)
+    from_below scope target r.no_section_left j p = kept.pure _
+    from_below scope target (r.one_section {label = label} {ts = ts} {b = b} h g) j p =
         let p1 = front (are_typed_stmts c res j ts) (are_typed_sections c res j b) p in
         let p2 = back (are_typed_stmts c res j ts) (are_typed_sections c res j b) p in
-        if_refines (is_label_of target label) (bind (execs_refines scope h j p1) (next_refines (sections_refine scope g j p2))) (from_refines scope target g j p2)
+        forms.related_if BelowOf kept (is_label_of target label) (kept.bind (execs_below scope h j p1) (forms.related_next BelowOf kept (sections_below scope g j p2))) (from_below scope target g j p2)
 
 -- at every level
-level_refines : (unit : TypedUnit) (rooms : Rooms) (m n : ℕ) (scope : Scope) {s t : Stmt} → StmtWithin s t → (j : Jumps) → IsTypedAt unit n j t → RunRefines (level unit rooms m n scope s) (level unit rooms m n scope t)
-level_refines unit rooms zero n scope h j p = same
-level_refines unit rooms (suc m) n scope h j p = exec_refines unit rooms m n (λ inner s t g i q. level_refines unit rooms m n inner g i q) scope h j p
+level_below : (unit : TypedUnit) (rooms : Rooms) (m n : ℕ) (scope : Scope) {s t : Stmt} → StmtWithin s t → (j : Jumps) → IsTypedAt unit n j t → IsBelow (level unit rooms m n scope s) (level unit rooms m n scope t)
+level_below unit rooms zero n scope h j p = no_turn_below
+level_below unit rooms (suc m) n scope h j p = exec_below unit rooms m n (λ inner s t g o z. level_below unit rooms m n inner g o z) scope h j p
 
 pub stmt_refines : {s t : Stmt} → StmtWithin s t → StmtRefines s t
 stmt_refines h unit n j p =
@@ -449,5 +461,5 @@ stmt_refines h unit n j p =
       declares = k.declares;
       named = k.named;
       weight = k.weight;
-      does = λ rooms m scope. level_refines unit rooms m n scope h j p;
+      does = λ rooms m scope. below_refines (level_below unit rooms m n scope h j p);
     }

@@ -1,11 +1,11 @@
 -- When a part of a program refines another one. Nothing is asked where the other one is not well typed. Where it is,
 -- the one is well typed too, with the same type; it weighs no more and names nothing else; a place stays a place and an
--- integer constant the same constant; and it means the same in every state, wherever the other is not undefined. The
--- rooms are a parameter of the run and the peak is a part of the world, so a refinement has the same peak for every
--- list of rooms.
+-- integer constant the same constant; and it means the same in every state, wherever the other is not undefined, with a
+-- peak that is not above. The rooms are a parameter of the run, so that holds for every list of rooms.
 use Rattle.std.specs.Prelude.{◌≡◌, ◌≤◌, ℕ, List, [], ◌∷◌, map, slice_get, Option, Some, None, IsTrue}
-use Rattle.mem_model.specs.World.{Rooms}
-use Rattle.mem_model.specs.Ending.{Ending, Done, Trap, Undefined, More, GivesAs}
+use Rattle.mem_model.specs.declared.value.Value.{Value}
+use Rattle.mem_model.specs.World.{World, Rooms, with_meter}
+use Rattle.mem_model.specs.Ending.{Ending, Done, Trap, Undefined, More, Evaluation, Gives, Ends}
 use Rattle.c_tree.specs.declared.expressions.UnaryOp.{UnaryOp}
 use Rattle.c_tree.specs.declared.expressions.BinaryOp.{BinaryOp}
 use Rattle.c_tree.specs.declared.expressions.AssignOp.{AssignOp}
@@ -25,15 +25,47 @@ use Rattle.c_typed_tree.specs.TypingStatements.{Jumps, is_typed_stmt}
 use Rattle.c_typed_tree.specs.Lawful.{signature_of, IsTypedUnit}
 use Rattle.c_typed_tree.specs.Names.{Named, names, stmt_names}
 use Rattle.c_typed_tree.specs.Weight.{expr_weight, stmt_weight, function_weight}
-use Rattle.c_semantics.specs.Runs.{State, Run}
+use Rattle.c_semantics.specs.Runs.{State, in_world, Run}
 use Rattle.c_semantics.specs.Objects.{Scope}
 use Rattle.c_semantics.specs.Evaluates.{Functions, eval, place}
 use Rattle.c_semantics.specs.Executes.{declared_by, locals_of, level}
 use Rattle.c_semantics.specs.Behaves.{run}
 
+-- ---- runs
+
+-- a world, and a state, with another peak
+abbrev pub peaked : (peak : ℕ) → World → World
+peaked p w = with_meter w (record { turns = w.meter.turns; room = w.meter.room; peak = p })
+
+abbrev pub lowered : (peak : ℕ) → State → State
+lowered p s = in_world s (peaked p s.world)
+
+-- something holds with a peak that is not above
+pub record WithPeak (most : ℕ) (P : ℕ → Type 0) : Type 0 where
+  pub peak : ℕ
+  pub low : peak ≤ most
+  pub holds : P peak
+
+-- the one evaluation is the other, in value, state, ending, output and turns, with a peak that is not above, unless the
+-- other is undefined
+abbrev pub GivesBelow : {A : Type 0} → Evaluation A State → Evaluation A State → Type 0
+GivesBelow c (Gives a t) = WithPeak t.world.meter.peak (λ p. c ≡ Gives a (lowered p t))
+GivesBelow c (Ends (Done w status)) = WithPeak w.meter.peak (λ p. c ≡ Ends (Done (peaked p w) status))
+GivesBelow c (Ends (Trap w code)) = WithPeak w.meter.peak (λ p. c ≡ Ends (Trap (peaked p w) code))
+GivesBelow c (Ends (Undefined w at)) = Unit {0}
+GivesBelow c (Ends (More w)) = WithPeak w.meter.peak (λ p. c ≡ Ends (More (peaked p w)))
+
 -- the one run is the other, from every state, unless that is undefined
 pub record RunRefines {A : Type 0} (c b : Run A) : Type 0 where
-  pub by : (s : State) → GivesAs (c s) (b s)
+  pub by : (s : State) → GivesBelow (c s) (b s)
+
+-- the same where the one is run from a state with a lower peak
+pub record IsBelow {A : Type 0} (c b : Run A) : Type 0 where
+  pub by : (s : State) (p : ℕ) → p ≤ s.world.meter.peak → GivesBelow (c (lowered p s)) (b s)
+
+-- functions that do not look at the peak, as those of every unit
+abbrev pub IgnorePeak : Functions → Type 0
+IgnorePeak f = (n : ℕ) (vs : List Value) → IsBelow (f n vs) (f n vs)
 
 -- ---- expressions
 
@@ -50,9 +82,9 @@ pub record RefinesIn (c : Context) (x y : Expr) : Type 0 where
   pub constants : (n : ℕ) → constant y ≡ Some n → constant x ≡ Some n
   pub built : IsTrue (is_built y) → IsTrue (is_built x)
   -- the same value, and the same place
-  pub value : (f : Functions) (scope : Scope)
+  pub value : (f : Functions) → IgnorePeak f → (scope : Scope)
       → RunRefines (eval c.structs c.locals f scope x) (eval c.structs c.locals f scope y)
-  pub stands : (f : Functions) (scope : Scope)
+  pub stands : (f : Functions) → IgnorePeak f → (scope : Scope)
       → RunRefines (place c.structs c.locals f scope x) (place c.structs c.locals f scope y)
 
 abbrev pub ExprRefines : Expr → Expr → Type 0
@@ -110,12 +142,12 @@ pub data FnsRefine : List TypedFn → List TypedFn → Type 0 where
 abbrev pub with_functions : TypedUnit → List TypedFn → TypedUnit
 with_functions unit fs = record { structs = unit.structs; globals = unit.globals; functions = fs }
 
--- the one ending is the other, unless that is undefined
+-- the one ending is the other, with a peak that is not above, unless the other is undefined
 abbrev pub EndingRefines : Ending → Ending → Type 0
+EndingRefines e (Done w status) = WithPeak w.meter.peak (λ p. e ≡ Done (peaked p w) status)
+EndingRefines e (Trap w code) = WithPeak w.meter.peak (λ p. e ≡ Trap (peaked p w) code)
 EndingRefines e (Undefined w at) = Unit {0}
-EndingRefines e (Done w status) = e ≡ Done w status
-EndingRefines e (Trap w code) = e ≡ Trap w code
-EndingRefines e (More w) = e ≡ More w
+EndingRefines e (More w) = WithPeak w.meter.peak (λ p. e ≡ More (peaked p w))
 
 -- each function weighs no more than its own
 pub data WeighNoMore (unit : TypedUnit) : List TypedFn → List TypedFn → Type 0 where

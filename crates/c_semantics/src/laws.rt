@@ -22,6 +22,14 @@ pub fn peaks_rise()
     ensures { PeaksRise }
 {}
 
+/// Every tree refines itself, and what refines a refinement of a tree refines that tree.
+pub fn refinement_is_an_order()
+    ensures expressions_themselves { (x : Expr) → ExprRefines x x }
+    ensures expressions_on { (x y z : Expr) → ExprRefines x y → ExprRefines y z → ExprRefines x z }
+    ensures statements_themselves { (s : Stmt) → StmtRefines s s }
+    ensures statements_on { (s t u : Stmt) → StmtRefines s t → StmtRefines t u → StmtRefines s u }
+{}
+
 /// A refinement in the place of a part refines the whole expression and the whole statement, and refined functions
 /// refine a well typed unit.
 pub fn refinements_go_through()

@@ -1,2 +1,7 @@
 pub mod Lists
 pub mod Sources
+pub mod Searching
+pub mod Bare
+pub mod Blocks
+pub mod Simulation
+pub mod Kept

@@ -1,10 +1,10 @@
 -- Lists that loops make.
-use Rattle.std.proofs.Common.{◌≡◌, ℕ, zero, suc, ◌+◌, ◌-◌, ◌<◌, ◌≤◌, Bool, List, [], ◌∷◌, ◌++◌, map, length, take, get_or, Option, Some, None, slice_get, refl, sym, ap, subst, ◌∙◌, arith, rules, add-one, add-zero, length-take, length-append}
+use Rattle.std.proofs.Common.{◌≡◌, ℕ, zero, suc, ◌+◌, ◌-◌, ◌<◌, ◌≤◌, Bool, List, [], ◌∷◌, ◌++◌, length, take, get_or, Some, None, slice_get, refl, sym, ap, ◌∙◌, arith, add-one, add-zero, length-take, length-append}
 use Rattle.std.proofs.lemmas.List.{take_more, map_push}
 use Rattle.std.proofs.lemmas.Option.{slice_get_within, get_or_from_slice_get, none-some}
 use Rattle.std.specs.List.{range_with_len}
 use Rattle.suifvm_ir.specs.Functions.{last_of, successors_after, successors_of}
-use Rattle.bk_ilist.specs.Listing.{Listing, items, last_or, last_id, HasId}
+use Rattle.bk_ilist.specs.Listing.{items, last_or, last_id, HasId}
 use Rattle.cfg.specs.Edges.{successors_from}
 
 range_suc : (a n : ℕ) → range_with_len a (suc n) ≡ range_with_len a n ++ (a + n) ∷ []
@@ -84,10 +84,10 @@ module _ {A : Type 0} where
 
 module _ {I : Type 0} where
   -- the pair of the last id stands at the end
-  record Last (pairs : List (ℕ × I)) (id : ℕ) : Type 0 where
-    before : List (ℕ × I)
-    item : I
-    split : pairs ≡ before ++ (id, item) ∷ []
+  pub record Last (pairs : List (ℕ × I)) (id : ℕ) : Type 0 where
+    pub before : List (ℕ × I)
+    pub item : I
+    pub split : pairs ≡ before ++ (id, item) ∷ []
 
   last_pair : (first : ℕ × I) (pairs : List (ℕ × I)) (id : ℕ) → Some id ≡ last_or pairs (Some first.0) → Last (first ∷ pairs) id
   last_pair first [] id is =
@@ -97,7 +97,7 @@ module _ {I : Type 0} where
       let rest = last_pair p pairs id is in
       record { before = first ∷ rest.before; item = rest.item; split = ap (λ ps. first ∷ ps) rest.split }
 
-  found_last : (pairs : List (ℕ × I)) (id : ℕ) → Some id ≡ last_id pairs → Last pairs id
+  pub found_last : (pairs : List (ℕ × I)) (id : ℕ) → Some id ≡ last_id pairs → Last pairs id
   found_last [] id is = absurd (none-some id (sym is))
   found_last (p ∷ pairs) id is = last_pair p pairs id is
 

@@ -1,5 +1,5 @@
 -- The edges of a function.
-use Rattle.std.specs.Prelude.{ℕ, suc, ◌==◌, Bool, List, [], ◌∷◌, ◌++◌, map, filter}
+use Rattle.std.specs.Prelude.{ℕ, suc, ◌==◌, Bool, List, [], ◌∷◌, ◌++◌, map, filter, length, sum_by}
 use Rattle.std.specs.List.{range_with_len}
 use Rattle.suifvm_ir.specs.Functions.{successors_of}
 
@@ -30,3 +30,7 @@ sources_of_each blocks edges = map (sources_of edges) (range_with_len 0 blocks)
 -- the blocks from which an edge leads to each block
 abbrev pub predecessors : List (List ℕ) → (blocks : ℕ) → List (List ℕ)
 predecessors followers blocks = sources_of_each blocks (edges_from 0 followers)
+
+-- how many edges there are, where these are the blocks that may follow each
+abbrev pub edge_count : List (List ℕ) → ℕ
+edge_count followers = sum_by (λ nexts. length nexts) followers

@@ -1,1 +1,5 @@
 pub mod Edges
+pub mod Walks
+pub mod Paths
+pub mod Contents
+pub mod model

@@ -4,7 +4,11 @@
 pub mod graph;
 pub mod order;
 mod predecessors;
+mod renumber;
+mod search;
 mod successors;
+pub mod unreachable;
 
 pub use graph::{Graph, build};
 pub use order::linear_order;
+pub use unreachable::remove_unreachable;

@@ -1,4 +1,4 @@
-use Rattle.std.proofs.Common.{◌≡◌, ap, ◌∙◌, arith, length}
+use Rattle.std.proofs.Common.{ap, ◌∙◌, arith, length}
 use Rattle.cfg.specs.Edges.{predecessors}
 use Rattle.cfg.proofs.Lists.{length-successors}
 use Rattle.cfg.proofs.graph.build.Goals as goal

@@ -1,4 +1,4 @@
-use Rattle.std.proofs.Common.{◌≡◌, ◌∙◌}
+use Rattle.std.proofs.Common.{◌∙◌}
 use Rattle.cfg.proofs.Sources.{blocks_step}
 use Rattle.cfg.proofs.predecessors.add_all.Goals as goal
 

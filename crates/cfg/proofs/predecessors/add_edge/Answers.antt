@@ -1,4 +1,4 @@
-use Rattle.std.proofs.Common.{◌≡◌, refl, ap, set}
+use Rattle.std.proofs.Common.{refl, ap, set}
 use Rattle.cfg.proofs.Sources.{edge_added, edge_past}
 use Rattle.cfg.proofs.predecessors.add_edge.Goals as goal
 

@@ -1,4 +1,4 @@
-use Rattle.std.proofs.Common.{◌≡◌, sym, ap, ◌∙◌, arith, append-nil, length}
+use Rattle.std.proofs.Common.{sym, ap, ◌∙◌, arith, append-nil, length}
 use Rattle.cfg.specs.Edges.{sources_of_each}
 use Rattle.cfg.proofs.Sources.{edges_step, edges_done}
 use Rattle.cfg.proofs.predecessors.add_edges.Goals as goal

@@ -1,4 +1,4 @@
-use Rattle.std.proofs.Common.{◌≡◌, ◌∙◌, []}
+use Rattle.std.proofs.Common.{◌∙◌, []}
 use Rattle.cfg.proofs.Sources.{each_of_length, predecessors_done}
 use Rattle.cfg.proofs.predecessors.predecessor_lists.Goals as goal
 

@@ -1,4 +1,4 @@
-use Rattle.std.proofs.Common.{◌≡◌, ◌+◌, [], ◌∷◌, ◌++◌, ap, sym, ◌∙◌}
+use Rattle.std.proofs.Common.{◌+◌, [], ◌∷◌, ◌++◌, ap, sym, ◌∙◌}
 use Rattle.cfg.proofs.Lists.{last_has_id, no_insn, some_insn}
 use Rattle.cfg.proofs.successors.block_successors.Goals as goal
 

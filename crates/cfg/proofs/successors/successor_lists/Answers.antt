@@ -1,4 +1,3 @@
-use Rattle.std.proofs.Common.{◌≡◌}
 use Rattle.cfg.proofs.Lists.{lists_step}
 use Rattle.cfg.proofs.successors.successor_lists.Goals as goal
 
