@@ -47,7 +47,8 @@ scratch = 28
 abbrev pub far_insns : BranchOp → ℕ → ℕ → List Fields
 far_insns Br ra address = address_insns scratch address ++ fields.Jump Jmp ra scratch ∷ []
 far_insns Bsr ra address = address_insns scratch address ++ fields.Jump Jsr ra scratch ∷ []
-far_insns op ra address = fields.Branch (inverse op) ra (pos 3) ∷ (address_insns scratch address ++ fields.Jump Jmp 31 scratch ∷ [])
+far_insns op ra address =
+    fields.Branch (inverse op) ra (pos 3) ∷ (address_insns scratch address ++ fields.Jump Jmp 31 scratch ∷ [])
 
 abbrev pub branch_insns : Bool → BranchOp → ℕ → ℕ → ℕ → List Fields
 branch_insns false op ra here there = fields.Branch op ra (displacement here there) ∷ []

@@ -42,7 +42,8 @@ both a b = a ++ 44 ∷ 32 ∷ b
 
 -- the operands of an operation: those that extend a sign have no first register
 abbrev pub operands : OperateOp → ℕ → Operand → ℕ → List ℕ
-operands op ra rb rc = if extends op then both (operand rb) (register rc) else both (register ra) (both (operand rb) (register rc))
+operands op ra rb rc =
+    if extends op then both (operand rb) (register rc) else both (register ra) (both (operand rb) (register rc))
 
 -- an instruction; a branch by its displacement has no line
 abbrev pub insn_line : Fields → List ℕ

@@ -124,8 +124,10 @@ pub fn read_fix(line: &[u8]) -> Option<Fix>
 /// The bytes of this line, without its line feed, if it is that of bytes of the data. It fails only where
 /// memory is short.
 pub fn read_hex(alloc: Global, line: &[u8]) -> Result<Option<Vec<u8>>, AllocError>
-    ensures found { IfOk result (λ found. IfSome found (λ v. All (λ b. b < 256) v.items × (line.now ≡ hex_line v.items))) }
-    ensures only { (bytes : List ℕ) → All (λ b. b < 256) bytes → line.now ≡ hex_line bytes → IfOk result (λ found. IsSomeAnd found (λ v. v.items ≡ bytes)) }
+    ensures found { IfOk result
+        (λ found. IfSome found (λ v. All (λ b. b < 256) v.items × (line.now ≡ hex_line v.items))) }
+    ensures only { (bytes : List ℕ) → All (λ b. b < 256) bytes → line.now ≡ hex_line bytes →
+        IfOk result (λ found. IsSomeAnd found (λ v. v.items ≡ bytes)) }
 {
     hex_said(alloc, line)
 }

@@ -31,7 +31,8 @@ const NO_REGISTER: u8 = 31;
 /// A load, a store or an address.
 #[tactic(auto, unfolding(crate::specs::model::Readers::two_of))]
 fn memory(op: MemoryOp, rest: &[u8]) -> Option<AsmItem>
-    ensures { result ≡ option_map (readers.memory_item op) (readers.two_of readers.register_of readers.address_of rest.now) }
+    ensures { result
+        ≡ option_map (readers.memory_item op) (readers.two_of readers.register_of readers.address_of rest.now) }
 {
     let (first, second) = pair(rest)?;
     let ra = register(first)?;
@@ -44,7 +45,8 @@ fn memory(op: MemoryOp, rest: &[u8]) -> Option<AsmItem>
 /// A jump.
 #[tactic(auto, unfolding(crate::specs::model::Readers::two_of))]
 fn jump(op: JumpOp, rest: &[u8]) -> Option<AsmItem>
-    ensures { result ≡ option_map (readers.jump_item op) (readers.two_of readers.register_of readers.indirect_of rest.now) }
+    ensures { result
+        ≡ option_map (readers.jump_item op) (readers.two_of readers.register_of readers.indirect_of rest.now) }
 {
     let (first, second) = pair(rest)?;
     let ra = register(first)?;
@@ -64,7 +66,8 @@ pub(crate) fn is_extension(op: OperateOp) -> bool
 /// An extension of a sign.
 fn extension(op: OperateOp, rest: &[u8]) -> Option<AsmItem>
     requires { IsTrue (extends op) }
-    ensures { result ≡ option_map (readers.extension_item op) (readers.two_of readers.operand_of readers.register_of rest.now) }
+    ensures { result
+        ≡ option_map (readers.extension_item op) (readers.two_of readers.operand_of readers.register_of rest.now) }
 {
     let (rb, rc) = operand_and_register(rest)?;
     Some(AsmItem::Plain(Insn32 {
@@ -81,7 +84,9 @@ fn extension(op: OperateOp, rest: &[u8]) -> Option<AsmItem>
 #[tactic(auto, unfolding(crate::specs::model::Readers::two_of))]
 fn operation_of_three(op: OperateOp, rest: &[u8]) -> Option<AsmItem>
     requires { extends op ≡ false }
-    ensures { result ≡ option_map (readers.operate_item op) (readers.two_of readers.register_of (readers.two_of readers.operand_of readers.register_of) rest.now) }
+    ensures { result
+        ≡ option_map (readers.operate_item op)
+        (readers.two_of readers.register_of (readers.two_of readers.operand_of readers.register_of) rest.now) }
 {
     let (first, behind) = pair(rest)?;
     let ra = register(first)?;
@@ -121,7 +126,8 @@ fn call(rest: &[u8]) -> Option<AsmItem>
 /// A register and an offset of the data.
 #[tactic(auto, unfolding(crate::specs::model::Readers::two_of))]
 fn data_address(rest: &[u8]) -> Option<AsmItem>
-    ensures { result ≡ option_map (λ p. Item.DataAddress p.0 p.1) (readers.two_of readers.register_of readers.number32_of rest.now) }
+    ensures { result
+        ≡ option_map (λ p. Item.DataAddress p.0 p.1) (readers.two_of readers.register_of readers.number32_of rest.now) }
 {
     let (first, second) = pair(rest)?;
     let ra = register(first)?;
@@ -173,7 +179,8 @@ fn name(alloc: Global, rest: &[u8]) -> Result<Option<AsmItem>, AllocError>
 
 /// A branch.
 fn branch(op: BranchOp, rest: &[u8]) -> Option<AsmItem>
-    ensures { result ≡ option_map (λ p. Item.Branch op p.0 p.1) (readers.two_of readers.register_of readers.label_of rest.now) }
+    ensures { result
+        ≡ option_map (λ p. Item.Branch op p.0 p.1) (readers.two_of readers.register_of readers.label_of rest.now) }
 {
     let (ra, label) = register_and_label(rest)?;
     Some(AsmItem::Branch { op, ra, label })
@@ -181,7 +188,8 @@ fn branch(op: BranchOp, rest: &[u8]) -> Option<AsmItem>
 
 /// The address of a label.
 fn text_address(rest: &[u8]) -> Option<AsmItem>
-    ensures { result ≡ option_map (λ p. Item.TextAddress p.0 p.1) (readers.two_of readers.register_of readers.label_of rest.now) }
+    ensures { result
+        ≡ option_map (λ p. Item.TextAddress p.0 p.1) (readers.two_of readers.register_of readers.label_of rest.now) }
 {
     let (ra, label) = register_and_label(rest)?;
     Some(AsmItem::TextAddress { ra, label })

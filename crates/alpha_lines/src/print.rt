@@ -51,7 +51,8 @@ fn push_operand(line: &mut Vec<u8>, operand: Operand) -> Result<(), AllocError>
 
 /// Appends a word, a blank, a register, a comma and a blank.
 fn push_first(line: &mut Vec<u8>, word: &[u8], ra: u8) -> Result<(), AllocError>
-    ensures { OnOk result (line.new.items ≡ line.old.items ++ lines.statement word.now (lines.both (lines.register ra) [])) }
+    ensures { OnOk result
+        (line.new.items ≡ line.old.items ++ lines.statement word.now (lines.both (lines.register ra) [])) }
 {
     line.extend_from_slice(word)?;
     line.push(b' ')?;
@@ -76,7 +77,8 @@ fn push_operation(
     rb: Operand,
     rc: u8,
 ) -> Result<(), AllocError>
-    ensures { OnOk result (line.new.items ≡ line.old.items ++ lines.statement (operate_spelling op) (lines.operands op ra rb rc)) }
+    ensures { OnOk result
+        (line.new.items ≡ line.old.items ++ lines.statement (operate_spelling op) (lines.operands op ra rb rc)) }
 {
     if is_extension(op) {
         line.extend_from_slice(operate_word(op))?;

@@ -114,7 +114,9 @@ pub(crate) fn read_fixes(
     count: u64,
 ) -> Result<Vec<Fix>, TextFault>
     ensures read { IfOk result (λ v. (all : List (List ℕ)) (items : List Item) (bytes : List ℕ) →
-        length bytes ≡ count → WellFrom all (Data items count bytes []) (lines_of lines.old.0) (is_ended lines.old.0) (Data items count bytes v.items)) }
+        length bytes ≡ count →
+        WellFrom all (Data items count bytes []) (lines_of lines.old.0) (is_ended lines.old.0)
+        (Data items count bytes v.items)) }
     ensures fault { IfErr result (λ e. (all : List (List ℕ)) (items : List Item) (bytes : List ℕ) →
         length bytes ≡ count → IsFaultFrom all (Data items count bytes []) lines.old e) }
 {

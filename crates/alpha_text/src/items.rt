@@ -156,7 +156,8 @@ pub(crate) fn read_items(
     survey: &Survey<'_>,
 ) -> Result<(Vec<AsmItem>, u64), TextFault>
     requires { IsSurvey survey.now }
-    ensures read { IfOk result (λ p. Reaches (lines_of survey.now.text.now) (Text []) lines.old (Data p.0.items p.1 [] []) lines.new) }
+    ensures read { IfOk result
+        (λ p. Reaches (lines_of survey.now.text.now) (Text []) lines.old (Data p.0.items p.1 [] []) lines.new) }
     ensures fault { IfErr result (λ e. IsFaultFrom (lines_of survey.now.text.now) (Text []) lines.old e) }
 {
     let mut items = Vec::new(alloc);

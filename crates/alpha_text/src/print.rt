@@ -56,7 +56,9 @@ fn push_asm(
     bytes: &[u8],
     fixes: &[Fix],
 ) -> Result<(), AllocError>
-    ensures { OnOk result (text.new.items ≡ text.old.items ++ asm_text (record { items = items.now; bytes = bytes.now; fixes = fixes.now })) }
+    ensures { OnOk result
+        (text.new.items ≡ text.old.items
+        ++ asm_text (record { items = items.now; bytes = bytes.now; fixes = fixes.now })) }
 {
     text.extend_from_slice(b".msa 1\n")?;
     push_items(text, items)?;

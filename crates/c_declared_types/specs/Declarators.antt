@@ -1,4 +1,5 @@
--- What stars, lengths and lists of parameters make of a type (C99 6.7.5.1 to 6.7.5.3); None where there is no such type.
+-- What stars, lengths and lists of parameters make of a type (C99 6.7.5.1 to 6.7.5.3); None where there is no such
+-- type.
 use Rattle.std.specs.Prelude.{ℕ, if◌then◌else◌, List, Option, Some, None}
 use denote.Hole.Carrier as Carrier
 use Rattle.c_typed_tree.specs.declared.types.CType as t
@@ -18,7 +19,8 @@ pointer_to (d.Function of parameters) = None
 
 -- the elements of an array are objects, it has one at least, and it is no larger than the data may be
 abbrev pub array_with : List StructDef → t.CType → ℕ → Option DeclaredType
-array_with ds ty length = if is_object ds (type_view (t.Array ty length)) then Some (d.Value (t.Array ty length)) else None
+array_with ds ty length =
+    if is_object ds (type_view (t.Array ty length)) then Some (d.Value (t.Array ty length)) else None
 
 abbrev pub array_without : List StructDef → t.CType → Option DeclaredType
 array_without ds ty = if is_object ds (type_view ty) then Some (d.Unsized ty) else None

@@ -59,7 +59,8 @@ literal decimal suffix n = option_map (held n) (type_of decimal (has_u suffix) (
 -- digits in a base, and the suffix behind them
 abbrev pub literal_in : (base : ℕ) → (is_digit : ℕ → Bool) → List ℕ → Option IntegerLiteral
 literal_in base p s =
-    option_and_then (literal (base == 10) (drop (prefix_len p s) s)) (word_of_number (value_in base (take (prefix_len p s) s)))
+    option_and_then (literal (base == 10) (drop (prefix_len p s) s))
+    (word_of_number (value_in base (take (prefix_len p s) s)))
 
 -- a hexadecimal constant begins with `0x`, an octal one with 0
 abbrev pub is_x : ℕ → Bool

@@ -13,12 +13,15 @@ pub fn integers_have_types()
     ensures greatest_int { integer (codes "2147483647") ≡ Some (record { ty = Int; word = 2147483647 }) }
     ensures past_int { integer (codes "2147483648") ≡ Some (record { ty = Long; word = 2147483648 }) }
     ensures greatest_hexadecimal_int { integer (codes "0x7fffffff") ≡ Some (record { ty = Int; word = 2147483647 }) }
-    ensures past_hexadecimal_int { integer (codes "0X80000000") ≡ Some (record { ty = UnsignedInt; word = 2 ^ 64 - 2 ^ 31 }) }
+    ensures past_hexadecimal_int { integer (codes "0X80000000")
+        ≡ Some (record { ty = UnsignedInt; word = 2 ^ 64 - 2 ^ 31 }) }
     ensures octal_long { integer (codes "040000000000") ≡ Some (record { ty = Long; word = 2 ^ 32 }) }
     ensures greatest_long { integer (codes "9223372036854775807") ≡ Some (record { ty = Long; word = 2 ^ 63 - 1 }) }
     ensures past_long { integer (codes "9223372036854775808") ≡ None }
-    ensures unsigned_past_long { integer (codes "9223372036854775808u") ≡ Some (record { ty = UnsignedLong; word = 2 ^ 63 }) }
-    ensures hexadecimal_past_long { integer (codes "0xffffffffffffffff") ≡ Some (record { ty = UnsignedLong; word = 2 ^ 64 - 1 }) }
+    ensures unsigned_past_long { integer (codes "9223372036854775808u")
+        ≡ Some (record { ty = UnsignedLong; word = 2 ^ 63 }) }
+    ensures hexadecimal_past_long { integer (codes "0xffffffffffffffff")
+        ≡ Some (record { ty = UnsignedLong; word = 2 ^ 64 - 1 }) }
     ensures past_all { integer (codes "0x10000000000000000") ≡ None }
     ensures unsigned { integer (codes "1u") ≡ Some (record { ty = UnsignedInt; word = 1 }) }
     ensures past_unsigned { integer (codes "4294967296U") ≡ Some (record { ty = UnsignedLong; word = 2 ^ 32 }) }

@@ -42,7 +42,8 @@ fix_of line = fix_in (behind_of (codes ".fix") line)
 
 -- the value of a hexadecimal digit in lower case
 abbrev pub hex_value : ℕ → Option ℕ
-hex_value b = if nat_le 48 b && nat_le b 57 then Some (b - 48) else if nat_le 97 b && nat_le b 102 then Some (b - 87) else None
+hex_value b =
+    if nat_le 48 b && nat_le b 57 then Some (b - 48) else if nat_le 97 b && nat_le b 102 then Some (b - 87) else None
 
 abbrev pub hex_pair : Option ℕ → Option ℕ → Option ℕ
 hex_pair (Some high) (Some low) = Some (high * 16 + low)

@@ -74,7 +74,8 @@ unfoldable pub address_of : List ℕ → Option (ℤ × ℕ)
 address_of s = address_in (cut 40 s)
 
 -- two operands, each by its reader
-abbrev pub each_of : {A B : Type 0} → (List ℕ → Option A) → (List ℕ → Option B) → Option (List ℕ × List ℕ) → Option (A × B)
+abbrev pub each_of : {A B : Type 0} → (List ℕ → Option A) → (List ℕ → Option B) → Option (List ℕ × List ℕ) →
+    Option (A × B)
 each_of f g None = None
 each_of f g (Some p) = zipped (f p.0) (g p.1)
 
@@ -94,7 +95,9 @@ abbrev pub operate_item : OperateOp → ℕ × (Operand × ℕ) → AsmItem
 operate_item op p = Plain (fields.Operate op p.0 p.1.0 p.1.1)
 
 unfoldable pub operation_of : OperateOp → List ℕ → Option AsmItem
-operation_of op rest = if extends op then option_map (extension_item op) (two_of operand_of register_of rest) else option_map (operate_item op) (two_of register_of (two_of operand_of register_of) rest)
+operation_of op rest =
+    if extends op then option_map (extension_item op) (two_of operand_of register_of rest)
+    else option_map (operate_item op) (two_of register_of (two_of operand_of register_of) rest)
 
 abbrev pub call_in : Option ℕ → Option AsmItem
 call_in None = None
