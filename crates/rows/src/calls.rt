@@ -1,12 +1,12 @@
 //! Whole calls of the compiler.
 
-use row_sheets::escape::unescape;
-use row_sheets::number::numbers;
 use anyhow::{Context, Result, bail};
 use bk_io::memory::{MemFiles, MemSink, MemSource};
 use bk_io::outside::Source;
 use msc_cli::outcome::exit_code;
 use msc_cli::top::msc_main;
+use row_sheets::escape::unescape;
+use row_sheets::number::numbers;
 use std::alloc::{AllocError, Global};
 
 /// How many bytes the output and the line for errors take.

@@ -1,10 +1,10 @@
 //! The lines and the statuses of outcomes.
 
 use crate::calls::push_part;
-use row_sheets::number::number;
 use anyhow::{Result, bail};
 use bk_io::memory::MemSink;
 use msc_cli::outcome::{Outcome, SourceFault, Which, exit_code, put_line};
+use row_sheets::number::number;
 use std::alloc::Global;
 
 /// The refusal with this name, at an offset where it has one.

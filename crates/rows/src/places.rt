@@ -1,6 +1,5 @@
 //! The places of the nodes of trees, which no printed text shows.
 
-use row_sheets::escape::unescape;
 use crate::trees::{MOST_TEXT, refused};
 use anyhow::{Result, ensure};
 use c_parser::parse;
@@ -8,6 +7,7 @@ use c_tree::{
     Constant, Declaration, Expr, External, ForFirst, FunctionEnd, Init, Label, Local, Parameter,
     Section, Stmt, TypeNode,
 };
+use row_sheets::escape::unescape;
 use std::alloc::{AllocError, Global};
 
 type Answer = Result<(), AllocError>;

@@ -1,8 +1,8 @@
 //! Texts with their tokens.
 
-use row_sheets::escape::unescape;
 use anyhow::{Result, ensure};
 use c_lexer::{Lexer, TokenKind};
+use row_sheets::escape::unescape;
 use std::alloc::Global;
 
 /// The most bytes of a text.

@@ -1,9 +1,9 @@
 //! Texts with their trees, and with how deep they nest.
 
-use row_sheets::escape::unescape;
 use anyhow::{Context, Result, ensure};
 use c_parser::{ParseFault, nest, parse};
 use c_tree::tree_text;
+use row_sheets::escape::unescape;
 use std::alloc::{AllocError, Global};
 
 /// The most bytes of a text.
