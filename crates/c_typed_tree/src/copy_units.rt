@@ -1,6 +1,7 @@
 //! Equal units.
 
 ghost use Rattle.std.specs.Prelude.{◌≡◌, IfOk};
+ghost use Rattle.c_typed_tree.specs.Lawful.{IsLawful};
 
 use crate::copy_statements::copy_stmt;
 use crate::{Local, Member, StructDef, TypedFn, TypedUnit};
@@ -132,9 +133,11 @@ fn copy_functions(alloc: Global, list: &Seq<TypedFn>) -> Result<Seq<TypedFn>, Al
     Ok(copies)
 }
 
-/// An equal unit. It fails only where memory is short.
+/// An equal unit, lawful where the given one is. It fails only where memory is short.
+#[tactic(auto, using(crate::proofs::Copies::still_lawful))]
 pub fn copy_unit(alloc: Global, unit: &TypedUnit) -> Result<TypedUnit, AllocError>
-    ensures { IfOk result (λ r. r ≡ unit.now) }
+    ensures equal { IfOk result (λ r. r ≡ unit.now) }
+    ensures lawful { IfOk result (λ r. IsLawful unit.now → IsLawful r) }
 {
     let structs = copy_structs(alloc, &unit.structs)?;
     let globals = copy_objects(alloc, &unit.globals)?;

@@ -1,5 +1,9 @@
 //! Typed expressions (C99 6.5).
 
+ghost use Rattle.std.specs.Prelude.{◌≡◌};
+ghost use Rattle.c_typed_tree.specs.Expressions.{type_of};
+ghost use Rattle.c_typed_tree.specs.View.{type_view, expr_view};
+
 use crate::CType;
 use c_tree::{AssignOp, BinaryOp, Box, Seq, StepOp, UnaryOp};
 
@@ -106,4 +110,30 @@ pub enum TExpr {
         ty: CType,
         operands: Seq<TExpr>,
     },
+}
+
+impl TExpr {
+    /// The type of the expression.
+    #[tactic(auto, unfolding(crate::specs::View::opens))]
+    pub fn ty(&self) -> &CType
+        ensures { type_view result.now ≡ type_of (expr_view self.now) }
+    {
+        match self {
+            TExpr::Number { ty, .. } => ty,
+            TExpr::Local { ty, .. } => ty,
+            TExpr::Global { ty, .. } => ty,
+            TExpr::Call { ty, .. } => ty,
+            TExpr::Unary { ty, .. } => ty,
+            TExpr::Binary { ty, .. } => ty,
+            TExpr::Assign { ty, .. } => ty,
+            TExpr::Conditional { ty, .. } => ty,
+            TExpr::Cast { ty, .. } => ty,
+            TExpr::Convert { ty, .. } => ty,
+            TExpr::Index { ty, .. } => ty,
+            TExpr::Field { ty, .. } => ty,
+            TExpr::Arrow { ty, .. } => ty,
+            TExpr::Postfix { ty, .. } => ty,
+            TExpr::Comma { ty, .. } => ty,
+        }
+    }
 }

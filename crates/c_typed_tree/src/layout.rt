@@ -36,7 +36,8 @@ pub fn size_of(structs: &[StructDef], ty: &CType) -> u64
     }
 }
 
-fn struct_size(structs: &[StructDef], number: u32) -> u64
+/// The size in bytes of the struct with a number; 0 where there is none.
+pub fn struct_size(structs: &[StructDef], number: u32) -> u64
     ensures { result ≡ struct_size (slice_get structs.now number) }
 {
     match structs.get(number as usize) {

@@ -1,7 +1,8 @@
 //! The typed trees of C units: what a unit is once each name is known, each expression has its type and each
 //! conversion is written.
 //!
-//! Contracts speak of the plain data of `specs/Plain.antt`, which `specs/View.antt` reads off the trees.
+//! Contracts speak of plain data (`specs/Types.antt`, `specs/Expressions.antt`, `specs/Statements.antt`), which
+//! `specs/View.antt` reads off the trees.
 #![tactic(auto)]
 
 mod copy;

@@ -1,0 +1,15 @@
+pub mod Words
+pub mod Offsets
+pub mod Tidiness
+pub mod Lives
+pub mod Windows
+pub mod Sites
+pub mod Loops
+pub mod Turns
+pub mod Pushes
+pub mod Entries
+pub mod Returns
+pub mod Effects
+pub mod Instructions
+pub mod Progress
+pub mod Begins

@@ -1,0 +1,80 @@
+-- What a run of a program does, by its meaning.
+use Rattle.std.specs.Prelude.{◌≡◌, ℕ, zero, suc, ◌+◌, List, ◌++◌, [], ◌∷◌, Option, Some, option_map}
+use Rattle.bk_io.specs.Outside.{next_count}
+use Rattle.mem_model.specs.World.{World}
+use Rattle.mem_model.specs.Ending.{Ending, Done, Trap, Undefined, More}
+use Rattle.machine_model.specs.Laws.{next_world}
+use Rattle.machine_model.specs.Machine.{Config, Next, Goes, Over}
+use Rattle.vm_meaning.specs.Behave.{Registers}
+use Rattle.suifvm_run.specs.declared.ending.VmEnding.{VmEnding}
+use Rattle.suifvm_run.specs.declared.ending.VmEnding.TheVariants as e
+
+-- n more on a count, which stays at its end
+abbrev pub count_plus : ℕ → ℕ → ℕ
+count_plus zero count = count
+count_plus (suc n) count = next_count (count_plus n count)
+
+-- how often the input was asked: once for each byte taken, and once where it failed
+abbrev pub input_calls : VmEnding → (takings : ℕ) → ℕ
+input_calls e.InputFault takings = suc takings
+input_calls _ takings = takings
+
+-- what so many steps of a run come to
+abbrev pub Steps : Type 0
+Steps = ℕ → Next Registers
+
+-- a run is over after some number of steps
+pub record EndsWith (run : Steps) (e : Ending) : Type 0 where
+  pub steps : ℕ
+  pub over : run steps ≡ Over e
+
+-- a run goes on after some number of steps, in a world
+pub record GoesOn (run : Steps) (last : World) : Type 0 where
+  pub steps : ℕ
+  pub config : Config Registers
+  pub goes : run steps ≡ Goes config
+  pub world : config.world ≡ last
+
+-- and its next step takes a byte of the input, or puts one
+pub record TakesNext (run : Steps) (last : World) : Type 0 where
+  pub before : GoesOn run last
+  pub takes : (next_world (run (suc before.steps))).outer.takings ≡ last.outer.takings + 1
+
+pub record PutsNext (run : Steps) (last : World) : Type 0 where
+  pub before : GoesOn run last
+  pub byte : ℕ
+  pub puts : (next_world (run (suc before.steps))).outer.output ≡ last.outer.output ++ byte ∷ []
+
+-- How a run stops that had so many turns, in its last world: it is over; or a byte could not be taken or put, and it
+-- stands before that step; or there was no memory, and it goes on
+abbrev pub StopsAs : Steps → (turns : ℕ) → VmEnding → (last : World) → Type 0
+StopsAs run turns (e.Ended status) last = EndsWith run (Done last status)
+StopsAs run turns (e.Trapped code) last = EndsWith run (Trap last code)
+StopsAs run turns (e.Undefined pc) last = EndsWith run (Undefined last pc)
+StopsAs run turns (e.Budget n) last = (n ≡ turns) × EndsWith run (More last)
+StopsAs run turns e.InputFault last = TakesNext run last
+StopsAs run turns e.WriteFault last = PutsNext run last
+StopsAs run turns e.NoMemory last = GoesOn run last
+
+-- what the input and the output tell
+pub record Traffic : Type 0 where
+  pub left : Option (List ℕ)
+  pub made : Option ℕ
+  pub taken : Option (List ℕ)
+
+-- a run that stopped: how, and what it did to the input and the output
+pub record IsRun (run : Steps) (turns : ℕ) (ending : VmEnding) (told after : Traffic) : Type 0 where
+  pub last : World
+  pub stops : StopsAs run turns ending last
+  pub left : after.left ≡ Some last.outer.input
+  pub made : after.made ≡ option_map (count_plus (input_calls ending last.outer.takings)) told.made
+  pub taken : after.taken ≡ option_map (λ bytes. bytes ++ last.outer.output) told.taken
+
+-- the counts of faults of the input and the output after a run: one more where they failed, and else as before
+abbrev pub input_faults_after : VmEnding → ℕ → ℕ
+input_faults_after e.InputFault faults = next_count faults
+input_faults_after _ faults = faults
+
+abbrev pub output_faults_after : VmEnding → ℕ → ℕ
+output_faults_after e.WriteFault faults = next_count faults
+output_faults_after _ faults = faults
