@@ -1,5 +1,5 @@
 -- Each line of the data is read as what it was printed of, and what is read is printed so.
-use Rattle.std.proofs.Common.{◌≡◌, ℕ, suc, ◌+◌, ◌-◌, ◌*◌, ◌/◌, ◌%◌, ◌^◌, ◌<◌, ◌≤◌, ◌&&◌, Bool, true, false, leb, ltb, List, [], ◌∷◌, ◌++◌, Option, Some, None, refl, sym, ap, ◌∙◌, subst, inl, inr, arith}
+use Rattle.std.proofs.Common.{◌≡◌, ℕ, ◌+◌, ◌-◌, ◌*◌, ◌/◌, ◌%◌, ◌^◌, ◌<◌, ◌&&◌, true, leb, List, [], ◌∷◌, ◌++◌, Option, Some, None, refl, ap, ◌∙◌, subst, inl, inr, arith}
 use Rattle.std.specs.Prelude.{if◌then◌else◌, decimal, codes, bytes_eq, flat_map}
 use Rattle.std.specs.List.{All}
 use Rattle.std.proofs.lemmas.Bool.Decides.{nat_tests}
@@ -8,7 +8,6 @@ use Rattle.std.proofs.lemmas.List.Elements.{All-nil, All-cons, All-head, All-tai
 use Rattle.alpha_items.specs.declared.item.Fix.{Fix}
 use Rattle.alpha_lines.specs.Lines.{statement, data_line, hex_digit, hex_byte, hex_line, fix_line}
 use Rattle.alpha_lines.specs.model.Parts.{cut}
-use Rattle.alpha_lines.specs.model.Numbers.{number_of}
 use Rattle.alpha_lines.specs.model.Readers.{number32_of}
 use Rattle.alpha_lines.specs.model.Data.{behind_in, behind_of, most_u64, number_in, data_of, fix_with, fix_parts, fix_in, fix_of, hex_value, hex_pair, with_first, hex_of, hex_in, hex_line_of}
 use Rattle.alpha_lines.proofs.Parts.{Lacks, cut_front, cut_sound}

@@ -1,7 +1,6 @@
 -- The line of an item is read as the item, and a line that is read as an item is its line.
-use Rattle.std.proofs.Common.{◌≡◌, ℕ, ◌^◌, ◌<◌, ◌≤◌, ◌||◌, Bool, true, false, eqb, List, [], ◌∷◌, ◌++◌, Option, Some, None, refl, sym, ap, ◌∙◌, subst, inl, inr, arith}
-use Rattle.std.specs.Prelude.{ℤ, option_map, if◌then◌else◌, IsTrue, decimal, codes}
-use Rattle.std.proofs.lemmas.Bool.{eqb-true}
+use Rattle.std.proofs.Common.{◌≡◌, ℕ, ◌^◌, ◌<◌, ◌≤◌, Bool, true, false, List, [], ◌∷◌, ◌++◌, Option, Some, None, refl, ap, ◌∙◌, subst, inl, inr, arith}
+use Rattle.std.specs.Prelude.{ℤ, option_map, if◌then◌else◌, IsTrue, decimal}
 use Rattle.std.proofs.lemmas.Bool.Decides.{nat_tests}
 use Rattle.alpha_isa.specs.declared.insn.MemoryOp.{MemoryOp}
 use Rattle.alpha_isa.specs.declared.insn.BranchOp.{BranchOp}
@@ -9,9 +8,8 @@ use Rattle.alpha_isa.specs.declared.insn.JumpOp.{JumpOp}
 use Rattle.alpha_isa.specs.declared.insn.OperateOp.{OperateOp}
 use Rattle.alpha_isa.specs.declared.insn.OperateOp.TheVariants.{Sextb, Sextw}
 use Rattle.alpha_isa.specs.declared.insn.Operand.{Operand}
-use Rattle.alpha_isa.specs.declared.insn.Fields.{Fields}
 use Rattle.alpha_isa.specs.declared.insn.Fields.TheVariants as fields
-use Rattle.alpha_isa.specs.Lawful.{IsLawful, IsFirstOperand, IsOperand, IsDisplacement, is_call}
+use Rattle.alpha_isa.specs.Lawful.{IsFirstOperand, IsOperand, IsDisplacement, is_call}
 use Rattle.alpha_isa.specs.Words.{extends}
 use Rattle.alpha_items.specs.declared.item.AsmItem.{AsmItem}
 use Rattle.alpha_items.specs.declared.item.AsmItem.TheVariants.{Label, Name, Plain, Branch, TextAddress, DataAddress}
@@ -27,7 +25,7 @@ use Rattle.alpha_lines.proofs.Parts.{Lacks, cut_sound}
 use Rattle.alpha_lines.proofs.Numbers.{number_sound, number_complete}
 use Rattle.alpha_lines.proofs.Options.{guarded, split, mapped}
 use Rattle.alpha_lines.proofs.Spellings.{spelled_cut, spelled_found, mnemonic_sound}
-use Rattle.alpha_lines.proofs.Operands.{lacks_append, cut_lacks, decimal_lacks, register_lacks, operand_lacks, number32_complete, number32_sound, register_complete, register_sound, label_complete, label_sound, operand_complete, operand_sound, closed_complete, closed_sound, indirect_complete, indirect_sound, address_complete, address_sound, two_complete, two_sound, Two}
+use Rattle.alpha_lines.proofs.Operands.{lacks_append, cut_lacks, decimal_lacks, register_lacks, operand_lacks, number32_complete, number32_sound, register_complete, register_sound, label_complete, label_sound, operand_complete, operand_sound, closed_complete, closed_sound, indirect_complete, indirect_sound, address_complete, address_sound, two_complete, two_sound}
 
 -- from an item to its line and back
 

@@ -14,7 +14,7 @@ use Rattle.std.proofs.lemmas.Str.{IsUtf8-from_ascii}
 use Rattle.std.proofs.lemmas.Fmt.{decimal_nonempty, decimal_is_IsNumeral, IsAscii-decimal, IsAscii-signed, parse-decimal, parse-signed_decimal}
 use Rattle.std.proofs.lemmas.Str.Parse.{digit_from_value}
 use Rattle.alpha_isa.specs.Lawful.{IsDisplacement}
-use Rattle.alpha_lines.specs.model.Numbers.{number_of, negative, negated, displacement_of}
+use Rattle.alpha_lines.specs.model.Numbers.{number_of, negated, displacement_of}
 
 abbrev checked : {X : Type 0} → Bool → Bool → X → Option X
 checked a b x = if a && b then Some x else None

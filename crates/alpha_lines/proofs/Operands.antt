@@ -1,6 +1,6 @@
 -- Each operand that is printed is read again, and what is read is printed so.
-use Rattle.std.proofs.Common.{◌≡◌, ℕ, ◌^◌, ◌<◌, ◌≤◌, ◌&&◌, Bool, true, false, leb, eqb, List, [], ◌∷◌, ◌++◌, Option, Some, None, length, refl, sym, ap, ◌∙◌, subst, inl, inr, arith, append_assoc}
-use Rattle.std.specs.Prelude.{ℤ, pos, negsuc, option_map, if◌then◌else◌, decimal}
+use Rattle.std.proofs.Common.{◌≡◌, ℕ, ◌^◌, ◌<◌, ◌&&◌, false, leb, eqb, List, [], ◌∷◌, ◌++◌, Option, Some, None, length, refl, sym, ap, ◌∙◌, subst, inl, inr, arith}
+use Rattle.std.specs.Prelude.{ℤ, pos, negsuc, option_map, decimal}
 use Rattle.std.specs.Fmt.{signed_decimal}
 use Rattle.std.specs.Str.Parse.{AllDigits}
 use Rattle.std.proofs.lemmas.Bool.Decides.{nat_tests}
@@ -13,10 +13,10 @@ use Rattle.alpha_isa.specs.Lawful.{IsOperand, IsDisplacement}
 use Rattle.alpha_lines.specs.Lines.{register, label, indirect, address, operand, both}
 use Rattle.alpha_lines.specs.model.Parts.{cut, pair_of, behind_comma, behind_blank}
 use Rattle.alpha_lines.specs.model.Numbers.{number_of, displacement_of}
-use Rattle.alpha_lines.specs.model.Readers.{most_u32, number32_of, zipped, if_empty, before_end, closed_by, register_of, label_of, operand_of, register_in, inner_of, indirect_of, address_in, address_of, each_of, two_of}
+use Rattle.alpha_lines.specs.model.Readers.{most_u32, number32_of, if_empty, before_end, closed_by, register_of, label_of, operand_of, register_in, inner_of, indirect_of, address_in, address_of, each_of, two_of}
 use Rattle.alpha_lines.proofs.Parts.{Lacks, cut_front, cut_sound}
 use Rattle.alpha_lines.proofs.Numbers.{number_sound, number_complete, displacement_sound, displacement_complete, digits_of_decimal}
-use Rattle.alpha_lines.proofs.Options.{guarded, begun, split, mapped, zipped_parts}
+use Rattle.alpha_lines.proofs.Options.{begun, split, mapped, zipped_parts}
 
 -- what a text has no byte of
 

@@ -1,8 +1,7 @@
 -- A mnemonic stands alone up to the first blank, and its spelling is no other's.
-use Rattle.std.proofs.Common.{◌≡◌, List, ℕ, Option, Some, None, Bool, true, refl}
+use Rattle.std.proofs.Common.{◌≡◌, List, ℕ, Some, refl}
 use Rattle.std.specs.Prelude.{bytes_eq}
 use Rattle.std.proofs.lemmas.Slice.Eq.{bytes_eq-Decides}
-use Rattle.std.specs.List.{find}
 use Rattle.alpha_isa.specs.declared.insn.MemoryOp.TheVariants.{Lda, Ldah, Ldbu, Ldwu, Stw, Stb, Ldl, Ldq, Stl, Stq}
 use Rattle.alpha_isa.specs.declared.insn.BranchOp.TheVariants.{Br, Bsr, Blbc, Beq, Blt, Ble, Blbs, Bne, Bge, Bgt}
 use Rattle.alpha_isa.specs.declared.insn.JumpOp.TheVariants.{Jmp, Jsr, Ret}

@@ -3,7 +3,6 @@ use Rattle.std.proofs.Common.{◌≡◌, ℕ, refl}
 use Rattle.alpha_run.specs.declared.ending.Ending.{Ending}
 use Rattle.alpha_run.specs.declared.ending.Ending.TheVariants as ending
 use Rattle.alpha_run.specs.Run as run
-use Rattle.msc_cli.specs.declared.outcome.Outcome.{Outcome}
 use Rattle.msc_cli.specs.declared.outcome.Outcome.TheVariants.{FileFault}
 use Rattle.msc_cli.specs.RunImage.{outcome_of_ending}
 use Rattle.msc_cli.specs.Output.{input_faults_after, output_faults_after}

@@ -1,5 +1,5 @@
 -- A run of a small program ends with its status.
-use Rattle.std.proofs.Common.{◌≡◌, ◌≢◌, ℕ, ◌≤◌, ◌*◌, ◌+◌, List, length, inl, inr, Option, Some, refl, sym, ◌∙◌, ap, subst, arith}
+use Rattle.std.proofs.Common.{◌≡◌, ◌≢◌, ℕ, ◌≤◌, List, length, inl, inr, Some, refl, sym, ◌∙◌, ap, subst, arith}
 use Rattle.c_mean.specs.Small.{SmallUnit, IsSmall, written_by, status_of}
 use Rattle.c_mean.proofs.SmallLaws.{one}
 use Rattle.alpha_isa.specs.Program.{Program}
@@ -13,10 +13,10 @@ use Rattle.msc_cli.specs.declared.outcome.Outcome.TheVariants.{FileFault, Refuse
 use Rattle.msc_cli.specs.declared.outcome.SourceFault.TheVariants.{Form}
 use Rattle.msc_cli.specs.FromFile.{IsCause}
 use Rattle.msc_cli.specs.BuildImage.{IsCompiled, RefusesText}
-use Rattle.msc_cli.specs.RunImage.{outcome_of_ending, RunsImage, Runs, EndsWith}
+use Rattle.msc_cli.specs.RunImage.{outcome_of_ending, Runs, EndsWith}
 use Rattle.msc_cli.specs.Limits.{default_stack, default_budget}
 use Rattle.msc_cli.proofs.Compile.{few_puts}
-use Rattle.msc_cli.proofs.SmallSame.{all_steps, steps_count, image_of, machine_ends_later}
+use Rattle.msc_cli.proofs.SmallSame.{steps_count, image_of, machine_ends_later}
 
 -- the image of a text that is this program ends with its status at the budget
 done : (text input : List ℕ) (u : SmallUnit) (p : Program) → IsSmall text u → IsCompiled text p → behave_a p default_stack input default_budget ≡ alpha.Done (written_by u) (status_of u)

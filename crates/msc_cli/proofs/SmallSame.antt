@@ -1,7 +1,6 @@
 -- A small image behaves as its program does.
 use Rattle.std.proofs.Common.{◌≡◌, ℕ, zero, suc, ◌+◌, ◌*◌, ◌<◌, ◌≤◌, List, [], ◌∷◌, ◌++◌, Bool, true, false, nat_lt, length, take, drop, map, refl, sym, ◌∙◌, ap, subst, arith, append_assoc, append-nil, if◌then◌else◌, take-append-drop}
 use Rattle.std.proofs.lemmas.Bool.{le-ltb}
-use Rattle.c_mean.specs.Behaviour.{Good}
 use Rattle.c_mean.specs.Behaviour as c
 use Rattle.c_mean.specs.Small.{Expression, SmallUnit, low_byte, written_by, status_of, behave_c, meaning}
 use Rattle.alpha_isa.specs.Program.{Program}

@@ -1,5 +1,5 @@
 -- What `build` answers, and what it writes.
-use Rattle.std.specs.Prelude.{◌≡◌, ℕ, ◌≤◌, ◌⊎◌, List, length, take, Option, IfSome}
+use Rattle.std.specs.Prelude.{◌≡◌, ℕ, ◌⊎◌, List, Option, IfSome}
 use Rattle.bk_io.specs.Outside.{taken_with}
 use Rattle.c_mean.specs.Behaviour.{Done}
 use Rattle.c_mean.specs.Small.{SmallUnit, IsSmall, written_by, status_of, behave_c, meaning}

@@ -1,13 +1,8 @@
 -- What is read of a file, what is made of it, and what is answered where nothing is made.
-use Rattle.std.specs.Prelude.{◌≡◌, ℕ, ◌<◌, ◌≤◌, ◌⊎◌, List, length, take, Option, option_map}
+use Rattle.std.specs.Prelude.{◌≡◌, ℕ, ◌⊎◌, List, Option, option_map}
 use Rattle.bk_io.specs.Shelf.{Shelf, file_of}
-use Rattle.bk_io.specs.declared.outside.FileFault.{FileFault as Fault}
-use Rattle.bk_io.specs.declared.outside.FileFault.TheVariants as fault
 use Rattle.msc_cli.specs.declared.outcome.Outcome.{Outcome}
-use Rattle.msc_cli.specs.declared.outcome.Outcome.TheVariants.{FileFault, Refused, NoMemory}
-use Rattle.msc_cli.specs.declared.outcome.SourceFault.TheVariants.{Form}
-use Rattle.msc_cli.specs.declared.read_small.ReadFault.{ReadFault}
-use Rattle.msc_cli.specs.declared.read_small.ReadFault.TheVariants as read
+use Rattle.msc_cli.specs.declared.outcome.Outcome.TheVariants.{FileFault, NoMemory}
 
 -- the bytes of a file, where they are told
 abbrev pub text_of : Option Shelf → List ℕ → Option (List ℕ)

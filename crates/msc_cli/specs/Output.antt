@@ -1,5 +1,5 @@
 -- What a sink took in a call, and the counts of faults after it.
-use Rattle.std.specs.Prelude.{◌≡◌, ℕ, ◌≤◌, ◌⊎◌, List, length, take, Option, Result, Ok, Err}
+use Rattle.std.specs.Prelude.{◌≡◌, ℕ, ◌≤◌, ◌⊎◌, List, length, take, Option}
 use Rattle.bk_io.specs.Outside.{next_count, taken_with}
 use Rattle.msc_cli.specs.declared.outcome.Outcome.{Outcome}
 use Rattle.msc_cli.specs.declared.outcome.Outcome.TheVariants.{FileFault, InputFault, WriteFault}

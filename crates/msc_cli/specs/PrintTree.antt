@@ -3,8 +3,6 @@ use Rattle.std.specs.Prelude.{◌≡◌, ℕ, ◌<◌, ◌≤◌, ◌⊎◌, Lis
 use Rattle.c_lexer.specs.Pieces.{FaultAt}
 use Rattle.c_tree.specs.declared.declarations.TranslationUnit.{TranslationUnit}
 use Rattle.c_tree.specs.Nodes.{text_of as tree_text}
-use Rattle.c_parser.specs.declared.fault.ParseFault.{ParseFault}
-use Rattle.c_parser.specs.declared.fault.ParseFault.TheVariants as fault
 use Rattle.c_nesting.specs.HasNesting.{HasNesting}
 use Rattle.c_parser.specs.Limits.{most_nesting}
 use Rattle.c_parser.specs.Reading.{IsRead, HasNoReading}

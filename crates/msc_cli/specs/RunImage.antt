@@ -5,8 +5,6 @@ use Rattle.alpha_isa.specs.ImageFormat.{IsImage}
 use Rattle.alpha_run.specs.declared.ending.Ending.{Ending}
 use Rattle.alpha_run.specs.declared.ending.Ending.TheVariants as ending
 use Rattle.alpha_run.specs.Run.{Traffic, Behaves}
-use Rattle.alpha_image.specs.declared.read.ImageFault.{ImageFault}
-use Rattle.alpha_image.specs.declared.read.ImageFault.TheVariants as fault
 use Rattle.msc_cli.specs.declared.outcome.Outcome.{Outcome}
 use Rattle.msc_cli.specs.declared.outcome.Outcome.TheVariants.{Ran, Trapped, Stuck, Budget, InputFault, WriteFault, BadImage, NoMemory}
 use Rattle.msc_cli.specs.FromFile.{Does}

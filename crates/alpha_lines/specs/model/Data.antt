@@ -1,5 +1,5 @@
 -- What the lines of the data say, as functions of their bytes.
-use Rattle.std.specs.Prelude.{ℕ, ◌+◌, ◌-◌, ◌*◌, ◌^◌, nat_lt, nat_le, ◌&&◌, if◌then◌else◌, List, [], ◌∷◌, Option, Some, None, codes, bytes_eq}
+use Rattle.std.specs.Prelude.{ℕ, ◌+◌, ◌-◌, ◌*◌, ◌^◌, nat_le, ◌&&◌, if◌then◌else◌, List, [], ◌∷◌, Option, Some, None, codes, bytes_eq}
 use Rattle.alpha_items.specs.declared.item.Fix.{Fix}
 use Rattle.alpha_lines.specs.model.Parts.{cut}
 use Rattle.alpha_lines.specs.model.Numbers.{number_of}

@@ -1,5 +1,5 @@
 -- The numbers that bytes spell, as functions of them.
-use Rattle.std.specs.Prelude.{ℕ, suc, ◌^◌, ◌-◌, nat_le, ℤ, pos, negsuc, ◌&&◌, ◌==◌, if◌then◌else◌, List, [], ◌∷◌, Option, Some, None, option_map, decimal, bytes_eq}
+use Rattle.std.specs.Prelude.{ℕ, ◌^◌, ◌-◌, nat_le, ℤ, pos, negsuc, ◌&&◌, ◌==◌, if◌then◌else◌, List, [], ◌∷◌, Option, Some, None, option_map, decimal, bytes_eq}
 use Rattle.std.specs.Str.Parse.{digits_value}
 
 -- the value of the digits, where it is spelled so

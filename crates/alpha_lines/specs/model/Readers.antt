@@ -5,7 +5,6 @@ use Rattle.alpha_isa.specs.declared.insn.JumpOp.{JumpOp}
 use Rattle.alpha_isa.specs.declared.insn.OperateOp.{OperateOp}
 use Rattle.alpha_isa.specs.declared.insn.Operand.{Operand}
 use Rattle.alpha_isa.specs.declared.insn.Operand.TheVariants.{Reg, Literal}
-use Rattle.alpha_isa.specs.declared.insn.Fields.{Fields}
 use Rattle.alpha_isa.specs.declared.insn.Fields.TheVariants as fields
 use Rattle.alpha_isa.specs.Lawful.{is_call}
 use Rattle.alpha_isa.specs.Words.{extends}

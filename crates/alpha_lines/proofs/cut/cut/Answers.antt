@@ -1,5 +1,5 @@
 -- The first mark cuts the text.
-use Rattle.std.proofs.Common.{◌≡◌, ◌<◌, ◌≤◌, length, suc, add-one, sym, arith}
+use Rattle.std.proofs.Common.{◌<◌, length, suc, add-one, sym, arith}
 use Rattle.alpha_lines.proofs.Parts.{cut_at, cut_none, take_rest}
 use Rattle.alpha_lines.proofs.cut.cut.Goals as goal
 

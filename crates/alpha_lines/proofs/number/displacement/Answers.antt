@@ -1,5 +1,5 @@
 -- What was parsed is the one number that the bytes can spell.
-use Rattle.std.proofs.Common.{Bool, true, false, refl, sym, ap, ◌∙◌, subst, ◌≡◌, List, ℕ}
+use Rattle.std.proofs.Common.{Bool, true, false, refl, sym, ap, ◌∙◌, ◌≡◌}
 use Rattle.std.specs.Fmt.{signed_decimal}
 use Rattle.alpha_lines.specs.model.Numbers.{displacement_of}
 use Rattle.alpha_lines.proofs.Numbers.{displacement_complete, displacement_missed, displacement_other, held}

@@ -1,4 +1,3 @@
-use Rattle.std.proofs.Common.{◌++◌}
 use Rattle.msc_cli.proofs.Fronts.{first_fails, then_second}
 use Rattle.msc_cli.proofs.output.put_both.Goals as goal
 
