@@ -56,7 +56,7 @@ fn main(rt: HostRuntime) -> Result<()> {
 RT
 (cd "$work/crates/assembler_speed" && rt run > "$work/log" 2>&1) || true
 program=$(find "$work/crates/assembler_speed/out" -maxdepth 1 -type f -name assembler_speed | head -1)
-[ -n "$program" ] || { tail -20 "$work/log"; exit 1; }
+[ -n "$program" ] || { tail -60 "$work/log"; exit 1; }
 for kind in short far row hostile; do
     python3 "$top/bench/made_assembly.py" "$kind" "$work/$kind.s"
     printf '%s: ' "$kind"

@@ -1,6 +1,6 @@
 //! The kinds of rows, each with its file.
 
-use crate::{assembly, divisions, encodings, integers, lists, memory, runs, steps};
+use crate::{assembly, assembly_words, divisions, encodings, integers, lists, memory, runs, steps};
 use anyhow::Result;
 use mem_model::memory::Mem;
 use row_sheets::Table;
@@ -14,18 +14,20 @@ pub enum Kind {
     Steps,
     Divisions,
     Assembly,
+    AssemblyWords,
     Runs,
     Memory,
     Lists,
 }
 
 /// The kinds in the order in which they are checked.
-pub const KINDS: [Kind; 8] = [
+pub const KINDS: [Kind; 9] = [
     Kind::Encodings,
     Kind::Integers,
     Kind::Steps,
     Kind::Divisions,
     Kind::Assembly,
+    Kind::AssemblyWords,
     Kind::Runs,
     Kind::Memory,
     Kind::Lists,
@@ -40,6 +42,7 @@ impl Kind {
             Kind::Steps => "steps.rows",
             Kind::Divisions => "divisions.rows",
             Kind::Assembly => "assembly.rows",
+            Kind::AssemblyWords => "assembly_words.rows",
             Kind::Runs => "runs.rows",
             Kind::Memory => "memory.rows",
             Kind::Lists => "lists.rows",
@@ -66,6 +69,7 @@ impl Table for KindTable {
             Kind::Steps => steps::answer(alloc, given),
             Kind::Divisions => divisions::answer(alloc, given),
             Kind::Assembly => assembly::answer(alloc, given),
+            Kind::AssemblyWords => assembly_words::answer(alloc, given),
             Kind::Runs => runs::answer(alloc, given),
             Kind::Memory => memory::answer(alloc, &mut self.mem, given),
             Kind::Lists => lists::answer(alloc, given),

@@ -5,6 +5,7 @@
 #![tactic(auto)]
 
 mod assembly;
+mod assembly_words;
 mod divisions;
 mod encodings;
 mod integers;

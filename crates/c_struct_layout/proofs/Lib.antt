@@ -1,0 +1,4 @@
+pub mod Greatest
+pub mod Laid
+pub mod Members
+pub mod Rounding

@@ -1,0 +1,2 @@
+pub mod StructLayout
+pub mod model

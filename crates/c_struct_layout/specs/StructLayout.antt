@@ -1,0 +1,59 @@
+-- A struct from its members' names and types: each member lies at the next multiple of its alignment, and the whole is
+-- rounded up to the greatest alignment (C99 6.7.2.1).
+use Rattle.std.specs.Prelude.{ℕ, ◌+◌, max, nat_le, true, if◌then◌else◌, List, [], ◌∷◌, Option, Some, None}
+use Rattle.data_object.specs.declared.TheConstants.{MOST_DATA}
+use Rattle.c_typed_tree.specs.declared.types.StructDef.{StructDef}
+use Rattle.c_typed_tree.specs.declared.types.Member.{Member}
+use Rattle.c_typed_tree.specs.Layout.{size_of, align_of, aligned_up, greatest_align}
+use Rattle.c_typed_tree.specs.Typing.{depth_of}
+use Rattle.c_typed_tree.specs.View.{type_view}
+use Rattle.c_struct_layout.specs.declared.fields.Field.{Field}
+
+-- a member of which the one before ends at `end`
+abbrev pub place_of : List StructDef → (end : ℕ) → Field → ℕ
+place_of ds end f = aligned_up (align_of ds (type_view f.ty)) end
+
+abbrev pub end_of : List StructDef → (end : ℕ) → Field → ℕ
+end_of ds end f = place_of ds end f + size_of ds (type_view f.ty)
+
+abbrev pub member_of : List StructDef → (end : ℕ) → Field → Member
+member_of ds end f = record { name = f.name; ty = f.ty; offset = place_of ds end f }
+
+-- the members in order, and where the last one ends
+abbrev pub members_from : List StructDef → (end : ℕ) → List Field → List Member
+members_from ds end [] = []
+members_from ds end (f ∷ fs) = member_of ds end f ∷ members_from ds (end_of ds end f) fs
+
+abbrev pub end_behind : List StructDef → (end : ℕ) → List Field → ℕ
+end_behind ds end [] = end
+end_behind ds end (f ∷ fs) = end_behind ds (end_of ds end f) fs
+
+-- the depth of the deepest member
+abbrev pub deepest : List StructDef → List Field → ℕ
+deepest ds [] = 0
+deepest ds (f ∷ fs) = max (depth_of ds (type_view f.ty)) (deepest ds fs)
+
+-- a struct of these members, of this size
+abbrev pub struct_with : List StructDef → (tag : List ℕ) → (members : List Member) → (depth size : ℕ) → StructDef
+struct_with ds tag ms depth size = record {
+  tag = tag;
+  complete = true;
+  members = ms;
+  size = size;
+  align = greatest_align ds ms;
+  depth = 1 + depth;
+}
+
+abbrev pub struct_within : List StructDef → (tag : List ℕ) → (members : List Member) → (depth size : ℕ) → Option StructDef
+struct_within ds tag ms depth size =
+    if nat_le size MOST_DATA then Some (struct_with ds tag ms depth size) else None
+
+-- members that end there, rounded up to the greatest alignment
+abbrev pub whole_size : List StructDef → List Member → (end : ℕ) → ℕ
+whole_size ds ms end = aligned_up (greatest_align ds ms) end
+
+-- the struct, unless it is larger than the data may be
+abbrev pub struct_of : List StructDef → (tag : List ℕ) → List Field → Option StructDef
+struct_of ds tag fs =
+    struct_within ds tag (members_from ds 0 fs) (deepest ds fs)
+    (whole_size ds (members_from ds 0 fs) (end_behind ds 0 fs))

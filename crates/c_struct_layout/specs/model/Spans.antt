@@ -1,0 +1,19 @@
+-- Where members lie, as long as they lie within the data.
+use Rattle.std.specs.Prelude.{ℕ, nat_le, if◌then◌else◌, List, Option, Some, None}
+use Rattle.data_object.specs.declared.TheConstants.{MOST_DATA}
+use Rattle.c_typed_tree.specs.declared.types.StructDef.{StructDef}
+use Rattle.c_struct_layout.specs.declared.fields.Field.{Field}
+use Rattle.c_struct_layout.specs.declared.places.Span.{Span}
+use Rattle.c_struct_layout.specs.declared.fields.Placed.{Placed}
+use Rattle.c_struct_layout.specs.StructLayout.{place_of, end_of, members_from, end_behind}
+
+abbrev pub span : List StructDef → (end : ℕ) → Field → Option Span
+span ds end f =
+    if nat_le (end_of ds end f) MOST_DATA then Some (record { from = place_of ds end f; to = end_of ds end f })
+    else None
+
+abbrev pub placed : List StructDef → List Field → Option Placed
+placed ds fs =
+    if nat_le (end_behind ds 0 fs) MOST_DATA
+    then Some (record { members = members_from ds 0 fs; end = end_behind ds 0 fs })
+    else None
