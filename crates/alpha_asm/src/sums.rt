@@ -64,8 +64,9 @@ fn rise(sums: &[u64], range: Range) -> Range
 
 /// No more than the words from one item of a text to before another one.
 pub(crate) fn words_between(sums: &[u64], start: usize, end: usize) -> u64
-    ensures { (items : List AsmItem) (far : List Bool) → HoldsAtMost (sizes items far) sums.now → length far ≡ length items → start ≤ end →
-        end ≤ length items → result + place items far start ≤ place items far end }
+    ensures { (items : List AsmItem) (far : List Bool) → HoldsAtMost (sizes items far) sums.now →
+        length far ≡ length items → start ≤ end → end ≤ length items →
+        result + place items far start ≤ place items far end }
 {
     let count = sums.len() / 2;
     let end = end.min(count);

@@ -21,7 +21,7 @@ use Rattle.c_semantics.specs.Reasons.{Reason, ComparesApart, ComparesAtEnd}
 use Rattle.c_semantics.specs.Runs as r
 use Rattle.c_semantics.specs.Evaluates as w
 use Rattle.c_semantics.specs.Runs.{Run, State, ◌>>=◌, pure, undefined, trap, exit, turn, seen, set_memory, known, used, number, read_register, write_register}
-use Rattle.c_semantics.specs.Objects.{Place, Register, At, Scope, integer_of, accessed, load, store, copied, copy, held, read_at, read, write_at, write, pointer_to, move_reason, move, move_by, local_place, with_local, with_locals, offset_of, no_scope, with_local_object}
+use Rattle.c_semantics.specs.Objects.{Place, Register, At, Scope, integer_of, accessed, load, store, copied, copy, held, as_held, given, read_at, read, write_at, write, pointer_to, move_reason, move, move_by, local_place, with_local, with_locals, offset_of, no_scope, with_local_object}
 use Rattle.c_semantics.specs.Operators.{unless_dead, outcome, integers, converted, compared, pure_truth, distance, pointers, pointer_and_integer, with_integer, with_pointer, binary, unary, test_in, test, convert, operation_type, combined_in, combined, step_operator, one_type, stepped, operator_of}
 use Rattle.mem_model.specs.World.{Rooms}
 use Rattle.c_typed_tree.specs.declared.expressions.Builtin.{Builtin}
@@ -122,8 +122,20 @@ module _ (R : (A : Type 0) → Run A → Run A → Type 0) (kept : Congruence R)
   steady_read_at (Array element n) p = kept.pure p
   steady_read_at (Struct n) p = kept.pure p
 
+  pub steady_as_held : (ty : PlainType) (v : Value) → Itself (as_held ty v)
+  steady_as_held Void v = kept.pure v
+  steady_as_held (Int n s) v = steady_held (integer_of (Int n s)) v
+  steady_as_held (Pointer target) v = kept.pure v
+  steady_as_held (Array element n) v = kept.pure v
+  steady_as_held (Struct n) v = kept.pure v
+
+  pub steady_given : (ty : PlainType) (v : Value) → Itself (given ty v)
+  steady_given ty Unset = kept.pure _
+  steady_given ty (Word n) = steady_as_held ty (Word n)
+  steady_given ty (Address p) = steady_as_held ty (Address p)
+
   pub steady_read_place : (ty : PlainType) (p : Place) → Itself (read ty p)
-  steady_read_place ty (Register k) = kept.register k
+  steady_read_place ty (Register k) = kept.bind (kept.register k) (steady_as_held ty)
   steady_read_place ty (At p) = steady_read_at ty p
 
   pub steady_write_at : (ds : List StructDef) (ty : PlainType) (p v : Value) → Itself (write_at ds ty p v)
@@ -380,7 +392,8 @@ module _ (R : (A : Type 0) → Run A → Run A → Type 0) (kept : Congruence R)
       eval_related scope (Number ty n) = kept.pure _
       eval_related scope (e.Local ty k) = kept.bind (steady_local scope k (slice_get ls k)) (steady_read_place ty)
       eval_related scope (Global ty k) = steady_read_at ty _
-      eval_related scope (Call ty callee es) = kept.bind (evals_related scope es) (call_related callee)
+      eval_related scope (Call ty callee es) =
+          kept.bind (kept.bind (evals_related scope es) (call_related callee)) (steady_given ty)
       eval_related scope (Unary ty u.Address x) = kept.bind (place_related scope x) steady_pointer
       eval_related scope (Unary ty u.Dereference x) = kept.bind (kept.bind (eval_related scope x) (steady_used _)) (steady_read_at ty)
       eval_related scope (Unary ty u.Increment x) = kept.bind (place_related scope x) (related_update ds ty _ (steady_stepped ds s.Increment ty))

@@ -387,7 +387,9 @@ call_refines c {xs = xs} {ys = ys} g t callee fit rule = record {
   memory = λ p. p;
   constants = λ n e. absurd (none-some n e);
   built = λ p. p;
-  value = λ f i scope. kept.bind (g.values f i scope) (forms.call_related BelowOf kept c.structs c.locals f f i callee);
+  value = λ f i scope.
+      kept.bind (kept.bind (g.values f i scope) (forms.call_related BelowOf kept c.structs c.locals f f i callee))
+      (forms.steady_given BelowOf kept t);
   stands = λ f i scope. kept.undefined _;
 }
 

@@ -20,7 +20,7 @@ use Rattle.c_typed_tree.specs.Expressions.{Expr, Number, Global, Call, Unary, Bi
 use Rattle.c_typed_tree.specs.Expressions as e
 use Rattle.c_semantics.specs.Reasons.{UsesNoValue, AccessesOutside}
 use Rattle.c_semantics.specs.Runs.{with_outer, Run, ◌>>=◌, ◌>>◌, pure, undefined, trap, exit, turn, used, number}
-use Rattle.c_semantics.specs.Objects.{Place, At, start_of, read_at, read, write, pointer_to, move, move_by, offset_of, Scope, local_place, integer_of}
+use Rattle.c_semantics.specs.Objects.{Place, At, start_of, given, read_at, read, write, pointer_to, move, move_by, offset_of, Scope, local_place, integer_of}
 use Rattle.c_semantics.specs.Operators.{binary, unary, test, convert, operator_of, combined, stepped, pure_truth}
 
 -- ---- what the world outside does
@@ -117,7 +117,7 @@ module _ (ds : List StructDef) (ls : List Local) (functions : Functions) where
     eval scope (Number ty n) = pure (Word n)
     eval scope (e.Local ty k) = local_place scope k (slice_get ls k) >>= read ty
     eval scope (Global ty k) = read_at ty (start_of k)
-    eval scope (Call ty callee es) = evals scope es >>= call functions callee
+    eval scope (Call ty callee es) = evals scope es >>= call functions callee >>= given ty
     eval scope (Unary ty u.Address x) = place scope x >>= pointer_to
     eval scope (Unary ty u.Dereference x) = eval scope x >>= used UsesNoValue >>= read_at ty
     eval scope (Unary ty u.Increment x) = place scope x >>= update ds ty (stepped ds s.Increment ty) new_value

@@ -75,8 +75,24 @@ read_at (Pointer target) p = load 8 true p
 read_at (Array element n) p = pure p
 read_at (Struct n) p = pure p
 
+-- a value as its type holds it
+abbrev pub as_held : PlainType → Value → Run Value
+as_held Void v = pure v
+as_held (Int bytes signed) v = held (integer_of (Int bytes signed)) v
+as_held (Pointer target) v = pure v
+as_held (Array element n) v = pure v
+as_held (Struct n) v = pure v
+
+-- what a call gave, which may be nothing
+abbrev pub given : PlainType → Value → Run Value
+given ty Unset = pure Unset
+given ty (Word n) = as_held ty (Word n)
+given ty (Address p) = as_held ty (Address p)
+
+-- a register is read by its type too: so an expression gives a word of its type in every state, and not only in those
+-- that a run comes to
 abbrev pub read : PlainType → Place → Run Value
-read ty (Register k) = read_register k
+read ty (Register k) = read_register k >>= as_held ty
 read ty (At p) = read_at ty p
 
 -- a value is written, by its type; it is used

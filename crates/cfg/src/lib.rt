@@ -7,6 +7,8 @@ mod predecessors;
 mod renumber;
 mod search;
 mod successors;
+#[cfg(test)]
+mod tests;
 pub mod unreachable;
 
 pub use graph::{Graph, build};

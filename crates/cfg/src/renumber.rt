@@ -21,7 +21,8 @@ fn number_behind(number: u32, mark: bool) -> u32
 /// The numbers of the marked blocks where no others stand between them. That of another block is the next one's.
 pub(crate) fn numbers_of(alloc: Global, marks: &[bool]) -> Result<Vec<u32>, AllocError>
     requires { length marks.now < 2 ^ 32 - 1 }
-    ensures { IfOk result (λ numbers. numbers.items ≡ map (number_in marks.now) (range_with_len 0 (length marks.now))) }
+    ensures { IfOk result (λ numbers.
+        numbers.items ≡ map (number_in marks.now) (range_with_len 0 (length marks.now))) }
 {
     let mut numbers = Vec::new(alloc);
     let mut next = 0;
@@ -78,7 +79,8 @@ fn keep_block<I: Insn>(
 ) -> Result<(), AllocError>
     requires within { All (λ i. All (λ target. target < length numbers.now) (I.targets i)) block }
     requires straight { EndsLate I.targets I.flows_on block }
-    ensures { OnOk result (kept.new ≡ kept.old ++ (if mark then map (renumber I.targets I.with_target numbers.now) block ∷ [] else [])) }
+    ensures { OnOk result (kept.new ≡
+        kept.old ++ (if mark then map (renumber I.targets I.with_target numbers.now) block ∷ [] else [])) }
 {
     if !mark {
         return Ok(());
@@ -98,7 +100,8 @@ pub(crate) fn marked_blocks<I: Insn>(
     requires count { length marks.now ≡ length blocks }
     requires within { AllInsns (λ i. All (λ target. target < length numbers.now) (I.targets i)) blocks }
     requires straight { All (EndsLate I.targets I.flows_on) blocks }
-    ensures { IfOk result (λ kept. kept ≡ map (map (renumber I.targets I.with_target numbers.now)) (marked_of marks.now blocks)) }
+    ensures { IfOk result (λ kept.
+        kept ≡ map (map (renumber I.targets I.with_target numbers.now)) (marked_of marks.now blocks)) }
 {
     let mut kept = Seq::new(alloc);
     let mut number = 0;

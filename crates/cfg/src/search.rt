@@ -53,7 +53,8 @@ fn search(marks: &mut [bool], alloc: Global, followers: &[Seq<u32>]) -> Result<(
     requires none { marks.old ≡ replicate (length followers.now) false }
     ensures count { length marks.new ≡ length marks.old }
     ensures only { OnOk result ((block : ℕ) → slice_get marks.new block ≡ Some true → Reached followers.now block) }
-    ensures all { OnOk result ((block : ℕ) → block < length followers.now → Reached followers.now block → slice_get marks.new block ≡ Some true) }
+    ensures all { OnOk result ((block : ℕ) → block < length followers.now → Reached followers.now block →
+        slice_get marks.new block ≡ Some true) }
 {
     let mut found = Seq::new(alloc);
     visit(marks, &mut found, 0)?;
@@ -71,8 +72,10 @@ fn search(marks: &mut [bool], alloc: Global, followers: &[Seq<u32>]) -> Result<(
 pub(crate) fn reached_marks(alloc: Global, followers: &[Seq<u32>]) -> Result<Vec<bool>, AllocError>
     requires { length followers.now < 2 ^ 32 }
     ensures count { IfOk result (λ marks. length marks.items ≡ length followers.now) }
-    ensures only { IfOk result (λ marks. (block : ℕ) → slice_get marks.items block ≡ Some true → Reached followers.now block) }
-    ensures all { IfOk result (λ marks. (block : ℕ) → block < length followers.now → Reached followers.now block → slice_get marks.items block ≡ Some true) }
+    ensures only { IfOk result (λ marks.
+        (block : ℕ) → slice_get marks.items block ≡ Some true → Reached followers.now block) }
+    ensures all { IfOk result (λ marks. (block : ℕ) → block < length followers.now → Reached followers.now block →
+        slice_get marks.items block ≡ Some true) }
 {
     let mut marks = unmarked(alloc, followers.len())?;
     search(marks.as_mut_slice(), alloc, followers)?;

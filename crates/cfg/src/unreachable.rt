@@ -44,7 +44,9 @@ pub fn remove_unreachable<I: Insn>(alloc: Global, f: Func<I>) -> Result<Func<I>,
     ensures objects { IfOk result (λ g. g.objects ≡ f.objects) }
     ensures blocks { IfOk result (λ g. length g.blocks ≤ length f.blocks) }
     ensures insns { IfOk result (λ g. count_of g.blocks ≤ count_of f.blocks) }
-    ensures edges { IfOk result (λ g. edge_count (successors_from I.targets I.flows_on 0 g.blocks) ≤ edge_count (successors_from I.targets I.flows_on 0 f.blocks)) }
+    ensures edges { IfOk result (λ g.
+        edge_count (successors_from I.targets I.flows_on 0 g.blocks)
+        ≤ edge_count (successors_from I.targets I.flows_on 0 f.blocks)) }
 {
     let Func {
         name,

@@ -1,0 +1,2 @@
+pub mod Null
+pub mod model

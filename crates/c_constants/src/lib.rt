@@ -1,0 +1,8 @@
+//! The values of constant expressions, read off their typed trees (C99 6.6).
+#![tactic(auto)]
+
+mod evaluate;
+mod evaluation;
+mod operators;
+
+pub use evaluate::{constant, is_null_pointer_constant};
