@@ -60,7 +60,8 @@ struct Plan {
 #[tactic(auto, using(crate::proofs::Whole::targets_made, crate::proofs::Whole::plan_made))]
 fn plan_of(alloc: Global, items: &[AsmItem]) -> Result<Plan, AllocError>
     requires { AreSound items.now }
-    ensures { IfOk result (λ p. IsPlan items.now p.targets.of_items.items p.targets.entry p.layout.far.items p.layout.places.items) }
+    ensures { IfOk result
+        (λ p. IsPlan items.now p.targets.of_items.items p.targets.entry p.layout.far.items p.layout.places.items) }
 {
     let targets = targets_of(alloc, items)?;
     let layout = lay_out(alloc, items, targets.of_items.as_slice())?;
@@ -95,7 +96,10 @@ fn text_of(
     requires plan { IsPlan items.now plan.now.targets.of_items.items plan.now.targets.entry plan.now.layout.far.items plan.now.layout.places.items }
     requires few { text_words items.now plan.now.layout.far.items ≤ most_words }
     requires start { start < 2 ^ 31 - 2 ^ 27 }
-    ensures words { IfOk result (λ w. w.items ≡ map word_of (text_insns (label_place items.now plan.now.layout.far.items) start 0 items.now plan.now.layout.far.items)) }
+    ensures words { IfOk result
+        (λ w. w.items
+        ≡ map word_of
+        (text_insns (label_place items.now plan.now.layout.far.items) start 0 items.now plan.now.layout.far.items)) }
 {
     let mut words = Vec::with_capacity(alloc, count_of(items, plan) as usize)?;
     put_text(
@@ -132,7 +136,8 @@ fn image_of(
     ensures image { IfOk result (λ i. Words (record { items = items.now; bytes = bytes.now; fixes = fixes.now }) i) }
     ensures lawful { IfOk result (λ i. IsLawful i) }
     ensures fits { IfOk result (λ _. HasFewWords (record { items = items.now; bytes = bytes.now; fixes = fixes.now })) }
-    ensures fault { IfErr result (λ f. IsFaultOf (record { items = items.now; bytes = bytes.now; fixes = fixes.now }) f) }
+    ensures fault { IfErr result
+        (λ f. IsFaultOf (record { items = items.now; bytes = bytes.now; fixes = fixes.now }) f) }
 {
     let plan = plan_of(alloc, items)?;
     let count = count_of(items, &plan);

@@ -82,7 +82,9 @@ fn put_address(words: &mut Vec<u32>, ra: u8, address: u64) -> Result<(), AllocEr
 fn put_jump(words: &mut Vec<u32>, op: JumpOp, ra: u8, address: u64) -> Result<(), AllocError>
     requires register { ra < 32 }
     requires address { address < most_address }
-    ensures { OnOk result (words.new.items ≡ words.old.items ++ map word_of (address_insns scratch address ++ fields.Jump op ra scratch ∷ [])) }
+    ensures { OnOk result
+        (words.new.items ≡ words.old.items
+        ++ map word_of (address_insns scratch address ++ fields.Jump op ra scratch ∷ [])) }
 {
     put_address(words, SCRATCH, address)?;
     put(
@@ -165,7 +167,8 @@ fn put_branch(
     requires here { length words.old.items ≤ most_words }
     requires there { there ≤ most_words }
     requires reaches { far ≡ false → IsBranchDisplacement (layout.displacement (length words.old.items) there) }
-    ensures { OnOk result (words.new.items ≡ words.old.items ++ map word_of (branch_insns far op ra (length words.old.items) there)) }
+    ensures { OnOk result
+        (words.new.items ≡ words.old.items ++ map word_of (branch_insns far op ra (length words.old.items) there)) }
 {
     if far {
         return put_far(words, op, ra, TEXT_START + 4 * there);
@@ -188,7 +191,9 @@ fn put_item(
     requires there { there ≤ most_words }
     requires start { start < 2 ^ 31 - 2 ^ 27 }
     requires reaches { far ≡ false → ItemReaches (λ _. there) (length words.old.items) item.now }
-    ensures { OnOk result (words.new.items ≡ words.old.items ++ map word_of (item_insns (λ _. there) start (length words.old.items) far item.now)) }
+    ensures { OnOk result
+        (words.new.items ≡ words.old.items
+        ++ map word_of (item_insns (λ _. there) start (length words.old.items) far item.now)) }
 {
     match item {
         AsmItem::Label(_) => Ok(()),
@@ -214,7 +219,8 @@ pub(crate) fn put_text(
     requires empty { words.old.items ≡ [] }
     requires laid_out { IsLaidOut items.now targets.now far.now places.now }
     requires start { start < 2 ^ 31 - 2 ^ 27 }
-    ensures { OnOk result (words.new.items ≡ map word_of (text_insns (label_place items.now far.now) start 0 items.now far.now)) }
+    ensures { OnOk result
+        (words.new.items ≡ map word_of (text_insns (label_place items.now far.now) start 0 items.now far.now)) }
 {
     for i in 0..items.len() {
         put_item(words, &items[i], far[i], places[targets[i]], start)?;

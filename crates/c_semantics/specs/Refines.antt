@@ -161,7 +161,8 @@ pub data WeighNoMore (unit : TypedUnit) : List TypedFn → List TypedFn → Type
 pub record UnitRefines (a b : TypedUnit) : Type 0 where
   pub typed : IsTypedUnit a
   pub weight : WeighNoMore b a.functions b.functions
-  pub runs : (rooms : Rooms) (input : List ℕ) (turns : ℕ) → EndingRefines (run a rooms input turns) (run b rooms input turns)
+  pub runs : (rooms : Rooms) (input : List ℕ) (turns : ℕ) →
+      EndingRefines (run a rooms input turns) (run b rooms input turns)
 
 -- refined functions refine a well typed unit
 abbrev pub UnitsRefine : Type 0

@@ -48,7 +48,8 @@ abbrev pub is_object : List StructDef → PlainType → Bool
 is_object ds Void = false
 is_object ds (Int bytes signed) = true
 is_object ds (Pointer target) = true
-is_object ds (Array element length) = is_object ds element && nat_le 1 length && nat_le (size_of ds element * length) MOST_DATA
+is_object ds (Array element length) =
+    is_object ds element && nat_le 1 length && nat_le (size_of ds element * length) MOST_DATA
 is_object ds (Struct number) = is_complete (slice_get ds number)
 
 -- ---- members

@@ -35,12 +35,17 @@ unfoldable mutual
   expr_view (e.Global ty number) = p.Global (type_view ty) number
   expr_view (e.Call' ty callee _ xs) = p.Call (type_view ty) callee (expr_row xs)
   expr_view (e.Unary' ty op _ (e.more_of-TExpr x e.end_of-TExpr)) = p.Unary (type_view ty) op (expr_view x)
-  expr_view (e.Binary' ty op _ (e.more_of-TExpr x e.end_of-TExpr) _ (e.more_of-TExpr y e.end_of-TExpr)) = p.Binary (type_view ty) op (expr_view x) (expr_view y)
-  expr_view (e.Assign' ty op _ (e.more_of-TExpr x e.end_of-TExpr) _ (e.more_of-TExpr y e.end_of-TExpr)) = p.Assign (type_view ty) op (expr_view x) (expr_view y)
-  expr_view (e.Conditional' ty _ (e.more_of-TExpr x e.end_of-TExpr) _ (e.more_of-TExpr y e.end_of-TExpr) _ (e.more_of-TExpr z e.end_of-TExpr)) = p.Conditional (type_view ty) (expr_view x) (expr_view y) (expr_view z)
+  expr_view (e.Binary' ty op _ (e.more_of-TExpr x e.end_of-TExpr) _ (e.more_of-TExpr y e.end_of-TExpr)) =
+      p.Binary (type_view ty) op (expr_view x) (expr_view y)
+  expr_view (e.Assign' ty op _ (e.more_of-TExpr x e.end_of-TExpr) _ (e.more_of-TExpr y e.end_of-TExpr)) =
+      p.Assign (type_view ty) op (expr_view x) (expr_view y)
+  expr_view
+      (e.Conditional' ty _ (e.more_of-TExpr x e.end_of-TExpr) _ (e.more_of-TExpr y e.end_of-TExpr) _
+      (e.more_of-TExpr z e.end_of-TExpr)) = p.Conditional (type_view ty) (expr_view x) (expr_view y) (expr_view z)
   expr_view (e.Cast' ty _ (e.more_of-TExpr x e.end_of-TExpr)) = p.Cast (type_view ty) (expr_view x)
   expr_view (e.Convert' ty _ (e.more_of-TExpr x e.end_of-TExpr)) = p.Convert (type_view ty) (expr_view x)
-  expr_view (e.Index' ty _ (e.more_of-TExpr x e.end_of-TExpr) _ (e.more_of-TExpr y e.end_of-TExpr)) = p.Index (type_view ty) (expr_view x) (expr_view y)
+  expr_view (e.Index' ty _ (e.more_of-TExpr x e.end_of-TExpr) _ (e.more_of-TExpr y e.end_of-TExpr)) =
+      p.Index (type_view ty) (expr_view x) (expr_view y)
   expr_view (e.Field' ty _ (e.more_of-TExpr x e.end_of-TExpr) member) = p.Field (type_view ty) (expr_view x) member
   expr_view (e.Arrow' ty _ (e.more_of-TExpr x e.end_of-TExpr) member) = p.Arrow (type_view ty) (expr_view x) member
   expr_view (e.Postfix' ty op _ (e.more_of-TExpr x e.end_of-TExpr)) = p.Postfix (type_view ty) op (expr_view x)

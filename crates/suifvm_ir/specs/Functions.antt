@@ -25,7 +25,8 @@ module _ {I : Type 0} where
 
   -- each register that an instruction names is one of so many
   abbrev pub UsesRegisters : (reads writes : I → List ℕ) → (temps : ℕ) → I → Type 0
-  UsesRegisters reads writes temps i = All (λ register. register < temps) (reads i) × All (λ register. register < temps) (writes i)
+  UsesRegisters reads writes temps i =
+      All (λ register. register < temps) (reads i) × All (λ register. register < temps) (writes i)
 
   -- an instruction is followed by the next one alone
   abbrev pub IsStraight : (targets : I → List ℕ) → (flows_on : I → Bool) → I → Type 0

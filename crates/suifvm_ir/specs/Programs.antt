@@ -68,9 +68,11 @@ alignment_bytes Eight = 8
 -- what an instruction names is there: an address lies in its object or at its end, a call gives as many arguments as
 -- the function takes, a copy has a whole number of units of its alignment
 abbrev pub names_what_is_there : List VmFunction → List DataObject → List Object → VmInsn → Bool
-names_what_is_there functions globals objects (LoadAddress destination place plus) = place_reaches globals objects plus place
+names_what_is_there functions globals objects (LoadAddress destination place plus) =
+    place_reaches globals objects plus place
 names_what_is_there functions globals objects (Copy to from size align) = size % alignment_bytes align == 0
-names_what_is_there functions globals objects (Call destination callee arguments) = callee_takes functions (length arguments) callee
+names_what_is_there functions globals objects (Call destination callee arguments) =
+    callee_takes functions (length arguments) callee
 names_what_is_there functions globals objects _ = true
 
 -- a block begins with a mark
@@ -92,7 +94,8 @@ pub record IsLawfulFunction (functions : List VmFunction) (globals : List DataOb
   pub parameters : f.params ≤ f.temps
   pub main : is_main f ≡ true → f.params ≡ 0
   pub names : AllInsns (λ i. IsTrue (names_what_is_there functions globals f.objects i)) f.blocks
-  pub marks : (block : ℕ) → block < length f.blocks → All (λ i. IsTrue (goes_back_to_marks f.blocks block i)) (slice_index_or f.blocks block [])
+  pub marks : (block : ℕ) → block < length f.blocks →
+      All (λ i. IsTrue (goes_back_to_marks f.blocks block i)) (slice_index_or f.blocks block [])
 
 -- what counts for an instruction besides itself: its arguments, and twice the cells that it copies
 abbrev pub weight_of : VmInsn → ℕ

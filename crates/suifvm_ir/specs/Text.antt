@@ -141,9 +141,11 @@ insn_text functions (LoadAddress destination place plus) =
 insn_text functions (Load ty destination pointer plus) =
     typed_text (codes "lod") (memory_word ty) (two_registers destination pointer ++ codes ", " ++ signed_decimal plus)
 insn_text functions (Store ty pointer plus value) =
-    typed_text (codes "str") (memory_word ty) (register_text pointer ++ codes ", " ++ signed_decimal plus ++ codes ", " ++ register_text value)
+    typed_text (codes "str") (memory_word ty)
+    (register_text pointer ++ codes ", " ++ signed_decimal plus ++ codes ", " ++ register_text value)
 insn_text functions (Copy to from size align) =
-    codes "mcpy " ++ two_registers to from ++ codes ", " ++ decimal size ++ codes ", " ++ decimal (alignment_bytes align)
+    codes "mcpy " ++ two_registers to from ++ codes ", " ++ decimal size ++ codes ", "
+    ++ decimal (alignment_bytes align)
 insn_text functions (Unary op ty destination source) =
     typed_text (unary_word op) (type_word ty) (two_registers destination source)
 insn_text functions (Binary op ty destination left right) =
@@ -192,7 +194,8 @@ function_text functions number f = codes "func " ++ f.name ++ codes "\n" ++ bloc
 -- the functions, whose instructions are counted over all of them
 abbrev pub functions_text : List VmFunction → (number : ℕ) → List VmFunction → List ℕ
 functions_text functions number [] = []
-functions_text functions number (f ∷ fs) = function_text functions number f ++ functions_text functions (number + count_of f.blocks) fs
+functions_text functions number (f ∷ fs) =
+    function_text functions number f ++ functions_text functions (number + count_of f.blocks) fs
 
 abbrev pub program_text : List VmFunction → List ℕ
 program_text functions = functions_text functions 0 functions

@@ -37,7 +37,8 @@ fn put_insns(
     insns: &IndexList<VmInsn>,
 ) -> Result<u64, AllocError>
     requires { number + length (items insns.now.pairs) < 2 ^ 64 }
-    ensures text { OnOk result (out.new.items ≡ out.old.items ++ text.insns_text functions.now number (items insns.now.pairs)) }
+    ensures text { OnOk result
+        (out.new.items ≡ out.old.items ++ text.insns_text functions.now number (items insns.now.pairs)) }
     ensures number { IfOk result (λ next. next ≡ number + length (items insns.now.pairs)) }
 {
     for line in insns.iter() {

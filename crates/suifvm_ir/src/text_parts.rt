@@ -105,7 +105,8 @@ fn put_triple(
     b: u32,
     c: u32,
 ) -> Result<(), AllocError>
-    ensures { OnOk result (out.new.items ≡ out.old.items ++ text.typed_text op.now ty.now (text.three_registers a b c)) }
+    ensures { OnOk result
+        (out.new.items ≡ out.old.items ++ text.typed_text op.now ty.now (text.three_registers a b c)) }
 {
     put_typed(out, op, ty)?;
     put_three(out, a, b, c)
@@ -190,7 +191,8 @@ fn put_address(
     plus: u64,
 ) -> Result<(), AllocError>
     ensures { OnOk result (out.new.items ≡ out.old.items
-        ++ (codes "lda " ++ text.register_text destination ++ codes ", " ++ text.place_name place ++ codes "+" ++ decimal plus)) }
+        ++ (codes "lda " ++ text.register_text destination ++ codes ", " ++ text.place_name place ++ codes "+"
+        ++ decimal plus)) }
 {
     put(out, "lda ")?;
     put_register(out, destination)?;
@@ -209,7 +211,8 @@ fn put_load(
     plus: i64,
 ) -> Result<(), AllocError>
     ensures { OnOk result (out.new.items ≡ out.old.items
-        ++ text.typed_text (codes "lod") ty.now (text.two_registers destination pointer ++ codes ", " ++ signed_decimal plus)) }
+        ++ text.typed_text (codes "lod") ty.now
+        (text.two_registers destination pointer ++ codes ", " ++ signed_decimal plus)) }
 {
     put_typed(out, "lod", ty)?;
     put_two(out, destination, pointer)?;

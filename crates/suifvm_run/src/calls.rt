@@ -64,7 +64,8 @@ fn push_registers(
 ) -> Result<(), AllocError>
     requires base { base ≤ end }
     requires end { end ≡ length stack.old.items }
-    ensures { OnOk result (stack.new.items ≡ stack.old.items ++ map (registers_of (drop base stack.old.items)) registers.now) }
+    ensures { OnOk result
+        (stack.new.items ≡ stack.old.items ++ map (registers_of (drop base stack.old.items)) registers.now) }
 {
     for register in registers {
         let value = register_in(&stack[..end], base, *register);
@@ -116,7 +117,8 @@ impl<'c, 'p> Machine<'c, 'p> {
         requires sound { config.IsSound self.old }
         requires within { self.old.here.at < length self.old.here.row.now.insns.items }
         ensures { (i : Insn) → config.TurnIs self.old self.new result (λ rooms h. config.act_there rooms self.old h i
-            (Calls function (map (registers_of (drop self.old.here.base self.old.stack.items)) arguments.now) (config.world_in self.old h).outer)) }
+            (Calls function (map (registers_of (drop self.old.here.base self.old.stack.items)) arguments.now)
+            (config.world_in self.old h).outer)) }
     {
         let program = self.program;
         let Some(table) = function_at(program, function) else {
@@ -158,7 +160,9 @@ impl<'c, 'p> Machine<'c, 'p> {
     fn leave(&mut self, value: Value) -> Turn
         requires sound { config.IsSound self.old }
         requires within { self.old.here.at < length self.old.here.row.now.insns.items }
-        ensures { (i : Insn) (vs : List AnyValue) → value ≡ first_or_unset vs → config.TurnIs self.old self.new result (λ rooms h. config.act_there rooms self.old h i (Returns vs (config.world_in self.old h).outer)) }
+        ensures { (i : Insn) (vs : List AnyValue) → value ≡ first_or_unset vs →
+            config.TurnIs self.old self.new result
+            (λ rooms h. config.act_there rooms self.old h i (Returns vs (config.world_in self.old h).outer)) }
     {
         let number = self.here.row.first + self.here.at as u64;
         let count = self.here.table.objects.len() as u64;
@@ -183,7 +187,9 @@ impl<'c, 'p> Machine<'c, 'p> {
         requires sound { config.IsSound self.old }
         requires within { self.old.here.at < length self.old.here.row.now.insns.items }
         ensures { (i : Insn) → config.TurnIs self.old self.new result (λ rooms h. config.act_there rooms self.old h i
-            (effect.return_act (Some typed) (registers_of (drop self.old.here.base self.old.stack.items) typed.register ∷ []) (config.world_in self.old h).outer)) }
+            (effect.return_act (Some typed)
+            (registers_of (drop self.old.here.base self.old.stack.items) typed.register ∷ [])
+            (config.world_in self.old h).outer)) }
     {
         let value = self.get(typed.register);
         if is_value_of(typed.ty, value) {
@@ -198,7 +204,9 @@ impl<'c, 'p> Machine<'c, 'p> {
         requires sound { config.IsSound self.old }
         requires within { self.old.here.at < length self.old.here.row.now.insns.items }
         ensures { (i : Insn) → config.TurnIs self.old self.new result (λ rooms h. config.act_there rooms self.old h i
-            (effect.return_act value (map (registers_of (drop self.old.here.base self.old.stack.items)) (insns.returned value)) (config.world_in self.old h).outer)) }
+            (effect.return_act value
+            (map (registers_of (drop self.old.here.base self.old.stack.items)) (insns.returned value))
+            (config.world_in self.old h).outer)) }
     {
         match value {
             None => self.leave(Value::Unset),
@@ -211,7 +219,8 @@ impl<'c, 'p> Machine<'c, 'p> {
     fn put_char(&mut self, destination: Option<u32>, value: Value) -> Turn
         requires sound { config.IsSound self.old }
         requires within { self.old.here.at < length self.old.here.row.now.insns.items }
-        ensures { (i : Insn) → insns.writes_of i ≡ insns.named destination → config.TurnIs self.old self.new result (λ rooms h. config.act_there rooms self.old h i
+        ensures { (i : Insn) → insns.writes_of i ≡ insns.named destination →
+            config.TurnIs self.old self.new result (λ rooms h. config.act_there rooms self.old h i
             (effect.puts_char value (config.world_in self.old h).outer)) }
     {
         match value {
@@ -249,8 +258,11 @@ impl<'c, 'p> Machine<'c, 'p> {
     ) -> Turn
         requires sound { config.IsSound self.old }
         requires within { self.old.here.at < length self.old.here.row.now.insns.items }
-        ensures { (i : Insn) → insns.writes_of i ≡ insns.named destination → config.TurnIs self.old self.new result (λ rooms h. config.act_there rooms self.old h i
-            (effect.builtin_act builtin (map (registers_of (drop self.old.here.base self.old.stack.items)) arguments.now) (config.world_in self.old h).outer)) }
+        ensures { (i : Insn) → insns.writes_of i ≡ insns.named destination →
+            config.TurnIs self.old self.new result (λ rooms h. config.act_there rooms self.old h i
+            (effect.builtin_act builtin
+            (map (registers_of (drop self.old.here.base self.old.stack.items)) arguments.now)
+            (config.world_in self.old h).outer)) }
     {
         let value = first(self.stack.as_slice(), self.here.base, arguments);
         match builtin {
@@ -271,8 +283,10 @@ impl<'c, 'p> Machine<'c, 'p> {
     ) -> Turn
         requires sound { config.IsSound self.old }
         requires within { self.old.here.at < length self.old.here.row.now.insns.items }
-        ensures { (i : Insn) → insns.writes_of i ≡ insns.named destination → config.TurnIs self.old self.new result (λ rooms h. config.act_there rooms self.old h i
-            (effect.call_act callee (map (registers_of (drop self.old.here.base self.old.stack.items)) arguments.now) (config.world_in self.old h).outer)) }
+        ensures { (i : Insn) → insns.writes_of i ≡ insns.named destination →
+            config.TurnIs self.old self.new result (λ rooms h. config.act_there rooms self.old h i
+            (effect.call_act callee (map (registers_of (drop self.old.here.base self.old.stack.items)) arguments.now)
+            (config.world_in self.old h).outer)) }
     {
         if !are_set(self.stack.as_slice(), self.here.base, arguments) {
             return self.fail();

@@ -101,7 +101,9 @@ pub(crate) fn set_register_in(
     value: Value,
 ) -> Result<(), AllocError>
     requires { base ≤ length stack.old.items }
-    ensures window { OnOk result (registers_of (drop base stack.new.items) ≡ set_register register value (registers_of (drop base stack.old.items))) }
+    ensures window { OnOk result
+        (registers_of (drop base stack.new.items)
+        ≡ set_register register value (registers_of (drop base stack.old.items))) }
     ensures below { OnOk result (take base stack.new.items ≡ take base stack.old.items) }
     ensures within { OnOk result (base ≤ length stack.new.items) }
 {

@@ -68,7 +68,9 @@ fn of_load(ty: Option<IntegerType>, loaded: Result<Value, MemFault>) -> Answer
 
 /// A load from an address.
 fn load_from(memory: &Mem, ty: Option<IntegerType>, p: Ptr) -> Answer
-    ensures { result ≡ operations.load_answer ty (mem.load_at memory.now p (operations.access_bytes ty) (operations.is_pointer_access ty)) }
+    ensures { result
+        ≡ operations.load_answer ty
+        (mem.load_at memory.now p (operations.access_bytes ty) (operations.is_pointer_access ty)) }
 {
     of_load(ty, memory.load(p, access_bytes(ty), is_pointer_access(ty)))
 }
@@ -102,7 +104,8 @@ fn is_storable(ty: Option<IntegerType>, value: Value) -> bool
 #[tactic(auto, using(crate::proofs::Tidiness::store_tidy, crate::proofs::Tidiness::store_count))]
 fn store_to(memory: &mut Mem, ty: Option<IntegerType>, p: Ptr, value: Value) -> bool
     requires { IsTidy memory.old }
-    ensures value { operations.store_through memory.old ty (Some (Value.Address p)) value ≡ (if result then Some memory.new else None) }
+    ensures value { operations.store_through memory.old ty (Some (Value.Address p)) value
+        ≡ (if result then Some memory.new else None) }
     ensures kept { OnFalse result (memory.new ≡ memory.old) }
     ensures tidy { IsTidy memory.new }
     ensures count { length memory.new ≡ length memory.old }
@@ -116,7 +119,8 @@ fn store_to(memory: &mut Mem, ty: Option<IntegerType>, p: Ptr, value: Value) -> 
 /// `str`: a store to a pointer moved by so many bytes. It answers whether it was done.
 pub fn store(memory: &mut Mem, ty: MemoryType, pointer: Value, plus: i64, value: Value) -> bool
     requires { IsTidy memory.old }
-    ensures value { operations.stored_memory memory.old ty pointer plus value ≡ (if result then Some memory.new else None) }
+    ensures value { operations.stored_memory memory.old ty pointer plus value
+        ≡ (if result then Some memory.new else None) }
     ensures kept { OnFalse result (memory.new ≡ memory.old) }
     ensures tidy { IsTidy memory.new }
     ensures count { length memory.new ≡ length memory.old }
@@ -145,7 +149,8 @@ fn bytes_of(align: Alignment) -> u32
 #[tactic(auto, using(crate::proofs::Tidiness::copy_tidy, crate::proofs::Tidiness::copy_count))]
 fn copy_cells(memory: &mut Mem, to: Ptr, from: Ptr, size: u64, align: u32) -> bool
     requires { IsTidy memory.old }
-    ensures value { operations.ok_of (mem.copy_at memory.old to from size align) ≡ (if result then Some memory.new else None) }
+    ensures value { operations.ok_of (mem.copy_at memory.old to from size align)
+        ≡ (if result then Some memory.new else None) }
     ensures kept { OnFalse result (memory.new ≡ memory.old) }
     ensures tidy { IsTidy memory.new }
     ensures count { length memory.new ≡ length memory.old }
@@ -156,7 +161,8 @@ fn copy_cells(memory: &mut Mem, to: Ptr, from: Ptr, size: u64, align: u32) -> bo
 /// `mcpy`: a copy of so many cells. It answers whether it was done.
 pub fn copy(memory: &mut Mem, to: Value, from: Value, size: u64, align: Alignment) -> bool
     requires { IsTidy memory.old }
-    ensures value { operations.copied_memory memory.old to from size (programs.alignment_bytes align) ≡ (if result then Some memory.new else None) }
+    ensures value { operations.copied_memory memory.old to from size (programs.alignment_bytes align)
+        ≡ (if result then Some memory.new else None) }
     ensures kept { OnFalse result (memory.new ≡ memory.old) }
     ensures tidy { IsTidy memory.new }
     ensures count { length memory.new ≡ length memory.old }

@@ -60,7 +60,10 @@ fn share_object(memory: &Mem, p: Ptr, q: Ptr) -> bool
 /// An address moved by so many bytes.
 fn address_plus(memory: &Mem, p: Ptr, by: i64) -> Option<Ptr>
     requires { IsTidy memory.now }
-    ensures { result ≡ pointers.when (pointers.is_live memory.now p && pointers.is_offset (p.offset +ℤ by) (pointers.size_at memory.now p)) (pointers.ptr_plus p by) }
+    ensures { result
+        ≡ pointers.when
+        (pointers.is_live memory.now p && pointers.is_offset (p.offset +ℤ by) (pointers.size_at memory.now p))
+        (pointers.ptr_plus p by) }
 {
     match memory.size_of(p.object) {
         None => None,
@@ -210,7 +213,9 @@ fn is_end(offset: i64, size: u64) -> bool
 
 /// `==` of two addresses (C99 6.5.9).
 fn addresses_eq(memory: &Mem, p: Ptr, q: Ptr) -> Option<bool>
-    ensures { result ≡ (if pointers.is_live memory.now p && pointers.is_live memory.now q then pointers.addresses_eq memory.now p q else None) }
+    ensures { result
+        ≡ (if pointers.is_live memory.now p && pointers.is_live memory.now q then pointers.addresses_eq memory.now p q
+        else None) }
 {
     let Some(size) = memory.size_of(p.object) else {
         return None;

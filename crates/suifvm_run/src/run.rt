@@ -48,10 +48,14 @@ impl<'c, 'p> Machine<'c, 'p> {
         ensures sound { IfNone result (config.IsSound self.new) }
         ensures program { IfNone result (self.new.program.now ≡ self.old.program.now) }
         ensures run { (rooms : Rooms) (start : Config Registers) (told : Traffic) →
-            progress.StandsAt rooms self.old.program.now start told (record { left = I.left input.old; made = I.made input.old; taken = O.taken out.old }) self.old →
-            progress.TurnEnds rooms self.old.program.now start turns told (record { left = I.left input.new; made = I.made input.new; taken = O.taken out.new }) self.new result }
-        ensures input_count { I.faults input.new ≡ input_faults_after (unwrap_or result VmEnding.NoMemory) (I.faults input.old) }
-        ensures output_count { O.faults out.new ≡ output_faults_after (unwrap_or result VmEnding.NoMemory) (O.faults out.old) }
+            progress.StandsAt rooms self.old.program.now start told
+            (record { left = I.left input.old; made = I.made input.old; taken = O.taken out.old }) self.old →
+            progress.TurnEnds rooms self.old.program.now start turns told
+            (record { left = I.left input.new; made = I.made input.new; taken = O.taken out.new }) self.new result }
+        ensures input_count { I.faults input.new
+            ≡ input_faults_after (unwrap_or result VmEnding.NoMemory) (I.faults input.old) }
+        ensures output_count { O.faults out.new
+            ≡ output_faults_after (unwrap_or result VmEnding.NoMemory) (O.faults out.old) }
     {
         match self.step() {
             Turn::Goes => None,
@@ -71,8 +75,8 @@ impl<'c, 'p> Machine<'c, 'p> {
         }
     }
 
-    /// Runs until the run stops, which had so many turns. After 2^64 - 1 steps, which no run lives to see, it gives up as
-    /// for want of memory.
+    /// Runs until the run stops, which had so many turns. After 2^64 - 1 steps, which no run lives to see, it gives up
+    /// as for want of memory.
     pub(crate) fn run<I: Source, O: Sink>(
         &mut self,
         turns: u64,
@@ -81,8 +85,10 @@ impl<'c, 'p> Machine<'c, 'p> {
     ) -> VmEnding
         requires { config.IsSound self.old }
         ensures run { (rooms : Rooms) (start : Config Registers) (told : Traffic) →
-            progress.StandsAt rooms self.old.program.now start told (record { left = I.left input.old; made = I.made input.old; taken = O.taken out.old }) self.old →
-            IsRun (progress.run_from rooms self.old.program.now start) turns result told (record { left = I.left input.new; made = I.made input.new; taken = O.taken out.new }) }
+            progress.StandsAt rooms self.old.program.now start told
+            (record { left = I.left input.old; made = I.made input.old; taken = O.taken out.old }) self.old →
+            IsRun (progress.run_from rooms self.old.program.now start) turns result told
+            (record { left = I.left input.new; made = I.made input.new; taken = O.taken out.new }) }
         ensures input_count { I.faults input.new ≡ input_faults_after result (I.faults input.old) }
         ensures output_count { O.faults out.new ≡ output_faults_after result (O.faults out.old) }
     {

@@ -54,7 +54,9 @@ impl<'c, 'p> Machine<'c, 'p> {
         requires sound { config.IsSound self.old }
         requires within { self.old.here.at < length self.old.here.row.now.insns.items }
         ensures { config.TurnIs self.old self.new result (λ rooms h. config.act_there rooms self.old h insn.now
-            (effect.does insn.now self.old.here.own (map (registers_of (drop self.old.here.base self.old.stack.items)) (insns.reads_of insn.now)) (config.world_in self.old h).outer)) }
+            (effect.does insn.now self.old.here.own
+            (map (registers_of (drop self.old.here.base self.old.stack.items)) (insns.reads_of insn.now))
+            (config.world_in self.old h).outer)) }
     {
         match insn {
             VmInsn::LoadConstant {
@@ -169,7 +171,9 @@ impl<'c, 'p> Machine<'c, 'p> {
     fn act_in_turn(&mut self, insn: &VmInsn) -> Turn
         requires sound { config.IsSound self.old }
         requires within { self.old.here.at < length self.old.here.row.now.insns.items }
-        ensures { slice_get (block_insns self.old.here.row.now) self.old.here.at ≡ Some insn.now → effect.takes_turn insn.now ≡ true → config.TurnIs self.old self.new result (λ rooms h. config.step_there rooms self.old h) }
+        ensures { slice_get (block_insns self.old.here.row.now) self.old.here.at ≡ Some insn.now →
+            effect.takes_turn insn.now ≡ true →
+            config.TurnIs self.old self.new result (λ rooms h. config.step_there rooms self.old h) }
     {
         if self.turns == 0 {
             return Turn::Over(Stop::Budget);

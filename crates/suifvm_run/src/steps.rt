@@ -33,7 +33,8 @@ fn is_taken(op: BranchOp, test: bool) -> bool
 impl<'c, 'p> Machine<'c, 'p> {
     /// The instruction where the call stands; `None` behind the last one of its block.
     pub(crate) fn fetch(&self) -> Option<&'p VmInsn>
-        ensures some { IfSome result (λ insn. slice_get (block_insns self.now.here.row.now) self.now.here.at ≡ Some insn.now) }
+        ensures some { IfSome result
+            (λ insn. slice_get (block_insns self.now.here.row.now) self.now.here.at ≡ Some insn.now) }
         ensures none { IfNone result (slice_get (block_insns self.now.here.row.now) self.now.here.at ≡ None) }
         ensures within { IsSome result → self.now.here.at < length self.now.here.row.now.insns.items }
     {
@@ -82,7 +83,9 @@ impl<'c, 'p> Machine<'c, 'p> {
     pub(crate) fn give(&mut self, destination: u32, answer: Answer) -> Turn
         requires sound { config.IsSound self.old }
         requires within { self.old.here.at < length self.old.here.row.now.insns.items }
-        ensures { (i : Insn) → insns.writes_of i ≡ destination ∷ [] → config.TurnIs self.old self.new result (λ rooms h. config.act_there rooms self.old h i (effect.writes answer (config.world_in self.old h).outer)) }
+        ensures { (i : Insn) → insns.writes_of i ≡ destination ∷ [] →
+            config.TurnIs self.old self.new result
+            (λ rooms h. config.act_there rooms self.old h i (effect.writes answer (config.world_in self.old h).outer)) }
     {
         match answer {
             Answer::Gives(value) => match self.write(Some(destination), value) {
@@ -98,7 +101,8 @@ impl<'c, 'p> Machine<'c, 'p> {
     #[tactic(auto, using(crate::proofs::Turns::to_block, crate::proofs::Turns::past_blocks))]
     pub(crate) fn go_to(&mut self, block: usize) -> Turn
         requires { config.IsSound self.old }
-        ensures { config.TurnIs self.old self.new result (λ rooms h. Goes (config.at_block block (config.config_of self.old h))) }
+        ensures { config.TurnIs self.old self.new result
+            (λ rooms h. Goes (config.at_block block (config.config_of self.old h))) }
     {
         let table = self.here.table;
         match block_at(table, block) {
@@ -129,8 +133,13 @@ impl<'c, 'p> Machine<'c, 'p> {
     ) -> Turn
         requires sound { config.IsSound self.old }
         requires within { self.old.here.at < length self.old.here.row.now.insns.items }
-        ensures { (i : Insn) → insns.writes_of i ≡ [] → config.TurnIs self.old self.new result (λ rooms h. config.act_there rooms self.old h i
-            (effect.changes (operations.stored_memory self.old.memory ty (registers_of (drop self.old.here.base self.old.stack.items) pointer) plus (registers_of (drop self.old.here.base self.old.stack.items) value)) (config.world_in self.old h).outer)) }
+        ensures { (i : Insn) → insns.writes_of i ≡ [] →
+            config.TurnIs self.old self.new result (λ rooms h. config.act_there rooms self.old h i
+            (effect.changes
+            (operations.stored_memory self.old.memory ty
+            (registers_of (drop self.old.here.base self.old.stack.items) pointer) plus
+            (registers_of (drop self.old.here.base self.old.stack.items) value))
+            (config.world_in self.old h).outer)) }
     {
         let to = self.get(pointer);
         let value = self.get(value);
@@ -147,8 +156,13 @@ impl<'c, 'p> Machine<'c, 'p> {
     pub(crate) fn copy_cells(&mut self, to: u32, from: u32, size: u64, align: Alignment) -> Turn
         requires sound { config.IsSound self.old }
         requires within { self.old.here.at < length self.old.here.row.now.insns.items }
-        ensures { (i : Insn) → insns.writes_of i ≡ [] → config.TurnIs self.old self.new result (λ rooms h. config.act_there rooms self.old h i
-            (effect.changes (operations.copied_memory self.old.memory (registers_of (drop self.old.here.base self.old.stack.items) to) (registers_of (drop self.old.here.base self.old.stack.items) from) size (programs.alignment_bytes align)) (config.world_in self.old h).outer)) }
+        ensures { (i : Insn) → insns.writes_of i ≡ [] →
+            config.TurnIs self.old self.new result (λ rooms h. config.act_there rooms self.old h i
+            (effect.changes
+            (operations.copied_memory self.old.memory
+            (registers_of (drop self.old.here.base self.old.stack.items) to)
+            (registers_of (drop self.old.here.base self.old.stack.items) from) size
+            (programs.alignment_bytes align)) (config.world_in self.old h).outer)) }
     {
         let to = self.get(to);
         let from = self.get(from);
@@ -165,7 +179,8 @@ impl<'c, 'p> Machine<'c, 'p> {
     pub(crate) fn branch(&mut self, op: BranchOp, test: Option<bool>, block: u32) -> Turn
         requires sound { config.IsSound self.old }
         requires within { self.old.here.at < length self.old.here.row.now.insns.items }
-        ensures { (i : Insn) → insns.targets_of i ≡ block ∷ [] → insns.writes_of i ≡ [] → config.TurnIs self.old self.new result (λ rooms h. config.act_there rooms self.old h i
+        ensures { (i : Insn) → insns.targets_of i ≡ block ∷ [] → insns.writes_of i ≡ [] →
+            config.TurnIs self.old self.new result (λ rooms h. config.act_there rooms self.old h i
             (effect.branches op test (config.world_in self.old h).outer)) }
     {
         match test {

@@ -91,7 +91,8 @@ sizes_in (Some f) = f.sizes
 -- the number of an instruction, counted over all functions from 0
 abbrev pub number_of : List FunctionCode → Point → ℕ
 number_of functions p =
-    sum_by (λ f. count_of f.blocks) (take p.function functions) + count_of (take p.block (blocks_in (slice_get functions p.function))) + p.at
+    sum_by (λ f. count_of f.blocks) (take p.function functions) + count_of
+    (take p.block (blocks_in (slice_get functions p.function))) + p.at
 
 -- the status is a number that was returned, modulo 256
 abbrev pub value_status : Value → Option ℕ
@@ -133,4 +134,5 @@ main_of functions = unwrap_or (position is_main functions) 0
 -- an instruction with a number, or for want of a turn (More), each in its last world, whose output and peak it has
 pub record behave_vm (rooms : Rooms) (program : VmProgram) (input : List ℕ) (turns : ℕ) (e : Ending) : Type 0 where
   pub steps : ℕ
-  pub over : vm_run rooms (map code_of program.functions) (main_of program.functions) (start_world program.globals input turns) steps ≡ Over e
+  pub over : vm_run rooms (map code_of program.functions) (main_of program.functions)
+      (start_world program.globals input turns) steps ≡ Over e

@@ -91,7 +91,8 @@ does (LoadConstant ty destination word) own vs o = writes (when_value ty (Word w
 does (LoadAddress destination place plus) own vs o = writes (Gives (place_address own place plus)) o
 does (Load ty destination pointer plus) own vs o = writes (loaded_answer o.memory ty (first vs) plus) o
 does (Store ty pointer plus value) own vs o = changes (stored_memory o.memory ty (first vs) plus (second vs)) o
-does (Copy to from size align) own vs o = changes (copied_memory o.memory (first vs) (second vs) size (alignment_bytes align)) o
+does (Copy to from size align) own vs o =
+    changes (copied_memory o.memory (first vs) (second vs) size (alignment_bytes align)) o
 does (Unary op ty destination source) own vs o = writes (unary_answer op ty (first vs)) o
 does (Binary op ty destination left right) own vs o = writes (binary_answer o.memory op ty (first vs) (second vs)) o
 does (Shift op ty destination source count) own vs o = writes (shift_answer op ty (first vs) (second vs)) o

@@ -58,39 +58,76 @@ object = record { name = []; size = 8; align = 1; offset = 0; writable = false; 
 
 pub record ExamplesRun : Type 0 where
   -- a byte is put, which is a turn, and is the status
-  pub puts : run_blocks ((LoadConstant S32 0 65 ∷ Call (Some 1) (Builtin PutChar) (0 ∷ []) ∷ give 1 ∷ []) ∷ []) [] 1 ≡ ShowsDone 65 (65 ∷ [])
-  pub wants_turn : run_blocks ((LoadConstant S32 0 65 ∷ Call (Some 1) (Builtin PutChar) (0 ∷ []) ∷ give 1 ∷ []) ∷ []) [] 0 ≡ ShowsMore []
+  pub puts : run_blocks ((LoadConstant S32 0 65 ∷ Call (Some 1) (Builtin PutChar) (0 ∷ []) ∷ give 1 ∷ []) ∷ []) [] 1
+      ≡ ShowsDone 65 (65 ∷ [])
+  pub wants_turn : run_blocks
+      ((LoadConstant S32 0 65 ∷ Call (Some 1) (Builtin PutChar) (0 ∷ []) ∷ give 1 ∷ []) ∷ []) [] 0 ≡ ShowsMore []
   -- bytes are read, and -1 at the end
-  pub gets : run_blocks ((Call (Some 0) (Builtin GetChar) [] ∷ Call (Some 1) (Builtin GetChar) [] ∷ Binary Add S32 2 0 1 ∷ give 2 ∷ []) ∷ []) (7 ∷ []) 2 ≡ ShowsDone 6 []
+  pub gets : run_blocks
+      ((Call (Some 0) (Builtin GetChar) [] ∷ Call (Some 1) (Builtin GetChar) [] ∷ Binary Add S32 2 0 1 ∷ give 2 ∷ [])
+      ∷ []) (7 ∷ []) 2 ≡ ShowsDone 6 []
   -- signed sums trap, unsigned ones wrap and are held with their sign
-  pub traps : run_blocks ((LoadConstant S32 0 2147483647 ∷ LoadConstant S32 1 1 ∷ Binary Add S32 2 0 1 ∷ give 2 ∷ []) ∷ []) [] 0 ≡ ShowsTrap 3 []
-  pub wraps : run_blocks ((LoadConstant U32 0 minus_one ∷ LoadConstant U32 1 3 ∷ Binary Add U32 2 0 1 ∷ give 2 ∷ []) ∷ []) [] 0 ≡ ShowsDone 2 []
-  pub divides_by_zero : run_blocks ((LoadConstant S64 0 5 ∷ LoadConstant S64 1 0 ∷ Binary Divide S64 2 0 1 ∷ give 2 ∷ []) ∷ []) [] 0 ≡ ShowsTrap 1 []
+  pub traps : run_blocks
+      ((LoadConstant S32 0 2147483647 ∷ LoadConstant S32 1 1 ∷ Binary Add S32 2 0 1 ∷ give 2 ∷ []) ∷ []) [] 0
+      ≡ ShowsTrap 3 []
+  pub wraps : run_blocks
+      ((LoadConstant U32 0 minus_one ∷ LoadConstant U32 1 3 ∷ Binary Add U32 2 0 1 ∷ give 2 ∷ []) ∷ []) [] 0
+      ≡ ShowsDone 2 []
+  pub divides_by_zero : run_blocks
+      ((LoadConstant S64 0 5 ∷ LoadConstant S64 1 0 ∷ Binary Divide S64 2 0 1 ∷ give 2 ∷ []) ∷ []) [] 0 ≡ ShowsTrap 1 []
   -- a word that is not held as its type asks, a register that was never written, a shift by the width
   pub not_held : run_blocks ((Nop ∷ LoadConstant S32 0 4294967295 ∷ give 0 ∷ []) ∷ []) [] 0 ≡ ShowsUndefined 1 []
   pub unset : run_blocks ((Nop ∷ Nop ∷ give 0 ∷ []) ∷ []) [] 0 ≡ ShowsUndefined 2 []
-  pub shifts_too_far : run_blocks ((LoadConstant S32 0 1 ∷ LoadConstant S32 1 32 ∷ Shift Left S32 2 0 1 ∷ give 2 ∷ []) ∷ []) [] 0 ≡ ShowsUndefined 2 []
+  pub shifts_too_far : run_blocks
+      ((LoadConstant S32 0 1 ∷ LoadConstant S32 1 32 ∷ Shift Left S32 2 0 1 ∷ give 2 ∷ []) ∷ []) [] 0
+      ≡ ShowsUndefined 2 []
   -- the two shifts to the right, and a conversion
-  pub shifts_signed : run_blocks ((LoadConstant S64 0 minus_one ∷ LoadConstant S64 1 60 ∷ Shift ArithmeticRight S64 2 0 1 ∷ Convert memory.S64 S32 3 2 ∷ give 3 ∷ []) ∷ []) [] 0 ≡ ShowsDone 255 []
-  pub shifts_unsigned : run_blocks ((LoadConstant S64 0 minus_one ∷ LoadConstant S64 1 60 ∷ Shift LogicalRight S64 2 0 1 ∷ Convert memory.S64 S32 3 2 ∷ give 3 ∷ []) ∷ []) [] 0 ≡ ShowsDone 15 []
-  pub extends : run_blocks ((LoadConstant S32 0 255 ∷ Convert memory.S8 S32 1 0 ∷ Unary Negate S32 2 1 ∷ give 2 ∷ []) ∷ []) [] 0 ≡ ShowsDone 1 []
+  pub shifts_signed : run_blocks
+      ((LoadConstant S64 0 minus_one ∷ LoadConstant S64 1 60 ∷ Shift ArithmeticRight S64 2 0 1
+      ∷ Convert memory.S64 S32 3 2 ∷ give 3 ∷ []) ∷ []) [] 0 ≡ ShowsDone 255 []
+  pub shifts_unsigned : run_blocks
+      ((LoadConstant S64 0 minus_one ∷ LoadConstant S64 1 60 ∷ Shift LogicalRight S64 2 0 1 ∷ Convert memory.S64 S32 3 2
+      ∷ give 3 ∷ []) ∷ []) [] 0 ≡ ShowsDone 15 []
+  pub extends : run_blocks
+      ((LoadConstant S32 0 255 ∷ Convert memory.S8 S32 1 0 ∷ Unary Negate S32 2 1 ∷ give 2 ∷ []) ∷ []) [] 0
+      ≡ ShowsDone 1 []
   -- a branch that is taken, one that is not, and a block that goes on with the next
-  pub branches : run_blocks ((LoadConstant S32 0 4 ∷ Branch IfTrue S32 0 2 ∷ []) ∷ (give 1 ∷ []) ∷ (give 0 ∷ []) ∷ []) [] 0 ≡ ShowsDone 4 []
-  pub falls_through : run_blocks ((LoadConstant S32 0 4 ∷ Branch IfFalse S32 0 2 ∷ []) ∷ (give 0 ∷ []) ∷ (give 1 ∷ []) ∷ []) [] 0 ≡ ShowsDone 4 []
+  pub branches : run_blocks
+      ((LoadConstant S32 0 4 ∷ Branch IfTrue S32 0 2 ∷ []) ∷ (give 1 ∷ []) ∷ (give 0 ∷ []) ∷ []) [] 0 ≡ ShowsDone 4 []
+  pub falls_through : run_blocks
+      ((LoadConstant S32 0 4 ∷ Branch IfFalse S32 0 2 ∷ []) ∷ (give 0 ∷ []) ∷ (give 1 ∷ []) ∷ []) [] 0 ≡ ShowsDone 4 []
   -- a loop for ever takes a turn each time
   pub loops : run_blocks ([] ∷ (Mark ∷ Jump 1 ∷ []) ∷ []) [] 3 ≡ ShowsMore []
   -- a byte of an object of static storage, one past its cells, and one past its end
-  pub loads : run_functions (record { sizes = []; blocks = (LoadAddress 0 (Global 0) 1 ∷ Load memory.U8 1 0 (pos 0) ∷ Load memory.U8 2 0 (pos 3) ∷ Binary Add S32 3 1 2 ∷ give 3 ∷ []) ∷ [] } ∷ []) (object ∷ []) [] 0 ≡ ShowsDone 2 []
-  pub loads_outside : run_functions (record { sizes = []; blocks = (LoadAddress 0 (Global 0) 8 ∷ Load memory.U8 1 0 (pos 0) ∷ give 1 ∷ []) ∷ [] } ∷ []) (object ∷ []) [] 0 ≡ ShowsUndefined 1 []
+  pub loads : run_functions
+      (record {
+        sizes = [];
+        blocks =
+            (LoadAddress 0 (Global 0) 1 ∷ Load memory.U8 1 0 (pos 0) ∷ Load memory.U8 2 0 (pos 3) ∷ Binary Add S32 3 1 2
+            ∷ give 3 ∷ []) ∷ [];
+      } ∷ []) (object ∷ []) [] 0 ≡ ShowsDone 2 []
+  pub loads_outside : run_functions
+      (record { sizes = []; blocks = (LoadAddress 0 (Global 0) 8 ∷ Load memory.U8 1 0 (pos 0) ∷ give 1 ∷ []) ∷ [] }
+      ∷ []) (object ∷ []) [] 0 ≡ ShowsUndefined 1 []
   -- a function writes to its memory local and returns what stands there; the object has ended when it returned
   pub calls : run_functions (
       record { sizes = []; blocks = (LoadConstant S32 0 9 ∷ Call (Some 1) (Function 1) (0 ∷ []) ∷ give 1 ∷ []) ∷ [] }
-      ∷ record { sizes = 4 ∷ []; blocks = (LoadAddress 1 (Local 0) 4 ∷ Store memory.S32 1 (negsuc 3) 0 ∷ Load memory.S32 2 1 (negsuc 3) ∷ give 2 ∷ []) ∷ [] }
+      ∷ record {
+        sizes = 4 ∷ [];
+        blocks =
+            (LoadAddress 1 (Local 0) 4 ∷ Store memory.S32 1 (negsuc 3) 0 ∷ Load memory.S32 2 1 (negsuc 3) ∷ give 2 ∷ [])
+            ∷ [];
+      }
       ∷ []) [] [] 1 ≡ ShowsDone 9 []
   pub outlives : run_functions (
       record { sizes = []; blocks = (Call (Some 1) (Function 1) [] ∷ Load memory.S32 2 1 (pos 0) ∷ give 2 ∷ []) ∷ [] }
-      ∷ record { sizes = 4 ∷ []; blocks = (LoadAddress 1 (Local 0) 0 ∷ Return (Some (record { ty = P64; register = 1 })) ∷ []) ∷ [] }
+      ∷ record {
+        sizes = 4 ∷ [];
+        blocks =
+            (LoadAddress 1 (Local 0) 0 ∷ Return (Some (record { ty = P64; register = 1 })) ∷ []) ∷ [];
+      }
       ∷ []) [] [] 1 ≡ ShowsUndefined 1 []
   -- the end of a program by `exit` and by `abort`
-  pub exits : run_blocks ((LoadConstant S32 0 300 ∷ Call None (Builtin Exit) (0 ∷ []) ∷ give 1 ∷ []) ∷ []) [] 1 ≡ ShowsDone 44 []
+  pub exits : run_blocks ((LoadConstant S32 0 300 ∷ Call None (Builtin Exit) (0 ∷ []) ∷ give 1 ∷ []) ∷ []) [] 1
+      ≡ ShowsDone 44 []
   pub aborts : run_blocks ((Call None (Builtin Abort) [] ∷ give 1 ∷ []) ∷ []) [] 1 ≡ ShowsTrap 2 []

@@ -21,7 +21,8 @@ OneVmEnding =
 abbrev pub MoreTurnsKeepEnding : Type 0
 MoreTurnsKeepEnding =
     (rooms : Rooms) (program : VmProgram) (input : List ℕ) (turns more : ℕ) (e : Ending) →
-    behave_vm rooms program input turns e → IsFinal e → behave_vm rooms program input (turns + more) (ending_with_turns more e)
+    behave_vm rooms program input turns e → IsFinal e →
+    behave_vm rooms program input (turns + more) (ending_with_turns more e)
 
 -- with more turns an output only grows
 abbrev pub MoreTurnsExtendOutput : Type 0

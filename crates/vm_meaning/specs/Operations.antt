@@ -252,7 +252,8 @@ is_storable (Some t) (Address p) = false
 is_storable ty Unset = false
 
 abbrev pub store_through : Memory → Option IntegerType → Option Value → Value → Option Memory
-store_through memory ty (Some (Address p)) a = if is_storable ty a then ok_of (store_at memory p (access_bytes ty) a) else None
+store_through memory ty (Some (Address p)) a =
+    if is_storable ty a then ok_of (store_at memory p (access_bytes ty) a) else None
 store_through memory ty _ a = None
 
 -- the memory after a store to a pointer moved by so many bytes

@@ -26,7 +26,8 @@ target_of items i = label_target items (label_used i)
 pub record AreTargets (items : List AsmItem) (targets : List ℕ) : Type 0 where
   pub one_each : length targets ≡ length items
   pub inside : (k : ℕ) → k < length items → slice_index targets k < length items
-  pub right : (k : ℕ) (d : AsmItem) (l : ℕ) → k < length items → label_used (slice_index_or items k d) ≡ Some l → slice_index targets k ≡ label_index items l
+  pub right : (k : ℕ) (d : AsmItem) (l : ℕ) → k < length items → label_used (slice_index_or items k d) ≡ Some l →
+      slice_index targets k ≡ label_index items l
 
 -- how many items are not far, the words of a text from an item on, and how far a branch reaches
 abbrev pub near : List Bool → ℕ
@@ -41,13 +42,15 @@ reach = 1048576
 -- the branch at k, where there is one that is not far, and its label stands before it, goes no farther than it may
 abbrev pub BackReachesAt : List AsmItem → List Bool → ℕ → Type 0
 BackReachesAt items far k =
-    (op : BranchOp) (ra l : ℕ) → slice_index_or items k (Label 0) ≡ Branch op ra l → is_far far k ≡ false → label_index items l ≤ k →
+    (op : BranchOp) (ra l : ℕ) → slice_index_or items k (Label 0) ≡ Branch op ra l → is_far far k ≡ false →
+    label_index items l ≤ k →
     place items far k + 1 ≤ label_place items far l + reach
 
 -- or its label stands behind it
 abbrev pub ForthReachesAt : List AsmItem → List Bool → ℕ → Type 0
 ForthReachesAt items far k =
-    (op : BranchOp) (ra l : ℕ) → slice_index_or items k (Label 0) ≡ Branch op ra l → is_far far k ≡ false → k < label_index items l →
+    (op : BranchOp) (ra l : ℕ) → slice_index_or items k (Label 0) ≡ Branch op ra l → is_far far k ≡ false →
+    k < label_index items l →
     rest items far (k + 1) < rest items far (label_index items l) + reach
 
 -- there is such a branch, and it goes too far

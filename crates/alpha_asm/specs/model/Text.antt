@@ -39,7 +39,8 @@ pub record AreSound (items : List AsmItem) : Type 0 where
   pub some_words : list_any gives_word (drop (label_index items 0) items) ≡ true
 
 -- the targets of a text, the item of its entry, what is far, and the places
-pub record IsPlan (items : List AsmItem) (targets : List ℕ) (entry : ℕ) (far : List Bool) (places : List ℕ) : Type 0 where
+pub record IsPlan (items : List AsmItem) (targets : List ℕ) (entry : ℕ) (far : List Bool)
+    (places : List ℕ) : Type 0 where
   pub are_items : All (λ i. IsItem most_bytes i) items
   pub are_targets : AreTargets items targets
   pub entry_is : entry ≡ label_index items 0

@@ -51,7 +51,9 @@ sets Mark k block = refl
 sets Nop k block = refl
 
 -- what a change of target keeps: it changes no more than a block
-module _ (A : Type 0) (f : VmInsn → A) (branches : (op : _) (ty : _) (source : _) (a b : _) → f (Branch op ty source a) ≡ f (Branch op ty source b)) (jumps : (a b : _) → f (Jump a) ≡ f (Jump b)) where
+module _ (A : Type 0) (f : VmInsn → A)
+    (branches : (op : _) (ty : _) (source : _) (a b : _) → f (Branch op ty source a) ≡ f (Branch op ty source b))
+    (jumps : (a b : _) → f (Jump a) ≡ f (Jump b)) where
   by_kind : (i : VmInsn) (k block : ℕ) → Kind i → f (with_block i k block) ≡ f i
   by_kind _ zero block (IsBranch op ty source old) = branches op ty source block old
   by_kind _ (suc k) block (IsBranch op ty source old) = refl
@@ -82,7 +84,8 @@ same_target _ zero block (IsJump old) is = ap Jump (some_is old block is)
 same_target _ (suc k) block (IsJump old) is = refl
 same_target _ k block (HasNone i same none) is = same k block
 
-apart : (i : VmInsn) (j k block other : ℕ) → Kind i → j ≢ k → with_block (with_block i j block) k other ≡ with_block (with_block i k other) j block
+apart : (i : VmInsn) (j k block other : ℕ) → Kind i → j ≢ k →
+    with_block (with_block i j block) k other ≡ with_block (with_block i k other) j block
 apart _ zero zero block other (IsBranch op ty source old) ne = absurd (ne refl)
 apart _ zero (suc k) block other (IsBranch op ty source old) ne = refl
 apart _ (suc j) zero block other (IsBranch op ty source old) ne = refl
@@ -98,7 +101,8 @@ apart _ j k block other (HasNone i same none) ne =
 flows : (b : Bool) → b ≡ true → b ≡ false → ⊥
 flows b h k = cc
 
-only : (i : VmInsn) (block : ℕ) (others : List ℕ) → Kind i → flows_on_of i ≡ false → targets_of i ≡ block ∷ others → i ≡ Jump block
+only : (i : VmInsn) (block : ℕ) (others : List ℕ) → Kind i → flows_on_of i ≡ false → targets_of i ≡ block ∷ others →
+    i ≡ Jump block
 only _ block others (IsBranch op ty source old) stops is = absurd (flows true refl stops)
 only _ block others (IsJump old) stops is = ap Jump (head_is old block others is)
   where

@@ -34,15 +34,19 @@ first_hidden rooms main input = record {
 pub record Begins (p : ProgramTable) (main : ℕ) (memory : Memory) (turns : ℕ) (m : Machine) : Type 0 where
   pub sound : IsSound m
   pub program : m.program.now ≡ p
-  pub config : (rooms : Rooms) (input : List ℕ) → start_at rooms p main memory turns input ≡ config_of m (first_hidden rooms main input)
+  pub config : (rooms : Rooms) (input : List ℕ) →
+      start_at rooms p main memory turns input ≡ config_of m (first_hidden rooms main input)
 
 -- the first step ends the run
-pub record IsOverAtOnce (rooms : Rooms) (p : ProgramTable) (main : ℕ) (memory : Memory) (turns : ℕ) (input : List ℕ) (s : Stop) : Type 0 where
+pub record IsOverAtOnce (rooms : Rooms) (p : ProgramTable) (main : ℕ) (memory : Memory) (turns : ℕ) (input : List ℕ)
+    (s : Stop) : Type 0 where
   pub last : World
-  pub over : exec Value Registers rooms (vm_code (functions_of p)) 1 (start_at rooms p main memory turns input) ≡ Over (ending_by s last)
+  pub over : exec Value Registers rooms (vm_code (functions_of p)) 1 (start_at rooms p main memory turns input)
+      ≡ Over (ending_by s last)
   pub shows : ShowsAs last (first_hidden rooms main input)
 
 abbrev pub EndsAtOnce : ProgramTable → (main : ℕ) → Memory → (turns : ℕ) → Turn → Type 0
-EndsAtOnce p main memory turns (turn.Over s) = (rooms : Rooms) (input : List ℕ) → IsOverAtOnce rooms p main memory turns input s
+EndsAtOnce p main memory turns (turn.Over s) =
+    (rooms : Rooms) (input : List ℕ) → IsOverAtOnce rooms p main memory turns input s
 EndsAtOnce p main memory turns turn.NoMemory = Unit {0}
 EndsAtOnce p main memory turns _ = ⊥

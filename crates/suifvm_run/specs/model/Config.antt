@@ -70,7 +70,8 @@ pub record Stands (p : ProgramTable) (c : Call) : Type 0 where
 -- the calls that wait stand at an instruction, one below the other
 abbrev pub Wait : ProgramTable → List Call → (stack : List Value) → Type 0
 Wait p [] stack = Unit {0}
-Wait p (c ∷ cs) stack = Stands p c × (c.at < length c.row.now.insns.items) × (c.base ≤ length stack) × Wait p cs (take c.base stack)
+Wait p (c ∷ cs) stack =
+    Stands p c × (c.at < length c.row.now.insns.items) × (c.base ≤ length stack) × Wait p cs (take c.base stack)
 
 pub record IsSound (m : Machine) : Type 0 where
   pub numbers : AreNumbered 0 m.program.now.functions.items m.program.now.end
@@ -150,7 +151,8 @@ Comes rooms p turn.Goes m h next = GoesTo next (config_of m) h
 Comes rooms p (turn.Over s) m h next = EndsBy rooms p next s h
 Comes rooms p (turn.Puts byte) m h next = GoesTo next (λ g. config_of m (with_byte byte g)) h
 Comes rooms p (turn.Takes destination) m h next =
-    GoesTo next (λ g. wrote (named destination) (Word (input_word (slice_get g.input 0)) ∷ []) (config_of m (with_taken g))) h
+    GoesTo next
+    (λ g. wrote (named destination) (Word (input_word (slice_get g.input 0)) ∷ []) (config_of m (with_taken g))) h
 Comes rooms p turn.NoMemory m h next = Unit {0}
 
 -- what an instruction does where the machine stands, by what is done with its values

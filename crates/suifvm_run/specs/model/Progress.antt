@@ -19,7 +19,8 @@ abbrev pub run_from : Rooms → ProgramTable → Config Registers → Steps
 run_from rooms p start steps = exec Value Registers rooms (vm_code (functions_of p)) steps start
 
 -- a machine stands where so many steps lead, and the input and the output tell what these did
-pub record StandsAt (rooms : Rooms) (p : ProgramTable) (start : Config Registers) (told now : Traffic) (m : Machine) : Type 0 where
+pub record StandsAt (rooms : Rooms) (p : ProgramTable) (start : Config Registers) (told now : Traffic)
+    (m : Machine) : Type 0 where
   pub hidden : Hidden
   pub steps : ℕ
   pub reached : run_from rooms p start steps ≡ Goes (config_of m hidden)
@@ -28,7 +29,8 @@ pub record StandsAt (rooms : Rooms) (p : ProgramTable) (start : Config Registers
   pub taken : now.taken ≡ option_map (λ bytes. bytes ++ hidden.output) told.taken
 
 -- the run goes on, or it stopped
-abbrev pub TurnEnds : Rooms → ProgramTable → Config Registers → (turns : ℕ) → (told now : Traffic) → Machine → Option VmEnding → Type 0
+abbrev pub TurnEnds : Rooms → ProgramTable → Config Registers → (turns : ℕ) → (told now : Traffic) → Machine →
+    Option VmEnding → Type 0
 TurnEnds rooms p start turns told now m None = StandsAt rooms p start told now m
 TurnEnds rooms p start turns told now m (Some ending) = IsRun (run_from rooms p start) turns ending told now
 
