@@ -5,7 +5,6 @@
 //! nothing is known of it.
 #![tactic(auto)]
 
-mod boxes;
 mod braces;
 mod statements;
 

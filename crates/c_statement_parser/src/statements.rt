@@ -9,9 +9,7 @@ ghost use Rattle.c_grammar.specs.Statements.{locals_of};
 ghost use Rattle.c_grammar.specs.ParseExpr.{list_from};
 ghost use Rattle.c_grammar.specs.ParseStatements as model;
 ghost use Rattle.c_expression_parser.specs.Answers.{Answers};
-ghost use Rattle.c_statement_parser.specs.model.Parts.{statement_of};
 
-use crate::boxes::{Parts, boxed};
 use crate::braces::declaration;
 use c_expression_parser::{Fault, Scope, SpecifierType, Tokens, expr, plain, whole};
 use c_grammar::{Head, Naming, head_of, levels};
@@ -39,7 +37,7 @@ fn local(
     }
     let declaration = Box::new(alloc, declaration)?;
     tokens.take();
-    let init = expr(alloc, scope, tokens, depth, levels::ASSIGNMENT)?;
+    let init = Box::new(alloc, expr(alloc, scope, tokens, depth, levels::ASSIGNMENT)?)?;
     Ok(Local {
         declaration: Box::into_inner(declaration),
         init: Some(init),
@@ -85,8 +83,7 @@ fn line(
     tokens.close(Punct::Semicolon, found)
 }
 
-/// Reads an expression that is missing where this punctuator stands. It is in a box, so that what waits for it to
-/// be used is small.
+/// Reads an expression that is missing where this punctuator stands.
 #[tactic(auto, unfolding(c_grammar::specs::ParseStatements::optional))]
 fn optional(
     alloc: Global,
@@ -94,16 +91,16 @@ fn optional(
     tokens: &mut Tokens<'_>,
     depth: usize,
     mark: Punct,
-) -> Result<Box<Option<Expr>>, Fault>
+) -> Result<Option<Box<Expr>>, Fault>
     ensures { Answers (model.optional scope.now depth mark tokens.old) result tokens.new }
 {
     if tokens.sees(mark) {
-        return Ok(Box::new(alloc, None)?);
+        return Ok(None);
     }
-    Ok(Box::new(alloc, Some(whole(alloc, scope, tokens, depth)?))?)
+    Ok(Some(Box::new(alloc, whole(alloc, scope, tokens, depth)?)?))
 }
 
-/// Reads an expression in brackets, into a box too.
+/// Reads an expression in brackets.
 #[tactic(auto, unfolding(c_grammar::specs::ParseStatements::condition))]
 fn condition(
     alloc: Global,
@@ -118,7 +115,7 @@ fn condition(
     tokens.close(Punct::RightParen, found)
 }
 
-/// Reads the first part of a `for`, where it is an expression, into a box.
+/// Reads the first part of a `for`, where it is an expression.
 #[tactic(auto, unfolding(c_grammar::specs::ParseStatements::first_value))]
 fn first_value(
     alloc: Global,
@@ -133,7 +130,7 @@ fn first_value(
     tokens.close(Punct::Semicolon, found)
 }
 
-/// Reads the first part of a `for` into a box, up to the semicolon behind it.
+/// Reads the first part of a `for`, up to the semicolon behind it.
 #[tactic(auto, unfolding(c_grammar::specs::ParseStatements::first))]
 fn for_first(
     alloc: Global,
@@ -188,11 +185,11 @@ fn label(
     tokens.close(Punct::Colon, Label::Default { at })
 }
 
-/// Reads the semicolon that ends the statement of these parts, and gives that in a box.
-fn end_statement(alloc: Global, tokens: &mut Tokens<'_>, parts: Parts) -> Result<Box<Stmt>, Fault>
-    ensures { Answers (and_then (expect Semicolon tokens.old) (λ _. pure (statement_of parts))) result tokens.new }
+/// Reads the semicolon that ends this statement, and gives that in a box.
+fn end_statement(alloc: Global, tokens: &mut Tokens<'_>, found: Stmt) -> Result<Box<Stmt>, Fault>
+    ensures { Answers (and_then (expect Semicolon tokens.old) (λ _. pure found)) result tokens.new }
 {
-    let found = boxed(alloc, parts)?;
+    let found = Box::new(alloc, found)?;
     tokens.close(Punct::Semicolon, found)
 }
 
@@ -208,7 +205,7 @@ fn return_behind(
     ensures { Answers (model.return scope.now depth at tokens.old) result tokens.new }
 {
     let value = optional(alloc, scope, tokens, depth, Punct::Semicolon)?;
-    end_statement(alloc, tokens, Parts::Return { at, value })
+    end_statement(alloc, tokens, Stmt::Return { at, value })
 }
 
 /// Reads an expression as a statement.
@@ -222,7 +219,7 @@ fn expression_statement(
     ensures { Answers (model.value scope.now depth tokens.old) result tokens.new }
 {
     let found = Box::new(alloc, whole(alloc, scope, tokens, depth)?)?;
-    end_statement(alloc, tokens, Parts::Expression(found))
+    end_statement(alloc, tokens, Stmt::Expression(found))
 }
 
 /// Whether the statements under a label end here.
@@ -235,11 +232,15 @@ fn ends_section(tokens: &Tokens<'_>) -> bool
 }
 
 /// Puts declarations behind statements.
-fn push_locals(found: &mut Seq<Stmt>, locals: Seq<Local>) -> Result<(), AllocError>
+fn push_locals(
+    alloc: Global,
+    found: &mut Seq<Stmt>,
+    locals: Seq<Local>,
+) -> Result<(), AllocError>
     ensures { OnOk result (found.new ≡ found.old ++ locals_of locals) }
 {
     for local in Seq::into_vec(locals) {
-        found.push(Stmt::Local(local))?;
+        found.push(Stmt::Local(Box::new(alloc, local)?))?;
     }
     Ok(())
 }
@@ -269,7 +270,7 @@ pub fn items(
             return Ok(found);
         }
         if scope.begins_type(tokens) {
-            push_locals(&mut found, line(alloc, scope, tokens, depth)?)?;
+            push_locals(alloc, &mut found, line(alloc, scope, tokens, depth)?)?;
         } else {
             found.push(Box::into_inner(stmt(alloc, scope, tokens, inner)?))?;
         }
@@ -290,7 +291,7 @@ fn block(
         [] tokens.old) (λ xs. pure (trees.Block xs))) result tokens.new }
 {
     let found = items(alloc, scope, tokens, depth, inner)?;
-    Ok(boxed(alloc, Parts::Block(found))?)
+    Ok(Box::new(alloc, Stmt::Block(found))?)
 }
 
 /// Reads the statements under a label.
@@ -376,21 +377,21 @@ fn alternative(
         tokens.old) result tokens.new }
 {
     if !tokens.sees_word(Keyword::Else) {
-        let parts = Parts::If {
+        let found = Stmt::If {
             condition,
             then,
             otherwise: None,
         };
-        return Ok(boxed(alloc, parts)?);
+        return Ok(Box::new(alloc, found)?);
     }
     tokens.take();
     let otherwise = Some(stmt(alloc, scope, tokens, inner)?);
-    let parts = Parts::If {
+    let found = Stmt::If {
         condition,
         then,
         otherwise,
     };
-    Ok(boxed(alloc, parts)?)
+    Ok(Box::new(alloc, found)?)
 }
 
 /// Reads an `if` behind its word.
@@ -424,7 +425,7 @@ fn while_loop(
 {
     let condition = condition(alloc, scope, tokens, depth)?;
     let body = stmt(alloc, scope, tokens, inner)?;
-    Ok(boxed(alloc, Parts::While { condition, body })?)
+    Ok(Box::new(alloc, Stmt::While { condition, body })?)
 }
 
 /// Reads a `do` behind its word.
@@ -442,7 +443,7 @@ fn do_loop(
     let body = stmt(alloc, scope, tokens, inner)?;
     tokens.expect_word(Keyword::While)?;
     let condition = condition(alloc, scope, tokens, depth)?;
-    end_statement(alloc, tokens, Parts::Do { body, condition })
+    end_statement(alloc, tokens, Stmt::Do { body, condition })
 }
 
 /// Reads a `for` behind its word.
@@ -464,13 +465,13 @@ fn for_loop(
     let step = optional(alloc, scope, tokens, depth, Punct::RightParen)?;
     tokens.expect(Punct::RightParen)?;
     let body = stmt(alloc, scope, tokens, inner)?;
-    let parts = Parts::For {
+    let found = Stmt::For {
         first,
         condition,
         step,
         body,
     };
-    Ok(boxed(alloc, parts)?)
+    Ok(Box::new(alloc, found)?)
 }
 
 /// Reads a `switch` behind its word.
@@ -488,7 +489,7 @@ fn switch(
     let operand = condition(alloc, scope, tokens, depth)?;
     tokens.expect(Punct::LeftBrace)?;
     let sections = sections(alloc, scope, tokens, depth, inner)?;
-    Ok(boxed(alloc, Parts::Switch { operand, sections })?)
+    Ok(Box::new(alloc, Stmt::Switch { operand, sections })?)
 }
 
 /// Reads a statement into a box, so that what is open takes little of the machine's stack. The depth bounds how
@@ -520,14 +521,14 @@ pub fn stmt(
     }
     match head {
         Head::Block => block(alloc, scope, tokens, depth, inner),
-        Head::Empty => Ok(boxed(alloc, Parts::Empty)?),
+        Head::Empty => Ok(Box::new(alloc, Stmt::Empty)?),
         Head::If => if_else(alloc, scope, tokens, depth, inner),
         Head::While => while_loop(alloc, scope, tokens, depth, inner),
         Head::Do => do_loop(alloc, scope, tokens, depth, inner),
         Head::For => for_loop(alloc, scope, tokens, depth, inner),
         Head::Switch => switch(alloc, scope, tokens, depth, inner),
-        Head::Break => end_statement(alloc, tokens, Parts::Break { at }),
-        Head::Continue => end_statement(alloc, tokens, Parts::Continue { at }),
+        Head::Break => end_statement(alloc, tokens, Stmt::Break { at }),
+        Head::Continue => end_statement(alloc, tokens, Stmt::Continue { at }),
         Head::Return => return_behind(alloc, scope, tokens, depth, at),
         Head::Other => expression_statement(alloc, scope, tokens, depth),
     }

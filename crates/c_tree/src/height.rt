@@ -215,7 +215,7 @@ fn is_local_within(local: &Local, most: u32) -> bool
 fn are_local_parts_within(local: &Local, most: u32) -> bool
     ensures { IsTrue result ↔ (nodes_height (children_of (local_node local.now)) ≤ most) }
 {
-    is_type_within(&local.declaration.ty, most) && is_value_within(&local.init, most)
+    is_type_within(&local.declaration.ty, most) && is_boxed_value_within(&local.init, most)
 }
 
 /// Whether declarations in a block are at most so high.
@@ -230,6 +230,16 @@ fn are_locals_within(list: &[Local], most: u32) -> bool
     true
 }
 
+/// Whether an expression in a box that may be missing is at most so high.
+fn is_boxed_value_within(value: &Option<Box<Expr>>, most: u32) -> bool
+    ensures { IsTrue result ↔ (nodes_height (optional value.now) ≤ most) }
+{
+    match value {
+        Some(e) => is_expr_within(e, most),
+        None => true,
+    }
+}
+
 /// Whether the first part of a `for` is at most so high.
 fn is_first_within(first: &ForFirst, most: u32) -> bool
     ensures { IsTrue result ↔ (nodes_height (first_nodes first.now) ≤ most) }
@@ -242,7 +252,7 @@ fn is_first_within(first: &ForFirst, most: u32) -> bool
 }
 
 /// Whether the condition or the step of a `for` is at most so high.
-fn is_part_of_for_within(part: &Option<Expr>, most: u32) -> bool
+fn is_part_of_for_within(part: &Option<Box<Expr>>, most: u32) -> bool
     ensures { IsTrue result ↔ (node_height (part_of_for part.now) ≤ most) }
 {
     match part {
@@ -254,8 +264,8 @@ fn is_part_of_for_within(part: &Option<Expr>, most: u32) -> bool
 /// Whether the parts of a `for` before its body are at most so high.
 fn is_head_within(
     first: &ForFirst,
-    condition: &Option<Expr>,
-    step: &Option<Expr>,
+    condition: &Option<Box<Expr>>,
+    step: &Option<Box<Expr>>,
     most: u32,
 ) -> bool
     ensures { IsTrue result ↔ (nodes_height (append_nodes (first_nodes first.now)
@@ -310,7 +320,7 @@ fn are_parts_within(stmt: &Stmt, most: u32) -> bool
         }
         Stmt::Break { .. } => true,
         Stmt::Continue { .. } => true,
-        Stmt::Return { value, .. } => is_value_within(value, most),
+        Stmt::Return { value, .. } => is_boxed_value_within(value, most),
         Stmt::Expression(e) => is_expr_within(e, most),
         Stmt::Empty => true,
         Stmt::Local(local) => are_local_parts_within(local, most),

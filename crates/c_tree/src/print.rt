@@ -167,7 +167,7 @@ fn put_exprs(
 /// Puts an expression that may be missing.
 #[cycle(ast)]
 #[tactic(auto, using(crate::proofs::Rows::rows), unfolding(crate::specs::model::Open::opens))]
-pub fn put_value(
+fn put_value(
     alloc: Global,
     out: &mut Vec<u8>,
     indent: &[u8],

@@ -1,16 +1,32 @@
 //! The text of statements, externals and units.
 
 ghost use Rattle.std.specs.Prelude.{◌≡◌, ◌++◌, [], IfOk, OnOk};
-ghost use Rattle.c_tree.specs.Nodes.{nodes_of, nodes_text, node_text, local_node, first_nodes, part_of_for, label_line, label_nodes, type_node, stmt_node, init_node, optional_init, end_nodes, external_node, text_of};
+ghost use Rattle.c_tree.specs.Nodes.{nodes_of, nodes_text, node_text, optional, local_node, first_nodes, part_of_for, label_line, label_nodes, type_node, stmt_node, init_node, optional_init, end_nodes, external_node, text_of};
 ghost use Rattle.c_tree.specs.model.Parts.{line_text, line_of, children_of, section_node, else_nodes};
 
-use crate::print::{below, put_expr, put_line, put_line_of_three, put_type, put_value};
+use crate::print::{below, put_expr, put_line, put_line_of_three, put_type};
 use crate::words::storage_text;
 use crate::{
     Box, Declaration, Expr, External, ForFirst, FunctionEnd, Init, Label, Local, Section, Stmt,
     TranslationUnit,
 };
 use std::alloc::{AllocError, Global};
+
+/// Puts an expression in a box that may be missing.
+#[tactic(auto, using(crate::proofs::Rows::rows), unfolding(crate::specs::model::Open::opens))]
+fn put_boxed_value(
+    alloc: Global,
+    out: &mut Vec<u8>,
+    indent: &[u8],
+    value: &Option<Box<Expr>>,
+) -> Result<(), AllocError>
+    ensures { OnOk result (out.new.items ≡ out.old.items ++ nodes_text indent.now (optional value.now)) }
+{
+    match value {
+        Some(e) => put_expr(alloc, out, indent, e),
+        None => Ok(()),
+    }
+}
 
 /// Puts a declaration in a block.
 #[tactic(auto, using(crate::proofs::Rows::rows), unfolding(crate::specs::model::Open::opens))]
@@ -25,7 +41,7 @@ fn put_local(
     put_line(out, indent, "local ", local.declaration.name.as_slice())?;
     let indent = below(alloc, indent)?;
     put_type(alloc, out, &indent, &local.declaration.ty)?;
-    put_value(alloc, out, &indent, &local.init)
+    put_boxed_value(alloc, out, &indent, &local.init)
 }
 
 /// Puts declarations in a block.
@@ -66,7 +82,7 @@ fn put_part_of_for(
     alloc: Global,
     out: &mut Vec<u8>,
     indent: &[u8],
-    part: &Option<Expr>,
+    part: &Option<Box<Expr>>,
 ) -> Result<(), AllocError>
     ensures { OnOk result (out.new.items ≡ out.old.items ++ node_text indent.now (part_of_for part.now)) }
 {
@@ -150,12 +166,12 @@ fn put_parts(alloc: Global, out: &mut Vec<u8>, indent: &[u8], stmt: &Stmt) -> Re
         }
         Stmt::Break { .. } => Ok(()),
         Stmt::Continue { .. } => Ok(()),
-        Stmt::Return { value, .. } => put_value(alloc, out, indent, value),
+        Stmt::Return { value, .. } => put_boxed_value(alloc, out, indent, value),
         Stmt::Expression(e) => put_expr(alloc, out, indent, e),
         Stmt::Empty => Ok(()),
         Stmt::Local(local) => {
             put_type(alloc, out, indent, &local.declaration.ty)?;
-            put_value(alloc, out, indent, &local.init)
+            put_boxed_value(alloc, out, indent, &local.init)
         }
     }
 }

@@ -2,32 +2,33 @@
 
 use crate::{Box, Declaration, Expr, Seq};
 
-/// A statement, or a declaration in a block. `at` is the offset of the statement's word.
+/// A statement, or a declaration in a block. `at` is the offset of the statement's word. The larger parts are in
+/// boxes, so that a function which holds a statement takes little of the machine's stack.
 #[cycle(statement)]
 #[derive(Drop)]
 pub enum Stmt {
     Block(Seq<Stmt>),
     If {
-        condition: Expr,
+        condition: Box<Expr>,
         then: Box<Stmt>,
         otherwise: Option<Box<Stmt>>,
     },
     While {
-        condition: Expr,
+        condition: Box<Expr>,
         body: Box<Stmt>,
     },
     Do {
         body: Box<Stmt>,
-        condition: Expr,
+        condition: Box<Expr>,
     },
     For {
-        first: ForFirst,
-        condition: Option<Expr>,
-        step: Option<Expr>,
+        first: Box<ForFirst>,
+        condition: Option<Box<Expr>>,
+        step: Option<Box<Expr>>,
         body: Box<Stmt>,
     },
     Switch {
-        operand: Expr,
+        operand: Box<Expr>,
         sections: Seq<Section>,
     },
     Break {
@@ -38,11 +39,11 @@ pub enum Stmt {
     },
     Return {
         at: u32,
-        value: Option<Expr>,
+        value: Option<Box<Expr>>,
     },
-    Expression(Expr),
+    Expression(Box<Expr>),
     Empty,
-    Local(Local),
+    Local(Box<Local>),
 }
 
 /// A label of a `switch` with the statements up to the next label. None stand under a label that
@@ -65,7 +66,7 @@ pub enum Label {
 #[derive(Drop)]
 pub struct Local {
     pub declaration: Declaration,
-    pub init: Option<Expr>,
+    pub init: Option<Box<Expr>>,
 }
 
 /// The first part of a `for` (C99 6.8.5.3).

@@ -4,7 +4,7 @@ use crate::trees::{MOST_TEXT, refused};
 use anyhow::{Result, ensure};
 use c_parser::parse;
 use c_tree::{
-    Constant, Declaration, Expr, External, ForFirst, FunctionEnd, Init, Label, Local, Parameter,
+    Box, Constant, Declaration, Expr, External, ForFirst, FunctionEnd, Init, Label, Local, Parameter,
     Section, Stmt, TypeNode,
 };
 use row_sheets::escape::unescape;
@@ -195,7 +195,7 @@ impl Places {
         self.ty(&declaration.ty)
     }
 
-    fn option(&mut self, expr: &Option<Expr>) -> Answer {
+    fn option(&mut self, expr: &Option<Box<Expr>>) -> Answer {
         match expr {
             Some(expr) => self.expr(expr),
             None => Ok(()),
@@ -204,8 +204,7 @@ impl Places {
 
     fn locals(&mut self, locals: &[Local]) -> Answer {
         for local in locals {
-            self.declaration("local", &local.declaration)?;
-            self.option(&local.init)?;
+            self.local(local)?;
         }
         Ok(())
     }

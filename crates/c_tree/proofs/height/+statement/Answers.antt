@@ -30,12 +30,15 @@ are_parts_within-returns-in-Block t c =
 pub are_parts_within-returns-then-is_expr_within-3 : goal.are_parts_within-returns-then-is_expr_within-3
 unfolding opens
 are_parts_within-returns-then-is_expr_within-3 t c =
-    rest-is _ (expr_node c.in-Switch.operand) _ _ _ (ap (more (expr_node c.in-Switch.operand)) (ap (nodes_of section_node) c.as_slice-then-is_expr_within-3.ensures ∙ sym (section_row-hidden _)) ∙ sym (ap (λ e. children_of (stmt_node e)) c.in-Switch.is))
+    rest-is _ (expr_node c.deref-in-Switch.result.now) _ _ _
+    (ap (λ e. more (expr_node e) (nodes_of section_node c.as_slice-then-is_expr_within-3.result.now)) c.deref-in-Switch.ensures
+    ∙ ap (more (expr_node c.in-Switch.operand)) (ap (nodes_of section_node) c.as_slice-then-is_expr_within-3.ensures ∙ sym (section_row-hidden _)) ∙ sym (ap (λ e. children_of (stmt_node e)) c.in-Switch.is))
     (c.is_expr_within-in-Switch.ensures.0 c.if-is_expr_within-3.true) c.are_sections_within.ensures
 
 pub are_parts_within-returns-then-is_head_within : goal.are_parts_within-returns-then-is_head_within
 unfolding opens
 are_parts_within-returns-then-is_head_within t c =
-    last-is _ (first_nodes c.in-For.first) (part_of_for c.in-For.condition) (part_of_for c.in-For.step) (stmt_node c.deref-then-is_head_within.result.now) _ _
-    (ap (λ s. append_nodes (first_nodes c.in-For.first) (more (part_of_for c.in-For.condition) (both (part_of_for c.in-For.step) (stmt_node s)))) c.deref-then-is_head_within.ensures ∙ sym (ap (λ e. children_of (stmt_node e)) c.in-For.is))
+    last-is _ (first_nodes c.deref-in-For.result.now) (part_of_for c.in-For.condition) (part_of_for c.in-For.step) (stmt_node c.deref-then-is_head_within.result.now) _ _
+    (ap (λ s. append_nodes (first_nodes c.deref-in-For.result.now) (more (part_of_for c.in-For.condition) (both (part_of_for c.in-For.step) (stmt_node s)))) c.deref-then-is_head_within.ensures
+    ∙ ap (λ f. append_nodes (first_nodes f) (more (part_of_for c.in-For.condition) (both (part_of_for c.in-For.step) (stmt_node c.in-For.body)))) c.deref-in-For.ensures ∙ sym (ap (λ e. children_of (stmt_node e)) c.in-For.is))
     (c.is_head_within.ensures.0 c.if-is_head_within.true) c.is_stmt_within-then-is_head_within.ensures

@@ -15,22 +15,26 @@ put_parts-returns-in-Block t c =
 pub put_parts-returns-in_ok-put_stmt-in-If : goal.put_parts-returns-in_ok-put_stmt-in-If
 unfolding opens
 put_parts-returns-in_ok-put_stmt-in-If t c =
-    first_and _ _ _ _ _ (expr_node c.in-If.condition) (more (stmt_node c.deref.result.now) (else_nodes c.in-If.otherwise)) _ (ap (λ s. more (expr_node c.in-If.condition) (more (stmt_node s) (else_nodes c.in-If.otherwise))) c.deref.ensures ∙ sym (if-children c.in-If.condition c.in-If.then c.in-If.otherwise) ∙ sym (ap (λ e. children_of (stmt_node e)) c.in-If.is)) c.in_ok-put_expr-in-If.ensures (first_and _ _ _ _ _ _ _ _ refl c.in_ok-put_stmt-in-If.ensures c.put_otherwise.ensures)
+    first_and _ _ _ _ _ (expr_node c.deref.result.now) (more (stmt_node c.deref-in-If.result.now) (else_nodes c.in-If.otherwise)) _
+    (ap (λ s. more (expr_node c.deref.result.now) (more (stmt_node s) (else_nodes c.in-If.otherwise))) c.deref-in-If.ensures ∙ ap (λ e. more (expr_node e) (more (stmt_node c.in-If.then) (else_nodes c.in-If.otherwise))) c.deref.ensures ∙ sym (if-children c.in-If.condition c.in-If.then c.in-If.otherwise) ∙ sym (ap (λ e. children_of (stmt_node e)) c.in-If.is)) c.in_ok-put_expr-in-If.ensures (first_and _ _ _ _ _ _ _ _ refl c.in_ok-put_stmt-in-If.ensures c.put_otherwise.ensures)
 
 pub put_parts-returns-in_ok-put_expr-in-While : goal.put_parts-returns-in_ok-put_expr-in-While
 unfolding opens
 put_parts-returns-in_ok-put_expr-in-While t c =
-    two _ _ _ _ _ _ _ _ (ap (λ s. both (expr_node c.in-While.condition) (stmt_node s)) c.deref-in-While.ensures ∙ sym (ap (λ e. children_of (stmt_node e)) c.in-While.is)) c.in_ok-put_expr-in-While.ensures c.put_stmt-in-While.ensures
+    two _ _ _ _ _ _ _ _ (ap (λ s. both (expr_node c.deref-in-While.result.now) (stmt_node s)) c.deref-in-While-2.ensures ∙ ap (λ e. both (expr_node e) (stmt_node c.in-While.body)) c.deref-in-While.ensures ∙ sym (ap (λ e. children_of (stmt_node e)) c.in-While.is)) c.in_ok-put_expr-in-While.ensures c.put_stmt-in-While.ensures
 
 pub put_parts-returns-in_ok-put_expr-in-Switch : goal.put_parts-returns-in_ok-put_expr-in-Switch
 unfolding opens
 put_parts-returns-in_ok-put_expr-in-Switch t c =
-    first_and _ _ _ _ _ _ _ _ (ap (more (expr_node c.in-Switch.operand)) (ap (nodes_of section_node) c.as_slice-in-Switch.ensures ∙ sym (section_row-hidden _)) ∙ sym (ap (λ e. children_of (stmt_node e)) c.in-Switch.is)) c.in_ok-put_expr-in-Switch.ensures c.put_sections.ensures
+    first_and _ _ _ _ _ _ _ _ (ap (λ e. more (expr_node e) (nodes_of section_node c.as_slice-in-Switch.result.now)) c.deref-in-Switch.ensures
+    ∙ ap (more (expr_node c.in-Switch.operand)) (ap (nodes_of section_node) c.as_slice-in-Switch.ensures ∙ sym (section_row-hidden _)) ∙ sym (ap (λ e. children_of (stmt_node e)) c.in-Switch.is)) c.in_ok-put_expr-in-Switch.ensures c.put_sections.ensures
 
 pub put_parts-returns-in_ok-put_part_of_for-in-For-2 : goal.put_parts-returns-in_ok-put_part_of_for-in-For-2
 unfolding opens
 put_parts-returns-in_ok-put_part_of_for-in-For-2 t c =
-    four _ _ _ _ _ _ _ (first_nodes c.in-For.first) (part_of_for c.in-For.condition) (part_of_for c.in-For.step) _ _ (ap (λ s. append_nodes (first_nodes c.in-For.first) (more (part_of_for c.in-For.condition) (both (part_of_for c.in-For.step) (stmt_node s)))) c.deref-in-For.ensures ∙ sym (ap (λ e. children_of (stmt_node e)) c.in-For.is)) c.in_ok-put_first-in-For.ensures c.in_ok-put_part_of_for-in-For.ensures c.in_ok-put_part_of_for-in-For-2.ensures c.put_stmt-in-For.ensures
+    four _ _ _ _ _ _ _ (first_nodes c.deref-in-For.result.now) (part_of_for c.in-For.condition) (part_of_for c.in-For.step) _ _
+    (ap (λ s. append_nodes (first_nodes c.deref-in-For.result.now) (more (part_of_for c.in-For.condition) (both (part_of_for c.in-For.step) (stmt_node s)))) c.deref-in-For-2.ensures
+    ∙ ap (λ f. append_nodes (first_nodes f) (more (part_of_for c.in-For.condition) (both (part_of_for c.in-For.step) (stmt_node c.in-For.body)))) c.deref-in-For.ensures ∙ sym (ap (λ e. children_of (stmt_node e)) c.in-For.is)) c.in_ok-put_first-in-For.ensures c.in_ok-put_part_of_for-in-For.ensures c.in_ok-put_part_of_for-in-For-2.ensures c.put_stmt-in-For.ensures
 
 pub put_stmts-loop-stmt-preserved : goal.put_stmts-loop-stmt-preserved
 unfolding opens
