@@ -3,7 +3,7 @@
 //! Contracts see a list of these objects as the list of records that `specs/Globals.antt` speaks of.
 #![tactic(auto)]
 
-ghost use Rattle.std.specs.Prelude.{◌≡◌, ◌+◌, ◌^◌, ◌<◌};
+ghost use Rattle.std.specs.Prelude.{◌≡◌, ◌+◌, ◌-◌, ◌^◌, ◌<◌, min};
 ghost use Rattle.data_object.specs.Layout.{place_after, data_end};
 
 use c_tree::{Name, Seq};
@@ -47,13 +47,13 @@ pub fn next_place(end: u64) -> u64
     (end + 7) / 8 * 8
 }
 
-/// The end of the data: that of the last object, or 0 where there is none.
+/// The end of the data in bytes: that of the last object, or 0 where there is none. The sum stands still at the
+/// greatest number of 64 bits.
 pub fn data_end(globals: &[DataObject]) -> u64
-    requires { data_end globals.now < 2 ^ 64 }
-    ensures { result ≡ data_end globals.now }
+    ensures { result ≡ min (data_end globals.now) (2 ^ 64 - 1) }
 {
     match globals.last() {
         None => 0,
-        Some(object) => object.offset + object.size,
+        Some(object) => object.offset.saturating_add(object.size),
     }
 }
