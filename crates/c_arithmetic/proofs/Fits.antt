@@ -9,7 +9,7 @@ use Rattle.std.proofs.lemmas.Int.{ints, to_z-of_z}
 use lib.Signed.{le_z_yes, mag_rem}
 use Rattle.c_arithmetic.specs.declared.integer_type.IntegerType.{IntegerType}
 use Rattle.c_arithmetic.specs.declared.integer_type.IntegerType.TheVariants.{Char, UnsignedChar, Short, UnsignedShort, Int, UnsignedInt, Long, UnsignedLong}
-use Rattle.c_arithmetic.specs.declared.outcome.Outcome.TheVariants.{Word, Trap}
+use Rattle.c_arithmetic.specs.declared.outcome.ArithmeticOutcome.TheVariants.{Word, Trap}
 use Rattle.c_arithmetic.specs.IntegerTypes.{is_signed, least, greatest, fits}
 use Rattle.c_arithmetic.specs.Words.{residue, extension, word}
 use Rattle.c_arithmetic.specs.Operations.{overflow, checked_remainder}

@@ -5,11 +5,11 @@ use Rattle.std.proofs.lemmas.Int.{ints}
 use lib.IntN.{+ℤ_comm, *ℤ_comm}
 use Rattle.c_arithmetic.specs.declared.integer_type.IntegerType.{IntegerType}
 use Rattle.c_arithmetic.specs.declared.integer_type.IntegerType.TheVariants.{Char, UnsignedChar, Short, UnsignedShort, Int, UnsignedInt, Long, UnsignedLong}
-use Rattle.c_arithmetic.specs.declared.outcome.Outcome.{Outcome}
-use Rattle.c_arithmetic.specs.declared.outcome.Outcome.TheVariants.{Word}
+use Rattle.c_arithmetic.specs.declared.outcome.ArithmeticOutcome.{ArithmeticOutcome}
+use Rattle.c_arithmetic.specs.declared.outcome.ArithmeticOutcome.TheVariants.{Word}
 use Rattle.c_arithmetic.specs.IntegerTypes.{is_signed, fits}
 use Rattle.c_arithmetic.specs.Words.{value, extension, is_word, word, residue}
-use Rattle.c_arithmetic.specs.Operations.{overflow, division_by_zero, checked, result_in, checked_remainder, sum, difference, product, negation, quotient, remainder, shift_count, left_shift_by, right_shift_by, left_shift, right_shift}
+use Rattle.c_arithmetic.specs.Operations.{overflow, division_by_zero, word_or_overflow, result_in, checked_remainder, sum, difference, product, negation, quotient, remainder, shift_count, left_shift_by, right_shift_by, left_shift, right_shift}
 use Rattle.c_arithmetic.specs.Outcomes.{IsWordOf}
 use Rattle.c_arithmetic.proofs.LowBits.{extension-again}
 use Rattle.c_arithmetic.proofs.Values.{fits-value, word-value}
@@ -20,15 +20,15 @@ use Rattle.c_arithmetic.proofs.Sums.{value-zero}
 pub is_word-extension : (t : IntegerType) (n : ℕ) → is_word t (extension t n) ≡ true
 is_word-extension t n = eq-eqb (extension t (extension t n)) (extension t n) (extension-again t n)
 
-one_of : (t : IntegerType) (b : Bool) (o p : Outcome) → IsWordOf t o → IsWordOf t p → IsWordOf t (cond b o p)
+one_of : (t : IntegerType) (b : Bool) (o p : ArithmeticOutcome) → IsWordOf t o → IsWordOf t p → IsWordOf t (cond b o p)
 one_of t true o p h k = h
 one_of t false o p h k = k
 
-checked_word : (t : IntegerType) (z : ℤ) → IsWordOf t (checked t z)
+checked_word : (t : IntegerType) (z : ℤ) → IsWordOf t (word_or_overflow t z)
 checked_word t z = one_of t (fits t z) (Word (word t z)) overflow (is_word-extension t (residue z)) tt
 
 result_word : (t : IntegerType) (z : ℤ) → IsWordOf t (result_in t z)
-result_word t z = one_of t (is_signed t) (checked t z) (Word (word t z)) (checked_word t z) (is_word-extension t (residue z))
+result_word t z = one_of t (is_signed t) (word_or_overflow t z) (Word (word t z)) (checked_word t z) (is_word-extension t (residue z))
 
 pub sum-word : (t : IntegerType) (a b : ℕ) → IsWordOf t (sum t a b)
 sum-word t a b = result_word t (value t a +ℤ value t b)
@@ -43,7 +43,7 @@ pub negation-word : (t : IntegerType) (a : ℕ) → IsWordOf t (negation t a)
 negation-word t a = result_word t (neg_ℤ (value t a))
 
 pub quotient-word : (t : IntegerType) (a b : ℕ) → IsWordOf t (quotient t a b)
-quotient-word t a b = let q = int_div (value t a) (value t b) in one_of t _ division_by_zero (checked t q) tt (checked_word t q)
+quotient-word t a b = let q = int_div (value t a) (value t b) in one_of t _ division_by_zero (word_or_overflow t q) tt (checked_word t q)
 
 pub remainder-word : (t : IntegerType) (a b : ℕ) → IsWordOf t (remainder t a b)
 remainder-word t a b =
@@ -86,14 +86,14 @@ value-one Long = refl
 value-one UnsignedLong = refl
 
 -- a value as a result
-both : (b : Bool) (o : Outcome) → cond b o o ≡ o
+both : (b : Bool) (o : ArithmeticOutcome) → cond b o o ≡ o
 both true o = refl
 both false o = refl
 
 pub result-value : (t : IntegerType) (n : ℕ) → result_in t (value t n) ≡ Word (extension t n)
 result-value t n =
     let held : Word (word t (value t n)) ≡ Word (extension t n) = ap Word (word-value t n) in
-    let fit : checked t (value t n) ≡ Word (word t (value t n)) = ap (λ b. cond b (Word (word t (value t n))) overflow) (fits-value t n) in
+    let fit : word_or_overflow t (value t n) ≡ Word (word t (value t n)) = ap (λ b. cond b (Word (word t (value t n))) overflow) (fits-value t n) in
     ap (λ o. cond (is_signed t) o (Word (word t (value t n)))) fit ∙ both (is_signed t) (Word (word t (value t n))) ∙ held
 
 add_none : (z : ℤ) → z +ℤ pos 0 ≡ z

@@ -4,16 +4,16 @@ use Rattle.std.specs.Prelude.{ℕ, ◌-◌, ◌*◌, ◌^◌, ℤ, pos, ◌+ℤ�
 use Rattle.std.specs.Int.{int_shr}
 use mir.Val.{bits}
 use Rattle.c_arithmetic.specs.declared.integer_type.IntegerType.{IntegerType}
-use Rattle.c_arithmetic.specs.declared.outcome.Outcome.{Outcome}
-use Rattle.c_arithmetic.specs.declared.outcome.Outcome.TheVariants.{Word, Trap, Undefined}
+use Rattle.c_arithmetic.specs.declared.outcome.ArithmeticOutcome.{ArithmeticOutcome}
+use Rattle.c_arithmetic.specs.declared.outcome.ArithmeticOutcome.TheVariants.{Word, Trap, Undefined}
 use Rattle.c_arithmetic.specs.IntegerTypes.{width, is_signed, fits}
 use Rattle.c_arithmetic.specs.Words.{low_bits, value, word, extension}
 
 -- the traps, by their codes
-abbrev pub division_by_zero : Outcome
+abbrev pub division_by_zero : ArithmeticOutcome
 division_by_zero = Trap 1
 
-abbrev pub overflow : Outcome
+abbrev pub overflow : ArithmeticOutcome
 overflow = Trap 3
 
 -- ---- conversion
@@ -25,34 +25,34 @@ conversion s t n = word t (value s n)
 -- ---- arithmetic
 
 -- a result that has to be a value of the type
-abbrev pub checked : IntegerType → ℤ → Outcome
-checked t z = if fits t z then Word (word t z) else overflow
+abbrev pub word_or_overflow : IntegerType → ℤ → ArithmeticOutcome
+word_or_overflow t z = if fits t z then Word (word t z) else overflow
 
 -- a result in a type: a signed one has to be a value of the type, an unsigned one is taken modulo 2^width
-abbrev pub result_in : IntegerType → ℤ → Outcome
-result_in t z = if is_signed t then checked t z else Word (word t z)
+abbrev pub result_in : IntegerType → ℤ → ArithmeticOutcome
+result_in t z = if is_signed t then word_or_overflow t z else Word (word t z)
 
-abbrev pub sum : IntegerType → ℕ → ℕ → Outcome
+abbrev pub sum : IntegerType → ℕ → ℕ → ArithmeticOutcome
 sum t a b = result_in t (value t a +ℤ value t b)
 
-abbrev pub difference : IntegerType → ℕ → ℕ → Outcome
+abbrev pub difference : IntegerType → ℕ → ℕ → ArithmeticOutcome
 difference t a b = result_in t (value t a -ℤ value t b)
 
-abbrev pub product : IntegerType → ℕ → ℕ → Outcome
+abbrev pub product : IntegerType → ℕ → ℕ → ArithmeticOutcome
 product t a b = result_in t (value t a *ℤ value t b)
 
-abbrev pub negation : IntegerType → ℕ → Outcome
+abbrev pub negation : IntegerType → ℕ → ArithmeticOutcome
 negation t a = result_in t (neg_ℤ (value t a))
 
 -- the quotient is rounded toward zero, and the remainder has the sign of the left operand; where the quotient is no
 -- value of the type, both trap (6.5.5)
-abbrev pub quotient : IntegerType → ℕ → ℕ → Outcome
-quotient t a b = if low_bits t b == 0 then division_by_zero else checked t (int_div (value t a) (value t b))
+abbrev pub quotient : IntegerType → ℕ → ℕ → ArithmeticOutcome
+quotient t a b = if low_bits t b == 0 then division_by_zero else word_or_overflow t (int_div (value t a) (value t b))
 
-abbrev pub checked_remainder : IntegerType → (x y : ℤ) → Outcome
+abbrev pub checked_remainder : IntegerType → (x y : ℤ) → ArithmeticOutcome
 checked_remainder t x y = if fits t (int_div x y) then Word (word t (int_rem x y)) else overflow
 
-abbrev pub remainder : IntegerType → ℕ → ℕ → Outcome
+abbrev pub remainder : IntegerType → ℕ → ℕ → ArithmeticOutcome
 remainder t a b = if low_bits t b == 0 then division_by_zero else checked_remainder t (value t a) (value t b)
 
 -- ---- bits
@@ -78,19 +78,19 @@ shift_count t u c =
     else None
 
 -- the bits that are moved out to the left are lost
-abbrev pub left_shift_by : IntegerType → ℕ → Option ℕ → Outcome
+abbrev pub left_shift_by : IntegerType → ℕ → Option ℕ → ArithmeticOutcome
 left_shift_by t a (Some k) = Word (extension t (a * 2 ^ k))
 left_shift_by t a None = Undefined
 
-abbrev pub left_shift : (t u : IntegerType) → ℕ → ℕ → Outcome
+abbrev pub left_shift : (t u : IntegerType) → ℕ → ℕ → ArithmeticOutcome
 left_shift t u a c = left_shift_by t a (shift_count t u c)
 
 -- a quotient by a power of two that is rounded down: the sign stays
-abbrev pub right_shift_by : IntegerType → ℕ → Option ℕ → Outcome
+abbrev pub right_shift_by : IntegerType → ℕ → Option ℕ → ArithmeticOutcome
 right_shift_by t a (Some k) = Word (word t (int_shr (value t a) k))
 right_shift_by t a None = Undefined
 
-abbrev pub right_shift : (t u : IntegerType) → ℕ → ℕ → Outcome
+abbrev pub right_shift : (t u : IntegerType) → ℕ → ℕ → ArithmeticOutcome
 right_shift t u a c = right_shift_by t a (shift_count t u c)
 
 -- ---- comparisons

@@ -6,7 +6,7 @@ ghost use Rattle.c_arithmetic.specs.Words.{word, value};
 ghost use Rattle.c_arithmetic.specs.Operations.{conjunction, disjunction, exclusive_disjunction, complement, shift_count, left_shift, right_shift};
 
 use crate::integer_type::IntegerType;
-use crate::outcome::Outcome;
+use crate::outcome::ArithmeticOutcome;
 
 impl IntegerType {
     /// `a & b`.
@@ -50,22 +50,22 @@ impl IntegerType {
     }
 
     /// `a << count`, where the count is a word of a type of its own. The bits that are moved out are lost.
-    pub fn shift_left(self, count_type: IntegerType, a: u64, count: u64) -> Outcome
+    pub fn shift_left(self, count_type: IntegerType, a: u64, count: u64) -> ArithmeticOutcome
         ensures { result ≡ left_shift self count_type a count }
     {
         match self.shift_count(count_type, count) {
-            Some(bits) => Outcome::Word(self.extend(a << bits)),
-            None => Outcome::Undefined,
+            Some(bits) => ArithmeticOutcome::Word(self.extend(a << bits)),
+            None => ArithmeticOutcome::Undefined,
         }
     }
 
     /// `a >> count`, where the count is a word of a type of its own. The sign stays.
-    pub fn shift_right(self, count_type: IntegerType, a: u64, count: u64) -> Outcome
+    pub fn shift_right(self, count_type: IntegerType, a: u64, count: u64) -> ArithmeticOutcome
         ensures { result ≡ right_shift self count_type a count }
     {
         match self.shift_count(count_type, count) {
-            Some(bits) => Outcome::Word(self.moved_right(a, bits)),
-            None => Outcome::Undefined,
+            Some(bits) => ArithmeticOutcome::Word(self.moved_right(a, bits)),
+            None => ArithmeticOutcome::Undefined,
         }
     }
 

@@ -3,7 +3,7 @@
 ghost use Rattle.std.specs.Prelude.{◌≡◌, ℕ, ℤ, ◌+◌, ◌-◌, ◌*◌, ◌^◌, ◌<◌, ◌≤◌, ◌+ℤ◌, ◌-ℤ◌, ◌*ℤ◌, neg_ℤ, ◌==◌, nat_lt, bit_and, bit_or, bit_xor, true, false};
 ghost use Rattle.c_arithmetic.specs.declared.integer_type.IntegerType.{IntegerType};
 ghost use Rattle.c_arithmetic.specs.declared.integer_type.IntegerType.TheVariants.{Long};
-ghost use Rattle.c_arithmetic.specs.declared.outcome.Outcome.TheVariants.{Word};
+ghost use Rattle.c_arithmetic.specs.declared.outcome.ArithmeticOutcome.TheVariants.{Word};
 ghost use Rattle.c_arithmetic.specs.IntegerTypes.{bytes, is_signed, fits, promoted};
 ghost use Rattle.c_arithmetic.specs.Words.{value, word, extension, is_word};
 ghost use Rattle.c_arithmetic.specs.Operations.{conversion, sum, difference, product, negation, quotient, remainder, left_shift, right_shift, conjunction, disjunction, exclusive_disjunction, is_equal, is_less};

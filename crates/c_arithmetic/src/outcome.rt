@@ -2,7 +2,7 @@
 
 /// What an operation comes to.
 #[derive(Clone, Copy, Debug, PartialEq, Eq, Drop)]
-pub enum Outcome {
+pub enum ArithmeticOutcome {
     /// A value, by the word that holds it.
     Word(u64),
     /// A trap with its code: `DIVISION_BY_ZERO` or `OVERFLOW`.

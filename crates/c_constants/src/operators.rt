@@ -6,34 +6,34 @@ ghost use Rattle.c_constants.specs.model.Evaluations as model;
 
 use c_arithmetic::comparison::truth;
 use c_arithmetic::integer_type::IntegerType;
-use c_arithmetic::outcome::Outcome;
+use c_arithmetic::outcome::ArithmeticOutcome;
 use c_tree::{BinaryOp, UnaryOp};
 
 /// The word of what neither traps nor is undefined.
-fn word_of(outcome: Outcome) -> Option<u64>
+fn word_of(outcome: ArithmeticOutcome) -> Option<u64>
     ensures { result ≡ spec.word_of outcome }
 {
     match outcome {
-        Outcome::Word(word) => Some(word),
-        Outcome::Trap(_) => None,
-        Outcome::Undefined => None,
+        ArithmeticOutcome::Word(word) => Some(word),
+        ArithmeticOutcome::Trap(_) => None,
+        ArithmeticOutcome::Undefined => None,
     }
 }
 
 /// An operator between two integers of one type; the count of a shift has a type of its own.
-fn integers_with(op: BinaryOp, t: IntegerType, count: IntegerType, x: u64, y: u64) -> Outcome
+fn integers_with(op: BinaryOp, t: IntegerType, count: IntegerType, x: u64, y: u64) -> ArithmeticOutcome
     ensures { result ≡ spec.integers_with op t count x y }
 {
     match op {
-        BinaryOp::Or => Outcome::Word(t.or(x, y)),
-        BinaryOp::Xor => Outcome::Word(t.exclusive_or(x, y)),
-        BinaryOp::And => Outcome::Word(t.and(x, y)),
-        BinaryOp::Equal => Outcome::Word(truth(t.is_equal(x, y))),
-        BinaryOp::NotEqual => Outcome::Word(truth(!t.is_equal(x, y))),
-        BinaryOp::Less => Outcome::Word(truth(t.is_less(x, y))),
-        BinaryOp::Greater => Outcome::Word(truth(t.is_less(y, x))),
-        BinaryOp::LessEqual => Outcome::Word(truth(t.is_less_or_equal(x, y))),
-        BinaryOp::GreaterEqual => Outcome::Word(truth(t.is_less_or_equal(y, x))),
+        BinaryOp::Or => ArithmeticOutcome::Word(t.or(x, y)),
+        BinaryOp::Xor => ArithmeticOutcome::Word(t.exclusive_or(x, y)),
+        BinaryOp::And => ArithmeticOutcome::Word(t.and(x, y)),
+        BinaryOp::Equal => ArithmeticOutcome::Word(truth(t.is_equal(x, y))),
+        BinaryOp::NotEqual => ArithmeticOutcome::Word(truth(!t.is_equal(x, y))),
+        BinaryOp::Less => ArithmeticOutcome::Word(truth(t.is_less(x, y))),
+        BinaryOp::Greater => ArithmeticOutcome::Word(truth(t.is_less(y, x))),
+        BinaryOp::LessEqual => ArithmeticOutcome::Word(truth(t.is_less_or_equal(x, y))),
+        BinaryOp::GreaterEqual => ArithmeticOutcome::Word(truth(t.is_less_or_equal(y, x))),
         BinaryOp::ShiftLeft => t.shift_left(count, x, y),
         BinaryOp::ShiftRight => t.shift_right(count, x, y),
         BinaryOp::Add => t.add(x, y),
@@ -41,8 +41,8 @@ fn integers_with(op: BinaryOp, t: IntegerType, count: IntegerType, x: u64, y: u6
         BinaryOp::Multiply => t.multiply(x, y),
         BinaryOp::Divide => t.divide(x, y),
         BinaryOp::Remainder => t.remainder(x, y),
-        BinaryOp::LogicalOr => Outcome::Undefined,
-        BinaryOp::LogicalAnd => Outcome::Undefined,
+        BinaryOp::LogicalOr => ArithmeticOutcome::Undefined,
+        BinaryOp::LogicalAnd => ArithmeticOutcome::Undefined,
     }
 }
 

@@ -10,7 +10,7 @@ use Rattle.mem_model.specs.declared.value.MemFault.{MemFault}
 use Rattle.mem_model.specs.Memory.{Memory, load_at, store_at, copy_at, overlaps}
 use Rattle.mem_model.specs.Pointers.{is_live, pointer_plus, pointer_minus, pointer_lt, pointer_le, pointer_eq}
 use Rattle.c_arithmetic.specs.declared.integer_type.IntegerType.{IntegerType}
-use Rattle.c_arithmetic.specs.declared.outcome.Outcome.{Outcome}
+use Rattle.c_arithmetic.specs.declared.outcome.ArithmeticOutcome.{ArithmeticOutcome}
 use Rattle.c_tree.specs.declared.expressions.BinaryOp.{BinaryOp}
 use Rattle.c_tree.specs.declared.expressions.StepOp.{StepOp}
 use Rattle.c_typed_tree.specs.declared.types.StructDef.{StructDef}
@@ -33,7 +33,7 @@ use Rattle.c_typed_tree.specs.View.{type_view, stmt_view}
 use Rattle.c_semantics.specs.Evaluates.{put, get, builtin, Functions, call, element, member_at, target_of, update, assign, choose, converted_from, eval, place, evals, last_of}
 use Rattle.c_semantics.specs.Executes.{Flow, Goes, Breaks, Continues, Returns, after_body, and_next, after_switch, declared_in, declared_first, is_label_of, target_in, with_parameters, value_of_call, body_of, holds, condition, step, initialise, declare, declares, first, returned, exec, exec_else, execs, exec_sections, exec_from, within_call, Level, call_of}
 use Rattle.c_typed_tree.specs.Lawful.{is_main}
-use Rattle.c_arithmetic.specs.declared.outcome.Outcome.TheVariants as o
+use Rattle.c_arithmetic.specs.declared.outcome.ArithmeticOutcome.TheVariants as o
 use Rattle.c_tree.specs.declared.expressions.UnaryOp.TheVariants as u
 use Rattle.c_tree.specs.declared.expressions.BinaryOp.TheVariants as b
 use Rattle.c_tree.specs.declared.expressions.StepOp.TheVariants as s
@@ -165,7 +165,7 @@ module _ (R : (A : Type 0) → Run A → Run A → Type 0) (kept : Congruence R)
 
   -- ---- operators
 
-  pub steady_outcome : (r : Outcome) → Itself (outcome r)
+  pub steady_outcome : (r : ArithmeticOutcome) → Itself (outcome r)
   steady_outcome (o.Word n) = kept.pure _
   steady_outcome (o.Trap code) = kept.trap code
   steady_outcome o.Undefined = kept.undefined _

@@ -7,8 +7,8 @@ use Rattle.mem_model.specs.Memory.{Memory}
 use Rattle.mem_model.specs.Pointers.{is_live, pointer_minus, pointer_lt, pointer_le, pointer_eq}
 use Rattle.c_arithmetic.specs.declared.integer_type.IntegerType.{IntegerType}
 use Rattle.c_arithmetic.specs.declared.integer_type.IntegerType.TheVariants as i
-use Rattle.c_arithmetic.specs.declared.outcome.Outcome.{Outcome}
-use Rattle.c_arithmetic.specs.declared.outcome.Outcome.TheVariants as o
+use Rattle.c_arithmetic.specs.declared.outcome.ArithmeticOutcome.{ArithmeticOutcome}
+use Rattle.c_arithmetic.specs.declared.outcome.ArithmeticOutcome.TheVariants as o
 use Rattle.c_arithmetic.specs.IntegerTypes.{bytes, is_signed, promoted}
 use Rattle.c_arithmetic.specs.Words.{value, word}
 use Rattle.c_arithmetic.specs.Operations.{conversion, negation, complement, truth}
@@ -28,7 +28,7 @@ use Rattle.c_semantics.specs.Reasons.{Reason, UsesDeadObject, ComparesApart, Com
 use Rattle.c_semantics.specs.Runs.{Run, ◌>>=◌, pure, undefined, trap, seen, known, used, number}
 use Rattle.c_semantics.specs.Objects.{integer_of, move, move_by}
 
-abbrev pub outcome : Outcome → Run Value
+abbrev pub outcome : ArithmeticOutcome → Run Value
 outcome (o.Word n) = pure (Word n)
 outcome (o.Trap code) = trap code
 outcome o.Undefined = undefined ShiftsTooFar

@@ -1,8 +1,8 @@
 -- Integer constants (C99 6.6): what they are built of, and the values of those that neither trap nor are undefined.
 use Rattle.std.specs.Prelude.{ℕ, Bool, true, false, not, ◌&&◌, ◌==◌, is_some, Option, Some, None, option_map, option_and_then, if◌then◌else◌}
 use Rattle.c_arithmetic.specs.declared.integer_type.IntegerType.{IntegerType}
-use Rattle.c_arithmetic.specs.declared.outcome.Outcome.{Outcome}
-use Rattle.c_arithmetic.specs.declared.outcome.Outcome.TheVariants as o
+use Rattle.c_arithmetic.specs.declared.outcome.ArithmeticOutcome.{ArithmeticOutcome}
+use Rattle.c_arithmetic.specs.declared.outcome.ArithmeticOutcome.TheVariants as o
 use Rattle.c_arithmetic.specs.Operations.{conversion, sum, difference, product, negation, quotient, remainder, conjunction, disjunction, exclusive_disjunction, complement, left_shift, right_shift, is_less, is_less_or_equal, is_equal, truth}
 use Rattle.c_tree.specs.declared.expressions.UnaryOp.{UnaryOp}
 use Rattle.c_tree.specs.declared.expressions.UnaryOp.TheVariants as u
@@ -15,7 +15,7 @@ use Rattle.c_typed_tree.specs.Layout.{integer_of}
 -- ---- operators
 
 -- an operator between two integers of one type; the count of a shift has a type of its own. `&&` and `||` are none
-abbrev pub integers_with : BinaryOp → (t count : IntegerType) → ℕ → ℕ → Outcome
+abbrev pub integers_with : BinaryOp → (t count : IntegerType) → ℕ → ℕ → ArithmeticOutcome
 integers_with b.Or t c x y = o.Word (disjunction t x y)
 integers_with b.Xor t c x y = o.Word (exclusive_disjunction t x y)
 integers_with b.And t c x y = o.Word (conjunction t x y)
@@ -36,7 +36,7 @@ integers_with b.LogicalOr t c x y = o.Undefined
 integers_with b.LogicalAnd t c x y = o.Undefined
 
 -- the word of what neither traps nor is undefined
-abbrev pub word_of : Outcome → Option ℕ
+abbrev pub word_of : ArithmeticOutcome → Option ℕ
 word_of (o.Word n) = Some n
 word_of (o.Trap code) = None
 word_of o.Undefined = None

@@ -2,7 +2,7 @@
 
 use anyhow::{Result, bail};
 use c_arithmetic::integer_type::IntegerType;
-use c_arithmetic::outcome::Outcome;
+use c_arithmetic::outcome::ArithmeticOutcome;
 use row_sheets::number::quad;
 use std::alloc::Global;
 
@@ -35,11 +35,11 @@ fn name_of(of: IntegerType) -> &'static str {
     }
 }
 
-fn shown_outcome(alloc: Global, outcome: Outcome) -> Result<String> {
+fn shown_outcome(alloc: Global, outcome: ArithmeticOutcome) -> Result<String> {
     Ok(match outcome {
-        Outcome::Word(word) => format!(in alloc; "word {word:x}\n")?,
-        Outcome::Trap(code) => format!(in alloc; "trap {code}\n")?,
-        Outcome::Undefined => "undefined\n".to_string(alloc)?,
+        ArithmeticOutcome::Word(word) => format!(in alloc; "word {word:x}\n")?,
+        ArithmeticOutcome::Trap(code) => format!(in alloc; "trap {code}\n")?,
+        ArithmeticOutcome::Undefined => "undefined\n".to_string(alloc)?,
     })
 }
 

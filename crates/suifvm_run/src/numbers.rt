@@ -6,7 +6,7 @@ ghost use Rattle.vm_meaning.specs.Operations as operations;
 
 use c_arithmetic::comparison::truth;
 use c_arithmetic::integer_type::IntegerType;
-use c_arithmetic::outcome::Outcome;
+use c_arithmetic::outcome::ArithmeticOutcome;
 use mem_model::value::Value;
 use suifvm_ir::insn::{BinaryOp, CompareOp, ShiftOp, UnaryOp};
 use suifvm_ir::types::{MemoryType, VmType};
@@ -72,13 +72,13 @@ pub fn when_value(ty: VmType, value: Value) -> Answer
 }
 
 /// What an operation on integers comes to.
-fn of_outcome(outcome: Outcome) -> Answer
+fn of_outcome(outcome: ArithmeticOutcome) -> Answer
     ensures { result ≡ operations.outcome_answer outcome }
 {
     match outcome {
-        Outcome::Word(word) => Answer::Gives(Value::Word(word)),
-        Outcome::Trap(code) => Answer::TrapsWith(code),
-        Outcome::Undefined => Answer::Fails,
+        ArithmeticOutcome::Word(word) => Answer::Gives(Value::Word(word)),
+        ArithmeticOutcome::Trap(code) => Answer::TrapsWith(code),
+        ArithmeticOutcome::Undefined => Answer::Fails,
     }
 }
 

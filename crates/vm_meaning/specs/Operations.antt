@@ -8,8 +8,8 @@ use Rattle.mem_model.specs.Memory.{Memory, load_at, store_at, copy_at}
 use Rattle.mem_model.specs.Pointers.{pointer_plus, pointer_minus, pointer_eq, pointer_lt, pointer_le, is_null}
 use Rattle.c_arithmetic.specs.declared.integer_type.IntegerType.{IntegerType}
 use Rattle.c_arithmetic.specs.declared.integer_type.IntegerType.TheVariants.{Char, UnsignedChar, Short, UnsignedShort, Int, UnsignedInt, Long, UnsignedLong}
-use Rattle.c_arithmetic.specs.declared.outcome.Outcome.{Outcome}
-use Rattle.c_arithmetic.specs.declared.outcome.Outcome.TheVariants as o
+use Rattle.c_arithmetic.specs.declared.outcome.ArithmeticOutcome.{ArithmeticOutcome}
+use Rattle.c_arithmetic.specs.declared.outcome.ArithmeticOutcome.TheVariants as o
 use Rattle.c_arithmetic.specs.IntegerTypes.{bytes}
 use Rattle.c_arithmetic.specs.Words.{value, extension, is_word, word}
 use Rattle.c_arithmetic.specs.Operations as c
@@ -80,7 +80,7 @@ when_value ty v = if is_value_of ty v then Gives v else Fails
 abbrev pub word_answer : (n : ℕ) → Answer
 word_answer n = Gives (Word n)
 
-abbrev pub outcome_answer : Outcome → Answer
+abbrev pub outcome_answer : ArithmeticOutcome → Answer
 outcome_answer (o.Word n) = Gives (Word n)
 outcome_answer (o.Trap code) = TrapsWith code
 outcome_answer o.Undefined = Fails
