@@ -1,7 +1,8 @@
 //! The value of an expression, in one walk over its tree.
 
 ghost use Rattle.std.specs.Prelude.{◌≡◌};
-ghost use Rattle.c_typed_tree.specs.View.{expr_view, exprs_view, type_view};
+ghost use Rattle.c_typed_tree.specs.View.{expr_view, type_view};
+ghost use Rattle.c_typed_tree.specs.model.View.{exprs_view};
 ghost use Rattle.c_typed_tree.specs.Constants as constants;
 ghost use Rattle.c_typed_tree.specs.Typing as typing;
 ghost use Rattle.c_constants.specs.Null as null;
@@ -23,7 +24,7 @@ fn is_nothing(operands: &[TExpr]) -> bool
 
 /// Evaluates an expression as a constant.
 #[cycle(evaluate)]
-#[tactic(auto, unfolding(c_typed_tree::specs::View::opens))]
+#[tactic(auto, unfolding(c_typed_tree::specs::model::View::opens))]
 fn evaluate(e: &TExpr) -> Evaluation
     ensures { result ≡ spec.evaluation (expr_view e.now) }
 {
@@ -90,7 +91,7 @@ fn is_null_constant(e: &TExpr) -> bool
 }
 
 /// Whether it is `void *`.
-#[tactic(auto, unfolding(c_typed_tree::specs::View::opens))]
+#[tactic(auto, unfolding(c_typed_tree::specs::model::View::opens))]
 fn is_pointer_to_void(ty: &CType) -> bool
     ensures { result ≡ typing.is_pointer_to_void (type_view ty.now) }
 {
@@ -103,7 +104,7 @@ fn is_pointer_to_void(ty: &CType) -> bool
     }
 }
 
-#[tactic(auto, unfolding(c_typed_tree::specs::View::opens))]
+#[tactic(auto, unfolding(c_typed_tree::specs::model::View::opens))]
 fn is_void(ty: &CType) -> bool
     ensures { result ≡ typing.is_void (type_view ty.now) }
 {
@@ -127,7 +128,7 @@ fn is_null_cast(ty: &CType, e: &TExpr) -> bool
 }
 
 /// Whether it is the integer constant 0 cast to `void *`.
-#[tactic(auto, unfolding(c_typed_tree::specs::View::opens))]
+#[tactic(auto, unfolding(c_typed_tree::specs::model::View::opens))]
 fn is_null_void(e: &TExpr) -> bool
     ensures { result ≡ null.is_null_void (expr_view e.now) }
 {

@@ -8,4 +8,6 @@ same false true f g = g refl
 same false false f g = refl
 
 pub deeper : (depth most : ℕ) → (most ≡ 0 → ⊥) → nat_le depth (most - 1) ≡ nat_le (1 + depth) most
-deeper depth most some = same (nat_le depth (most - 1)) (nat_le (1 + depth) most) (λ h. grind (arith, nat_tests)) (λ h. grind (arith, nat_tests))
+deeper depth most some =
+    same (nat_le depth (most - 1)) (nat_le (1 + depth) most) (λ h. grind (arith, nat_tests))
+    (λ h. grind (arith, nat_tests))

@@ -1,9 +1,7 @@
 -- What stars, lengths and lists of parameters make of a type (C99 6.7.5.1 to 6.7.5.3); None where there is no such
 -- type.
 use Rattle.std.specs.Prelude.{ℕ, if◌then◌else◌, List, Option, Some, None}
-use denote.Hole.Carrier as Carrier
 use Rattle.c_typed_tree.specs.declared.types.CType as t
-use Rattle.c_typed_tree.specs.declared.types.CType.TheBlock as tb
 use Rattle.c_typed_tree.specs.declared.types.StructDef.{StructDef}
 use Rattle.c_typed_tree.specs.Layout.{is_object}
 use Rattle.c_typed_tree.specs.Typing.{is_void, is_scalar}
@@ -55,8 +53,3 @@ abbrev pub function_of : DeclaredType → List t.CType → Option DeclaredType
 function_of (d.Value ty) parameters = function_with ty parameters
 function_of (d.Unsized element) parameters = None
 function_of (d.Function of more) parameters = None
-
--- opens what looks into a type
-unfoldable pub opens : Unit {0}
-unfolding parameter_value tb.hidden-the_row-CType-0 Carrier.hidden
-opens = tt

@@ -1,2 +1,3 @@
 pub mod Declarators
 pub mod Depth
+pub mod model

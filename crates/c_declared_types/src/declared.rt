@@ -98,7 +98,7 @@ pub fn parameter_of(alloc: Global, ty: DeclaredType) -> Result<Option<CType>, Al
     }
 }
 
-#[tactic(auto, unfolding(crate::specs::Declarators::opens))]
+#[tactic(auto, unfolding(crate::specs::model::Open::opens))]
 fn parameter_value(alloc: Global, ty: CType) -> Result<Option<CType>, AllocError>
     ensures { IfOk result (λ r. r ≡ spec.parameter_value ty) }
 {

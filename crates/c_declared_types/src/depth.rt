@@ -13,7 +13,7 @@ use c_typed_tree::{CType, StructDef};
 const MOST_DEPTH: u64 = 256;
 
 /// Whether a type that stands behind a pointer has at most a depth there.
-#[tactic(auto, using(crate::proofs::Deeper::deeper), unfolding(c_typed_tree::specs::View::opens))]
+#[tactic(auto, using(crate::proofs::Deeper::deeper), unfolding(c_typed_tree::specs::model::View::opens))]
 fn is_behind_at_most(most: u64, ty: &CType) -> bool
     ensures { result ≡ nat_le (depth_behind (type_view ty.now)) most }
 {
@@ -47,7 +47,7 @@ fn is_struct_at_most(structs: &[StructDef], most: u64, number: u32) -> bool
 
 /// Whether a type has at most a depth: 1 for what has no parts, for a struct that is not complete and for one behind a
 /// pointer; else 1 more than the deepest part.
-#[tactic(auto, using(crate::proofs::Deeper::deeper), unfolding(c_typed_tree::specs::View::opens))]
+#[tactic(auto, using(crate::proofs::Deeper::deeper), unfolding(c_typed_tree::specs::model::View::opens))]
 pub fn is_deep_at_most(structs: &[StructDef], most: u64, ty: &CType) -> bool
     ensures { result ≡ spec.is_deep_at_most structs.now most ty.now }
 {

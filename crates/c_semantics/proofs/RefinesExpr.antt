@@ -14,7 +14,7 @@ use Rattle.c_typed_tree.specs.Types.{PlainType, Pointer}
 use Rattle.c_typed_tree.specs.Expressions.{Expr, Call, Unary, Binary, Assign, Conditional, Cast, Convert, Index, Field, Arrow, Postfix, Comma, Exprs, no_exprs, more_exprs, type_of}
 use Rattle.c_typed_tree.specs.Layout.{integer_of}
 use Rattle.c_typed_tree.specs.Constants.{is_integer, is_pure_operator, is_built, are_built, unary_value, converted_value, value_with, constant, last_value, is_null_constant}
-use Rattle.c_typed_tree.specs.Typing.{Context, Signature, is_fit, is_same_type, is_array, has_promoted_type, has_truth_type, has_step_type, has_binary_type, has_assigned_type, is_choice, is_cast, is_conversion, is_element, is_member, points_to, signature_of, is_call, are_arguments, is_place, is_in_memory, has_last_type, are_operands, has_unary_type, has_rule, is_typed, are_typed}
+use Rattle.c_typed_tree.specs.Typing.{Context, Signature, is_fit, is_same_type, is_array, has_promoted_type, has_truth_type, has_step_type, has_binary_type, has_assigned_type, is_choice, is_cast, is_conversion, is_element, is_member, points_to, callee_signature, is_call, are_arguments, is_place, is_in_memory, has_last_type, are_operands, has_unary_type, has_rule, is_typed, are_typed}
 use Rattle.c_typed_tree.specs.Typing as rules
 use Rattle.c_typed_tree.specs.Names.{Named, is_function, names, any_names}
 use Rattle.c_typed_tree.specs.Weight.{exprs_count, expr_weight, exprs_weight}
@@ -379,7 +379,7 @@ call_refines : (c : Context) {xs ys : Exprs} → ListIn c xs ys → (t : PlainTy
     → IsTrue (has_rule c (Call t callee ys)) → Inside c (Call t callee xs) (Call t callee ys)
 unfolding expr_weight
 call_refines c {xs = xs} {ys = ys} g t callee fit rule = record {
-  typed = three (is_fit c.structs t) (has_rule c (Call t callee xs)) (are_typed c xs) fit (call_rule c g t (signature_of c callee) rule) g.typed;
+  typed = three (is_fit c.structs t) (has_rule c (Call t callee xs)) (are_typed c xs) fit (call_rule c g t (callee_signature c callee) rule) g.typed;
   types = refl;
   named = λ a. either_on (is_function a callee) (any_names a xs) (is_function a callee) (any_names a ys) (λ p. p) (g.named a);
   weight = omega (arith, g.weight);

@@ -13,17 +13,21 @@ lies : (ds : List StructDef) (end : ℕ) (fs : List Field) → LieFrom ds end (m
 lies ds end [] = tt
 lies ds end (f ∷ fs) = (refl, lies ds (end_of ds end f) fs)
 
-ends : (ds : List StructDef) (end : ℕ) (fs : List Field) → end_from ds end (members_from ds end fs) ≡ end_behind ds end fs
+ends : (ds : List StructDef) (end : ℕ) (fs : List Field)
+    → end_from ds end (members_from ds end fs) ≡ end_behind ds end fs
 ends ds end [] = refl
 ends ds end (f ∷ fs) = ends ds (end_of ds end f) fs
 
-deep_from : (ds : List StructDef) (end : ℕ) (fs : List Field) → greatest_depth ds (members_from ds end fs) ≡ deepest ds fs
+deep_from : (ds : List StructDef) (end : ℕ) (fs : List Field)
+    → greatest_depth ds (members_from ds end fs) ≡ deepest ds fs
 deep_from ds end [] = refl
 deep_from ds end (f ∷ fs) = ap (max (depth_of ds (type_view f.ty))) (deep_from ds (end_of ds end f) fs)
 
 module _ (ds : List StructDef) (tag : List ℕ) (fs : List Field) where
   whole : StructDef
-  whole = struct_with ds tag (members_from ds 0 fs) (deepest ds fs) (aligned_up (greatest_align ds (members_from ds 0 fs)) (end_behind ds 0 fs))
+  whole =
+      struct_with ds tag (members_from ds 0 fs) (deepest ds fs)
+      (aligned_up (greatest_align ds (members_from ds 0 fs)) (end_behind ds 0 fs))
 
   is_whole : (d : StructDef) → struct_of ds tag fs ≡ Some d → whole ≡ d
   unfolding whole
@@ -35,7 +39,11 @@ module _ (ds : List StructDef) (tag : List ℕ) (fs : List Field) where
 
   whole_laid : IsLaidOut ds whole
   unfolding whole
-  whole_laid = record { members = lies ds 0 fs; align = refl; size = ap (aligned_up (greatest_align ds (members_from ds 0 fs))) (sym (ends ds 0 fs)) }
+  whole_laid = record {
+    members = lies ds 0 fs;
+    align = refl;
+    size = ap (aligned_up (greatest_align ds (members_from ds 0 fs))) (sym (ends ds 0 fs));
+  }
 
   whole_deep : whole.depth ≡ 1 + greatest_depth ds whole.members
   unfolding whole

@@ -44,7 +44,8 @@ struct_with ds tag ms depth size = record {
   depth = 1 + depth;
 }
 
-abbrev pub struct_within : List StructDef → (tag : List ℕ) → (members : List Member) → (depth size : ℕ) → Option StructDef
+abbrev pub struct_within :
+    List StructDef → (tag : List ℕ) → (members : List Member) → (depth size : ℕ) → Option StructDef
 struct_within ds tag ms depth size =
     if nat_le size MOST_DATA then Some (struct_with ds tag ms depth size) else None
 

@@ -76,7 +76,7 @@ fn greatest_align(structs: &[StructDef], members: &[Member]) -> u64
 }
 
 /// The depth of a type behind a pointer.
-#[tactic(auto, unfolding(c_typed_tree::specs::View::opens))]
+#[tactic(auto, unfolding(c_typed_tree::specs::model::View::opens))]
 fn behind(ty: &CType) -> u64
     requires { depth_behind (type_view ty.now) ≤ most_depth }
     ensures { result ≡ depth_behind (type_view ty.now) }
@@ -100,7 +100,7 @@ fn depth_of_struct(structs: &[StructDef], number: u32) -> u64
 }
 
 /// The depth of a type.
-#[tactic(auto, unfolding(c_typed_tree::specs::View::opens))]
+#[tactic(auto, unfolding(c_typed_tree::specs::model::View::opens))]
 fn depth(structs: &[StructDef], ty: &CType) -> u64
     requires { depth_of structs.now (type_view ty.now) ≤ most_depth }
     ensures { result ≡ depth_of structs.now (type_view ty.now) }

@@ -6,7 +6,8 @@ use Rattle.std.proofs.lemmas.List.Elements.{All-cons}
 use Rattle.c_type_faults.specs.declared.faults.Kind.{Kind}
 use Rattle.c_type_faults.specs.declared.faults.Kind.TheVariants as k
 use Rattle.c_type_faults.specs.declared.faults.Fault.{Fault}
-use Rattle.c_type_faults.specs.Faults.{kind_number, is_before, inserted, sorted_onto, sorted, head, earlier}
+use Rattle.c_type_faults.specs.Faults.{kind_number, is_before, inserted, sorted_onto, sorted, head}
+use Rattle.c_type_faults.specs.model.Earlier.{earlier}
 use Rattle.c_type_faults.proofs.Sorted.{head-inserted}
 
 -- a number by which faults are in order
@@ -63,15 +64,28 @@ lower g None = record { first = omega arith; other = λ d e. let clash : ⊥ = c
 lower g (Some h) = by (is_before g h) refl
   where
     by : (b : Bool) → is_before g h ≡ b → IsLower (cond b g h) g (Some h)
-    by true e = let less = before g h e in record { first = omega arith; other = λ d same. let is : h ≡ d = cc in subst (λ x. worth g ≤ worth x) is (omega arith) }
-    by false e = let less = not_before g h e in record { first = less; other = λ d same. let is : h ≡ d = cc in subst (λ x. worth h ≤ worth x) is (omega arith) }
+    by true e =
+        let less = before g h e in
+        record {
+          first = omega arith;
+          other = λ d same. let is : h ≡ d = cc in subst (λ x. worth g ≤ worth x) is (omega arith);
+        }
+    by false e =
+        let less = not_before g h e in
+        record {
+          first = less;
+          other = λ d same. let is : h ≡ d = cc in subst (λ x. worth h ≤ worth x) is (omega arith);
+        }
 
 record IsLeast (f : Fault) (done fs : List Fault) : Type 0 where
   pub all : All (λ g. is_before g f ≡ false) fs
   pub before : (d : Fault) → head done ≡ Some d → worth f ≤ worth d
 
 least_onto : (done fs : List Fault) (f : Fault) → head (sorted_onto done fs) ≡ Some f → IsLeast f done fs
-least_onto done [] f e = record { all = λ k d h. absurd (omega arith); before = λ d same. let is : f ≡ d = cc in subst (λ x. worth f ≤ worth x) is (omega arith) }
+least_onto done [] f e = record {
+  all = λ k d h. absurd (omega arith);
+  before = λ d same. let is : f ≡ d = cc in subst (λ x. worth f ≤ worth x) is (omega arith);
+}
 least_onto done (g ∷ gs) f e =
     let rest = least_onto (inserted g done) gs f e in
     let low = lower g (head done) in

@@ -45,7 +45,3 @@ sorted fs = sorted_onto [] fs
 abbrev pub head : List Fault → Option Fault
 head [] = None
 head (f ∷ fs) = Some f
-
-abbrev pub earlier : Fault → Option Fault → Fault
-earlier f None = f
-earlier f (Some g) = if is_before f g then f else g

@@ -2,6 +2,7 @@
 
 ghost use Rattle.std.specs.Prelude.{◌≡◌};
 ghost use Rattle.c_type_faults.specs.Faults as spec;
+ghost use Rattle.c_type_faults.specs.model.Earlier as model;
 
 use crate::{Fault, Kind};
 
@@ -46,7 +47,7 @@ fn is_before(f: Fault, g: Fault) -> bool
 
 /// The earlier of a fault and another, if there is another.
 fn earlier(f: Fault, g: Option<Fault>) -> Fault
-    ensures { result ≡ spec.earlier f g }
+    ensures { result ≡ model.earlier f g }
 {
     match g {
         None => f,

@@ -25,7 +25,7 @@ pub fn integer_type(t: IntegerType) -> CType
 }
 
 /// Whether two types are one.
-#[tactic(auto, unfolding(c_typed_tree::specs::View::opens))]
+#[tactic(auto, unfolding(c_typed_tree::specs::model::View::opens))]
 pub fn is_same(a: &CType, b: &CType) -> bool
     ensures { result ≡ values.is_same a.now b.now }
 {
@@ -72,7 +72,7 @@ pub fn is_same(a: &CType, b: &CType) -> bool
 }
 
 /// Whether it is `void`.
-#[tactic(auto, unfolding(c_typed_tree::specs::View::opens))]
+#[tactic(auto, unfolding(c_typed_tree::specs::model::View::opens))]
 pub fn is_void(ty: &CType) -> bool
     ensures { result ≡ typing.is_void (type_view ty.now) }
 {
@@ -96,7 +96,7 @@ pub fn is_integer(ty: &CType) -> bool
 }
 
 /// Whether it is the type of pointers.
-#[tactic(auto, unfolding(c_typed_tree::specs::View::opens))]
+#[tactic(auto, unfolding(c_typed_tree::specs::model::View::opens))]
 pub fn is_pointer(ty: &CType) -> bool
     ensures { result ≡ typing.is_pointer (type_view ty.now) }
 {
@@ -117,7 +117,7 @@ pub fn is_scalar(ty: &CType) -> bool
 }
 
 /// Whether it is `void *`.
-#[tactic(auto, unfolding(c_typed_tree::specs::View::opens))]
+#[tactic(auto, unfolding(c_typed_tree::specs::model::View::opens))]
 pub fn is_pointer_to_void(ty: &CType) -> bool
     ensures { result ≡ typing.is_pointer_to_void (type_view ty.now) }
 {
@@ -147,7 +147,7 @@ fn is_complete(structs: &[StructDef], number: u32) -> bool
 }
 
 /// Whether objects have the type: it is complete, and no larger than the data may be.
-#[tactic(auto, unfolding(c_typed_tree::specs::View::opens))]
+#[tactic(auto, unfolding(c_typed_tree::specs::model::View::opens))]
 pub fn is_object(structs: &[StructDef], ty: &CType) -> bool
     ensures { result ≡ layout.is_object structs.now (type_view ty.now) }
 {
@@ -166,7 +166,7 @@ pub fn is_object(structs: &[StructDef], ty: &CType) -> bool
 }
 
 /// Whether it is the type of pointers to objects.
-#[tactic(auto, unfolding(c_typed_tree::specs::View::opens))]
+#[tactic(auto, unfolding(c_typed_tree::specs::model::View::opens))]
 pub fn points_to_object(structs: &[StructDef], ty: &CType) -> bool
     ensures { result ≡ typing.points_to_object structs.now (type_view ty.now) }
 {
@@ -180,7 +180,7 @@ pub fn points_to_object(structs: &[StructDef], ty: &CType) -> bool
 }
 
 /// Whether it is the type of structs.
-#[tactic(auto, unfolding(c_typed_tree::specs::View::opens))]
+#[tactic(auto, unfolding(c_typed_tree::specs::model::View::opens))]
 pub fn is_struct(ty: &CType) -> bool
     ensures { result ≡ typing.is_struct (type_view ty.now) }
 {
@@ -193,7 +193,7 @@ pub fn is_struct(ty: &CType) -> bool
     }
 }
 
-#[tactic(auto, unfolding(c_typed_tree::specs::View::opens))]
+#[tactic(auto, unfolding(c_typed_tree::specs::model::View::opens))]
 fn is_complete_struct(structs: &[StructDef], ty: &CType) -> bool
     ensures { result ≡ spec.is_complete_struct structs.now (type_view ty.now) }
 {
@@ -207,7 +207,7 @@ fn is_complete_struct(structs: &[StructDef], ty: &CType) -> bool
 }
 
 /// Whether it is the type of pointers to complete structs.
-#[tactic(auto, unfolding(c_typed_tree::specs::View::opens))]
+#[tactic(auto, unfolding(c_typed_tree::specs::model::View::opens))]
 pub fn points_to_struct(structs: &[StructDef], ty: &CType) -> bool
     ensures { result ≡ spec.points_to_struct structs.now (type_view ty.now) }
 {

@@ -11,3 +11,4 @@ pub mod Lawful
 pub mod Names
 pub mod Weight
 pub mod Rooms
+pub mod model

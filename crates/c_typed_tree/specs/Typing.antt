@@ -275,21 +275,21 @@ pub record Context : Type 0 where
   pub functions : List Signature
   pub locals : List l.Local
 
-abbrev pub signature_of : Context → Callee → Option Signature
-signature_of c (Function n) = slice_get c.functions n
-signature_of c (Builtin Putchar) = Some (record { result = int; params = int ∷ [] })
-signature_of c (Builtin Getchar) = Some (record { result = int; params = [] })
-signature_of c (Builtin Abort) = Some (record { result = Void; params = [] })
-signature_of c (Builtin Exit) = Some (record { result = Void; params = int ∷ [] })
+abbrev pub callee_signature : Context → Callee → Option Signature
+callee_signature c (Function n) = slice_get c.functions n
+callee_signature c (Builtin Putchar) = Some (record { result = int; params = int ∷ [] })
+callee_signature c (Builtin Getchar) = Some (record { result = int; params = [] })
+callee_signature c (Builtin Abort) = Some (record { result = Void; params = [] })
+callee_signature c (Builtin Exit) = Some (record { result = Void; params = int ∷ [] })
 
 -- a local has its type; of an object the bytes are kept and not the type, so it has as many as its type asks
-abbrev pub is_local : Option l.Local → PlainType → Bool
-is_local None ty = false
-is_local (Some l) ty = is_same_type (type_view l.ty) ty
+abbrev pub has_local_type : Option l.Local → PlainType → Bool
+has_local_type None ty = false
+has_local_type (Some l) ty = is_same_type (type_view l.ty) ty
 
-abbrev pub is_global : List StructDef → Option DataObject → PlainType → Bool
-is_global ds None ty = false
-is_global ds (Some o) ty = is_object ds ty && size_of ds ty == o.size
+abbrev pub has_global_type : List StructDef → Option DataObject → PlainType → Bool
+has_global_type ds None ty = false
+has_global_type ds (Some o) ty = is_object ds ty && size_of ds ty == o.size
 
 -- each argument has the type of its parameter (C99 6.5.2.2)
 abbrev pub are_arguments : List PlainType → Exprs → Bool
@@ -354,9 +354,9 @@ has_unary_type ds ls u.Not ty x = has_truth_type ty (type_of x)
 -- the rule of each form, beside that its parts are well typed
 abbrev pub has_rule : Context → Expr → Bool
 has_rule c (Number ty n) = is_number (integer_of ty) n
-has_rule c (Local ty k) = is_local (slice_get c.locals k) ty
-has_rule c (Global ty k) = is_global c.structs (slice_get c.globals k) ty
-has_rule c (Call ty callee xs) = is_call (signature_of c callee) ty xs
+has_rule c (Local ty k) = has_local_type (slice_get c.locals k) ty
+has_rule c (Global ty k) = has_global_type c.structs (slice_get c.globals k) ty
+has_rule c (Call ty callee xs) = is_call (callee_signature c callee) ty xs
 has_rule c (Unary ty op x) = has_unary_type c.structs c.locals op ty x
 has_rule c (Binary ty op x y) = has_binary_type c.structs op ty (type_of x) (type_of y)
 has_rule c (Assign ty op x y) =

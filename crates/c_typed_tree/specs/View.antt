@@ -1,10 +1,7 @@
 -- The plain data of the typed trees.
-use Rattle.std.specs.Prelude.{List, [], ◌∷◌, option_map, map}
-use denote.Hole.Carrier as Carrier
+use Rattle.std.specs.Prelude.{option_map, map}
 use Rattle.c_typed_tree.specs.declared.types.CType as t
-use Rattle.c_typed_tree.specs.declared.types.CType.TheBlock as tb
 use Rattle.c_typed_tree.specs.declared.expressions.TExpr as e
-use Rattle.c_typed_tree.specs.declared.expressions.TExpr.TheBlock as eb
 use Rattle.c_typed_tree.specs.declared.statements.TStmt as s
 use Rattle.c_typed_tree.specs.declared.statements.TStmt.TheBlock as sb
 use Rattle.c_typed_tree.specs.declared.statements.TLocal.{TLocal}
@@ -55,10 +52,6 @@ unfoldable mutual
   expr_row e.end_of-TExpr = no_exprs
   expr_row (e.more_of-TExpr x xs) = more_exprs (expr_view x) (expr_row xs)
 
-abbrev pub exprs_view : List e.TExpr → Exprs
-exprs_view [] = no_exprs
-exprs_view (x ∷ xs) = more_exprs (expr_view x) (exprs_view xs)
-
 -- ---- statements
 
 abbrev pub local_view : TLocal → Declared
@@ -96,14 +89,3 @@ unfoldable mutual
   section_row : {m : _} → sb.Row_of-TSection m → Sections
   section_row sb.end_of-TSection = no_sections
   section_row (sb.more_of-TSection label _ xs rest) = more_sections label (stmt_row xs) (section_row rest)
-
-abbrev pub stmts_view : List s.TStmt → Stmts
-stmts_view [] = no_stmts
-stmts_view (x ∷ xs) = more_stmts (stmt_view x) (stmts_view xs)
-
--- ---- the view of what code makes
-
--- opens the views
-unfoldable pub opens : Unit {0}
-unfolding type_view expr_view stmt_view tb.hidden-the_row-CType-0 eb.hidden-the_row-TExpr-0 eb.hidden-the_row-TExpr-1 sb.hidden-the_row-TStmt-0 sb.hidden-the_row-TStmt-1 Carrier.hidden
-opens = tt

@@ -114,7 +114,7 @@ pub enum TExpr {
 
 impl TExpr {
     /// The type of the expression.
-    #[tactic(auto, unfolding(crate::specs::View::opens))]
+    #[tactic(auto, unfolding(crate::specs::model::View::opens))]
     pub fn ty(&self) -> &CType
         ensures { type_view result.now ≡ type_of (expr_view self.now) }
     {

@@ -8,7 +8,7 @@ use crate::{CType, StructDef};
 use c_arithmetic::integer_type::IntegerType;
 
 /// The integer type that a type is, if it is one.
-#[tactic(auto, unfolding(crate::specs::View::opens))]
+#[tactic(auto, unfolding(crate::specs::model::View::opens))]
 pub fn integer_of(ty: &CType) -> Option<IntegerType>
     ensures { result ≡ integer_of (type_view ty.now) }
 {
@@ -22,7 +22,7 @@ pub fn integer_of(ty: &CType) -> Option<IntegerType>
 }
 
 /// The size in bytes of a type that objects have.
-#[tactic(auto, unfolding(crate::specs::View::opens))]
+#[tactic(auto, unfolding(crate::specs::model::View::opens))]
 pub fn size_of(structs: &[StructDef], ty: &CType) -> u64
     requires { IsTrue (is_object structs.now (type_view ty.now)) }
     ensures { result ≡ size_of structs.now (type_view ty.now) }
@@ -47,7 +47,7 @@ pub fn struct_size(structs: &[StructDef], number: u32) -> u64
 }
 
 /// The alignment in bytes of a type.
-#[tactic(auto, unfolding(crate::specs::View::opens))]
+#[tactic(auto, unfolding(crate::specs::model::View::opens))]
 pub fn align_of(structs: &[StructDef], ty: &CType) -> u64
     ensures { result ≡ align_of structs.now (type_view ty.now) }
 {

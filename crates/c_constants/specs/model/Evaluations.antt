@@ -25,7 +25,11 @@ abbrev pub value_behind : UnaryOp → Evaluation → Option ℕ
 value_behind op x = option_and_then (unary_value op x.ty) x.value
 
 abbrev pub unary : PlainType → UnaryOp → Evaluation → Evaluation
-unary ty op x = record { ty = integer_of ty; built = is_integer ty && is_pure_operator op && x.built; value = value_behind op x }
+unary ty op x = record {
+  ty = integer_of ty;
+  built = is_integer ty && is_pure_operator op && x.built;
+  value = value_behind op x;
+}
 
 abbrev pub truth_of : Option ℕ → Option ℕ
 truth_of y = option_map (λ n. truth (not (n == 0))) y
@@ -37,7 +41,11 @@ abbrev pub value_between : BinaryOp → Evaluation → Evaluation → Option ℕ
 value_between op x y = value_with op x.ty y.ty x.value y.built y.value
 
 abbrev pub binary : PlainType → BinaryOp → Evaluation → Evaluation → Evaluation
-binary ty op x y = record { ty = integer_of ty; built = is_integer ty && x.built && y.built; value = value_between op x y }
+binary ty op x y = record {
+  ty = integer_of ty;
+  built = is_integer ty && x.built && y.built;
+  value = value_between op x y;
+}
 
 abbrev pub conditional : PlainType → Evaluation → Evaluation → Evaluation → Evaluation
 conditional ty x y z = record {
@@ -75,4 +83,8 @@ abbrev pub value_of_last : (nothing : Bool) → Evaluation → Option ℕ
 value_of_last nothing all = if nothing then None else all.value
 
 abbrev pub comma : PlainType → (nothing : Bool) → Evaluation → Evaluation
-comma ty nothing all = record { ty = integer_of ty; built = is_integer ty && all.built; value = value_of_last nothing all }
+comma ty nothing all = record {
+  ty = integer_of ty;
+  built = is_integer ty && all.built;
+  value = value_of_last nothing all;
+}

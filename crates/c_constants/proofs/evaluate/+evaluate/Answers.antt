@@ -5,8 +5,11 @@ use Rattle.c_constants.proofs.evaluate.+evaluate.Goals as goal
 
 pub evaluate-returns-in-Comma : goal.evaluate-returns-in-Comma
 evaluate-returns-in-Comma t c =
-    comma_done c.args.e.now c.in-Comma.ty c.in-Comma.operands c.as_slice-list.result.now _ _ _ c.in-Comma.is c.as_slice-list.ensures c.is_nothing.ensures c.evaluate_all.ensures c.comma.ensures
+    comma_done c.args.e.now c.in-Comma.ty c.in-Comma.operands c.as_slice-list.result.now _ _ _ c.in-Comma.is
+    c.as_slice-list.ensures c.is_nothing.ensures c.evaluate_all.ensures c.comma.ensures
 
 pub evaluate_all-loop-operand-preserved : goal.evaluate_all-loop-operand-preserved
 evaluate_all-loop-operand-preserved t c =
-    last_more c.args.list.now c.loop-operand.operand-index c.operand-item.result start c.loop-operand.all c.followed-all.result c.loop-operand-test.true c.operand-item.is c.loop-operand.invariant (c.followed-all.ensures ∙ ap (followed c.loop-operand.all) c.evaluate.ensures)
+    last_more c.args.list.now c.loop-operand.operand-index c.operand-item.result start c.loop-operand.all
+    c.followed-all.result c.loop-operand-test.true c.operand-item.is c.loop-operand.invariant
+    (c.followed-all.ensures ∙ ap (followed c.loop-operand.all) c.evaluate.ensures)
