@@ -6,10 +6,10 @@ use Rattle.std.proofs.lemmas.Nat.{le_bytes_4}
 use Rattle.std.proofs.lemmas.Bool.{ltb-false, eqb-true}
 use Rattle.std.proofs.Math.Seq.{take-add}
 use Rattle.std.specs.Prelude.{flat_map}
-use Rattle.alpha_isa.specs.Program.{Program, IsLawful, most_words, most_bytes}
+use Rattle.alpha_isa.specs.Program.{Program, IsLawful, most_bytes}
 use Rattle.alpha_isa.specs.ImageFormat.{mark, number, spelling_with, image_spelling, version_one_spelling, IsImage}
 use Rattle.std.specs.Option.{option_eq}
-use Rattle.alpha_image.specs.ImageFault.{number_at, version_of, word_count, byte_count, entry_of, zeros_of, has_zeros_field, text_offset, due_length, first_of, differs_at, field_fault, mark_fault, version_fault, words_fault, bytes_fault, entry_fault, zeros_fault, version_part_fault, size_part_fault, length_fault, header_fault, image_fault}
+use Rattle.alpha_image.specs.ImageFault.{number_at, version_of, word_count, byte_count, entry_of, zeros_of, has_zeros_field, text_offset, first_of, differs_at, field_fault, mark_fault, version_fault, words_fault, bytes_fault, entry_fault, zeros_fault, version_part_fault, size_part_fault, length_fault, header_fault, image_fault}
 
 drop-nil : {A : Type 0} (k : ℕ) → ◌≡◌ {A = List A} (drop k []) []
 drop-nil zero = refl

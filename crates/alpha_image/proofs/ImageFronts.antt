@@ -5,12 +5,13 @@ use Rattle.std.proofs.lemmas.Bool.{le-ltb, lt-ltb, leb-true}
 use Rattle.std.specs.Int.{w32, from_le_bytes}
 use Rattle.alpha_isa.specs.Program.{most_words, most_bytes}
 use Rattle.alpha_isa.specs.ImageFormat.{mark}
+use Rattle.alpha_image.specs.Limits.{most_image}
 use Rattle.alpha_image.specs.ImageFault.{number_at, version_of, word_count, byte_count, entry_of, zeros_of, has_zeros_field, text_offset, due_length, first_of, differs_at, field_fault, mark_fault, version_fault, words_fault, bytes_fault, entry_fault, zeros_fault, version_part_fault, size_part_fault, length_fault, header_fault, image_fault}
 use Rattle.alpha_image.proofs.ImageFaults.{field_is, none_first}
 
 -- one more byte than the longest image has
 abbrev limit : ℕ
-limit = 1140850713
+limit = most_image + 1
 
 number_take : (n k : ℕ) (bytes : List ℕ) → k + 4 ≤ n → number_at (take n bytes) k ≡ number_at bytes k
 number_take n k bytes within =

@@ -6,7 +6,8 @@ use Rattle.std.specs.Prelude.{flat_map}
 use Rattle.std.specs.Int.{w32, from_le_bytes}
 use Rattle.alpha_isa.specs.Program.{Program, IsLawful, most_bytes}
 use Rattle.alpha_isa.specs.ImageFormat.{number, image_spelling, version_one_spelling, IsImage}
-use Rattle.alpha_image.specs.ImageFault.{number_at, version_of, word_count, byte_count, entry_of, zeros_of, has_zeros_field, text_offset, due_length, first_of, field_fault, mark_fault, version_fault, words_fault, bytes_fault, entry_fault, zeros_fault, version_part_fault, size_part_fault, length_fault, header_fault, image_fault}
+use Rattle.alpha_image.specs.Limits.{most_image}
+use Rattle.alpha_image.specs.ImageFault.{version_of, word_count, byte_count, entry_of, zeros_of, has_zeros_field, text_offset, due_length, first_of, field_fault, mark_fault, version_fault, words_fault, bytes_fault, entry_fault, zeros_fault, version_part_fault, size_part_fault, length_fault, header_fault, image_fault}
 
 abbrev AreWords : List ℕ → Type 0
 AreWords words = (i : ℕ) → get_or words i 0 < 2 ^ 32
@@ -119,7 +120,7 @@ no_fields_fault bytes p t lawful f =
 pub no_fault : (bytes : List ℕ) (p : Program) → IsImage bytes p → image_fault bytes ≡ None
 no_fault bytes p is = let f = fields_of bytes p is in no_fields_fault bytes p f.0 is.lawful f.1
 
-pub longest : (bytes : List ℕ) (p : Program) → IsImage bytes p → length bytes ≤ 1140850712
+pub longest : (bytes : List ℕ) (p : Program) → IsImage bytes p → length bytes ≤ most_image
 longest bytes p is = let f = fields_of bytes p is in omega (arith, f.1.size, f.1.most, is.lawful.words, is.lawful.bytes)
 
 -- lists of words with the same bytes, and what follows them

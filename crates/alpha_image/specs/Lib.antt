@@ -1,2 +1,3 @@
 pub mod ImageFault
 pub mod ReadImage
+pub mod Limits

@@ -207,7 +207,7 @@ fn length_fault(bytes: &[u8], header: &Header) -> Option<usize>
 }
 
 /// The image that bytes are, of version 1 or 2. `BadImage` comes exactly where they are none, with the
-/// place at which they stop being one, and `NoMemory` only where memory is short.
+/// place at which they stop being one, and `NoMemory` only where they are one and memory is short.
 pub fn read_image(alloc: Global, bytes: &[u8]) -> Result<Image, ImageFault>
     ensures found { IfOk result (λ image. IsImage bytes.now image) }
     ensures good { OnOk result (image_fault bytes.now ≡ None) }

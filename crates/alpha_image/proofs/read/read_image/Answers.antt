@@ -31,3 +31,13 @@ pub returns-in-Ok-from_slice-clause-good : goal.returns-in-Ok-from_slice-clause-
 returns-in-Ok-from_slice-clause-good c =
     let fields = c.in-Ok.ensures.fields in
     image_fault-length c.args.bytes.now None c.in-Ok.ensures.fault (sym (c.in-None.ensures.fault fields.0 fields.1 fields.4))
+
+pub returns-in_default-clause-bad : goal.returns-in_default-clause-bad
+returns-in_default-clause-bad c =
+    let fields = c.in-Ok.ensures.fields in
+    image_fault-length c.args.bytes.now None c.in-Ok.ensures.fault (sym (c.in-None.ensures.fault fields.0 fields.1 fields.4))
+
+pub returns-in-Err-from_slice-clause-bad : goal.returns-in-Err-from_slice-clause-bad
+returns-in-Err-from_slice-clause-bad c =
+    let fields = c.in-Ok.ensures.fields in
+    image_fault-length c.args.bytes.now None c.in-Ok.ensures.fault (sym (c.in-None.ensures.fault fields.0 fields.1 fields.4))
