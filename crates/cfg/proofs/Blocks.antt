@@ -8,7 +8,8 @@ use Rattle.std.proofs.lemmas.Option.{none-some}
 use Rattle.suifvm_ir.specs.Functions.{IsStraight, EndsLate, front_of}
 use Rattle.bk_ilist.specs.Listing.{items, last_or, last_id, AtId, HasId}
 use Rattle.cfg.specs.model.Search.{marked_count}
-use Rattle.cfg.specs.model.Renumber.{with_targets, renumber, number_in, marked_of}
+use Rattle.cfg.specs.Renumber.{with_targets, renumber}
+use Rattle.cfg.specs.model.Marked.{number_in, marked_of}
 use Rattle.cfg.proofs.Lists.{found_last, range_push}
 
 -- numbers of marked blocks
@@ -49,7 +50,7 @@ counted_all marks numbers next at so past reached =
     let same : at ≡ length marks = omega arith in
     so.numbers_are ∙ ap (λ n. map (number_in marks) (range_with_len 0 n)) same
 
-never_none : {I : Type 0} (pairs : List (ℕ × I)) (k : ℕ) → None ≡ last_or pairs (Some k) → ⊥
+pub never_none : {I : Type 0} (pairs : List (ℕ × I)) (k : ℕ) → None ≡ last_or pairs (Some k) → ⊥
 never_none [] k none = none-some k none
 never_none (p ∷ pairs) k none = never_none pairs p.0 none
 
@@ -109,6 +110,38 @@ module _ {I : Type 0} (targets : I → List ℕ) (with_target : I → ℕ → �
   none_to_replace xs [] view none = sym view ∙ ap (map (renumber targets with_target numbers)) view
   none_to_replace xs (p ∷ pairs) view none = absurd (never_none pairs p.0 none)
 
+-- a change that keeps instructions without targets
+module _ {I : Type 0} (targets : I → List ℕ) (flows_on : I → Bool) (change : I → I) (stays : (i : I) → length (targets i) ≡ 0 → change i ≡ i) where
+  front_stays : (xs : List I) → All (IsStraight targets flows_on) xs → map change xs ≡ xs
+  front_stays [] all = refl
+  front_stays (x ∷ xs) all =
+      let first = All-head (IsStraight targets flows_on) x xs all in
+      ap (λ y. y ∷ map change xs) (stays x first.0) ∙ ap (λ ys. x ∷ ys) (front_stays xs (All-tail (IsStraight targets flows_on) x xs all))
+
+  take_before : (xs : List I) (x : I) → take (length xs) (xs ++ x ∷ []) ≡ xs
+  take_before [] x = refl
+  take_before (y ∷ xs) x = ap (λ ys. y ∷ ys) (take_before xs x)
+
+  front_before : (xs : List I) (x : I) → front_of (xs ++ x ∷ []) ≡ xs
+  front_before xs x =
+      let at : length (xs ++ x ∷ []) - 1 ≡ length xs = omega (arith, length-append xs (x ∷ [])) in
+      ap (λ n. take n (xs ++ x ∷ [])) at ∙ take_before xs x
+
+  -- a block of which the last instruction is changed
+  pub last_changed : (xs : List I) (pairs one two : List (ℕ × I)) (id : ℕ) (jump item new : I) → items pairs ≡ xs → Some id ≡ last_id pairs → AtId pairs id (λ before old after. item ≡ old) → AtId pairs id (λ before old after. one ≡ before ++ (id, jump) ∷ after) → AtId one id (λ before old after. two ≡ before ++ (id, new) ∷ after) → new ≡ change item → EndsLate targets flows_on xs → items two ≡ map change xs
+  last_changed xs pairs one two id jump item new view is old_is one_is two_is new_is late =
+      let last = found_last pairs id is in
+      let item_is : item ≡ last.item = old_is last.before [] last.item last.split in
+      let two_now : two ≡ last.before ++ (id, new) ∷ [] = two_is last.before [] jump (one_is last.before [] last.item last.split) in
+      let all : xs ≡ items last.before ++ last.item ∷ [] = sym view ∙ ap items last.split ∙ map_push (λ p. p.1) last.before (id, last.item) in
+      let front : All (IsStraight targets flows_on) (items last.before) = subst (λ ys. All (IsStraight targets flows_on) ys) (ap front_of all ∙ front_before (items last.before) last.item) late in
+      ap items two_now
+      ∙ map_push (λ p. p.1) last.before (id, new)
+      ∙ ap (λ y. items last.before ++ y ∷ []) (new_is ∙ ap change item_is)
+      ∙ ap (λ ys. ys ++ change last.item ∷ []) (sym (front_stays (items last.before) front))
+      ∙ sym (map_push change (items last.before) last.item)
+      ∙ ap (map change) (sym all)
+
 -- the marked ones of what is left
 pub record IsKept {A B : Type 0} (change : A → B) (marks : List Bool) (all rest : List A) (kept : List B) (at : ℕ) : Type 0 where
   pub split : kept ++ map change (marked_of (drop at marks) rest) ≡ map change (marked_of marks all)
@@ -122,7 +155,7 @@ kept_first change marks all rest kept none is = record {
   bound = let same : 0 + length rest ≡ length all = omega (arith, ap length is) in same;
 }
 
-drop_one : {A : Type 0} (xs ys : List A) (x : A) (at : ℕ) → x ∷ ys ≡ drop at xs → ys ≡ drop (at + 1) xs
+pub drop_one : {A : Type 0} (xs ys : List A) (x : A) (at : ℕ) → x ∷ ys ≡ drop at xs → ys ≡ drop (at + 1) xs
 drop_one {A = A} xs ys x zero is = rest_is xs is
   where
     rest_is : (zs : List A) → x ∷ ys ≡ zs → ys ≡ drop 1 zs
@@ -131,7 +164,7 @@ drop_one {A = A} xs ys x zero is = rest_is xs is
 drop_one [] ys x (suc at) is = let clash : ⊥ = cc in absurd clash
 drop_one (z ∷ xs) ys x (suc at) is = drop_one xs ys x at is ∙ ap (λ n. drop n (z ∷ xs)) (let moved : suc (at + 1) ≡ suc at + 1 = omega arith in moved)
 
-drop_marks : (marks : List Bool) (at : ℕ) (mark : Bool) → at < length marks → mark ≡ get_or marks at false → drop at marks ≡ mark ∷ drop (at + 1) marks
+pub drop_marks : (marks : List Bool) (at : ℕ) (mark : Bool) → at < length marks → mark ≡ get_or marks at false → drop at marks ≡ mark ∷ drop (at + 1) marks
 drop_marks [] at mark below is = absurd (omega arith)
 drop_marks (m ∷ marks) zero mark below is = ap (λ x. x ∷ marks) (sym is)
 drop_marks (m ∷ marks) (suc at) mark below is =
@@ -168,7 +201,7 @@ kept_done change marks left kept at none = sym (append-nil kept) ∙ ap (λ ys. 
 pub kept_all : {A B : Type 0} (change : A → B) (marks : List Bool) (all left : List A) (kept : List B) (at : ℕ) → IsKept change marks all left kept at → left ≡ [] → kept ≡ map change (marked_of marks all)
 kept_all change marks all left kept at so none = kept_done change marks left kept at none ∙ so.split
 
-drop_holds : {A : Type 0} (P : A → Type 0) (xs ys : List A) (x : A) (at : ℕ) → x ∷ ys ≡ drop at xs → All P xs → P x
+pub drop_holds : {A : Type 0} (P : A → Type 0) (xs ys : List A) (x : A) (at : ℕ) → x ∷ ys ≡ drop at xs → All P xs → P x
 drop_holds P xs ys x at is all = All-head P x ys (subst (All P) (sym is) (All-drop P at xs all))
 
 pub kept_holds : {A B : Type 0} (P : A → Type 0) (change : A → B) (marks : List Bool) (all left rest : List A) (kept : List B) (at : ℕ) (x : A) → IsKept change marks all left kept at → left ≡ x ∷ rest → All P all → P x

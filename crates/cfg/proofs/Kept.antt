@@ -18,7 +18,8 @@ use Rattle.cfg.specs.Paths.{Reached, IsEntry, Follows, AllReached}
 use Rattle.cfg.specs.Contents.{is_no_jump, contents, KeepsBlocks, KeepsBack}
 use Rattle.cfg.specs.model.Search.{marked_count}
 use Rattle.cfg.specs.model.ReachedPart.{IsReachedPart}
-use Rattle.cfg.specs.model.Renumber.{renumber, number_in, marked_of}
+use Rattle.cfg.specs.Renumber.{renumber}
+use Rattle.cfg.specs.model.Marked.{number_in, marked_of}
 use Rattle.cfg.proofs.Bare.{length-map, renumber_bare, renumber_flows, renumber_targets, renumber_reads, renumber_writes}
 use Rattle.cfg.proofs.Lists.{length-successors}
 use Rattle.cfg.proofs.Searching.{count_most}
@@ -99,7 +100,7 @@ module _ {I : Type 0} (targets : I → List ℕ) (flows_on : I → Bool) where
   followers_of blocks b below =
       followers_at 0 blocks b below ∙ ap (λ m. Some (successors_of targets flows_on m (block_at blocks b))) (let none : 0 + b ≡ b = omega arith in none)
 
-  last_more : (i x : I) (xs : List I) → last_of (i ∷ x ∷ xs) ≡ last_of (x ∷ xs)
+  pub last_more : (i x : I) (xs : List I) → last_of (i ∷ x ∷ xs) ≡ last_of (x ∷ xs)
   last_more i x xs =
       let one : length (i ∷ x ∷ xs) - 1 ≡ suc (length xs) = omega arith in
       let two : length (x ∷ xs) - 1 ≡ length xs = omega arith in
@@ -111,17 +112,17 @@ module _ {I : Type 0} (targets : I → List ℕ) (flows_on : I → Bool) where
       let two : length (x ∷ xs) - 1 ≡ length xs = omega arith in
       ap (λ n. take n (i ∷ x ∷ xs)) one ∙ ap (λ n. i ∷ take n (x ∷ xs)) (sym two)
 
-  late_head : (i x : I) (xs : List I) → EndsLate targets flows_on (i ∷ x ∷ xs) → IsStraight targets flows_on i
+  pub late_head : (i x : I) (xs : List I) → EndsLate targets flows_on (i ∷ x ∷ xs) → IsStraight targets flows_on i
   late_head i x xs late = All-head (IsStraight targets flows_on) i (front_of (x ∷ xs)) (subst (λ ys. All (IsStraight targets flows_on) ys) (front_more i x xs) late)
 
-  late_tail : (i x : I) (xs : List I) → EndsLate targets flows_on (i ∷ x ∷ xs) → EndsLate targets flows_on (x ∷ xs)
+  pub late_tail : (i x : I) (xs : List I) → EndsLate targets flows_on (i ∷ x ∷ xs) → EndsLate targets flows_on (x ∷ xs)
   late_tail i x xs late = All-tail (IsStraight targets flows_on) i (front_of (x ∷ xs)) (subst (λ ys. All (IsStraight targets flows_on) ys) (front_more i x xs) late)
 
-  none_stop : (g : List (List I)) → IsTrue (stops flows_on g) → 0 < length g
+  pub none_stop : (g : List (List I)) → IsTrue (stops flows_on g) → 0 < length g
   none_stop [] stop = let clash : ⊥ = cc in absurd clash
   none_stop (x ∷ g) stop = omega arith
 
-  one_only : (x y k : ℕ) → k < 1 → get_or (x ∷ []) k y ≡ y → y ≡ x
+  pub one_only : (x y k : ℕ) → k < 1 → get_or (x ∷ []) k y ≡ y → y ≡ x
   one_only x y zero below is = sym is
   one_only x y (suc k) below is = absurd (omega arith)
 

@@ -2,4 +2,5 @@ pub mod Edges
 pub mod Walks
 pub mod Paths
 pub mod Contents
+pub mod Renumber
 pub mod model

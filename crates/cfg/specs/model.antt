@@ -1,3 +1,3 @@
 pub mod Search
-pub mod Renumber
+pub mod Marked
 pub mod ReachedPart

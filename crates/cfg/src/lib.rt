@@ -4,7 +4,7 @@
 pub mod graph;
 pub mod order;
 mod predecessors;
-mod renumber;
+pub mod renumber;
 mod search;
 mod successors;
 #[cfg(test)]
@@ -13,4 +13,5 @@ pub mod unreachable;
 
 pub use graph::{Graph, build};
 pub use order::linear_order;
+pub use renumber::renumber_block;
 pub use unreachable::remove_unreachable;

@@ -3,7 +3,8 @@
 ghost use Rattle.std.specs.Prelude.{◌≡◌, [], ◌∷◌, ◌++◌, ◌<◌, ◌+◌, ◌-◌, ◌^◌, All, length, map, OnOk, IfOk, if◌then◌else◌};
 ghost use Rattle.std.specs.List.{range_with_len};
 ghost use Rattle.suifvm_ir.specs.Functions.{AllInsns, EndsLate};
-ghost use Rattle.cfg.specs.model.Renumber.{renumber, number_in, marked_of};
+ghost use Rattle.cfg.specs.Renumber.{renumber};
+ghost use Rattle.cfg.specs.model.Marked.{number_in, marked_of};
 
 use c_tree::Seq;
 use pass_core::Insn;
@@ -33,38 +34,29 @@ pub(crate) fn numbers_of(alloc: Global, marks: &[bool]) -> Result<Vec<u32>, Allo
     Ok(numbers)
 }
 
-/// Replaces each target of an instruction by its number. It gives up where there are more than numbers of 32 bits
-/// count.
-fn renumber_insn<I: Insn>(insn: &mut I, numbers: &[u32]) -> Result<(), AllocError>
+/// Replaces each target of an instruction by its number.
+fn renumber_insn<I: Insn>(insn: &mut I, numbers: &[u32])
     requires { All (λ target. target < length numbers.now) (I.targets insn.old) }
-    ensures { OnOk result (insn.new ≡ renumber I.targets I.with_target numbers.now insn.old) }
+    ensures { insn.new ≡ renumber I.targets I.with_target numbers.now insn.old }
 {
-    for k in 0..u32::MAX {
-        match insn.target_at(k) {
-            None => return Ok(()),
-            Some(block) => insn.set_target(k, numbers[block as usize]),
-        }
+    match insn.target_at(0) {
+        None => {}
+        Some(block) => insn.set_target(0, numbers[block as usize]),
     }
-    Err(AllocError)
 }
 
-/// Replaces each target of a block by its number. After an error the block has another last instruction.
-fn renumber_block<I: Insn>(
-    alloc: Global,
-    block: &mut Block<I>,
-    numbers: &[u32],
-) -> Result<(), AllocError>
+/// Replaces each target of a block, by its number, by another number. Takes no memory.
+pub fn renumber_block<I: Insn>(alloc: Global, block: &mut Block<I>, numbers: &[u32])
     requires within { All (λ i. All (λ target. target < length numbers.now) (I.targets i)) block.old }
     requires straight { EndsLate I.targets I.flows_on block.old }
-    ensures { OnOk result (block.new ≡ map (renumber I.targets I.with_target numbers.now) block.old) }
+    ensures { block.new ≡ map (renumber I.targets I.with_target numbers.now) block.old }
 {
     match block.insns.last() {
-        None => Ok(()),
+        None => {}
         Some(id) => {
             let mut insn = block.insns.set(id, I::jump(alloc, 0));
-            renumber_insn(&mut insn, numbers)?;
+            renumber_insn(&mut insn, numbers);
             let _jump = block.insns.set(id, insn);
-            Ok(())
         }
     }
 }
@@ -86,7 +78,7 @@ fn keep_block<I: Insn>(
         return Ok(());
     }
     let mut block = block;
-    renumber_block(alloc, &mut block, numbers)?;
+    renumber_block(alloc, &mut block, numbers);
     kept.push(block)
 }
 

@@ -9,19 +9,18 @@ use pass_core::Insn;
 use std::alloc::{AllocError, Global};
 use suifvm_ir::block::Block;
 
-/// The targets of an instruction. It gives up where there are more than numbers of 32 bits count.
-#[tactic(auto, using(crate::proofs::Lists::take_found, crate::proofs::Lists::take_past))]
+/// The targets of an instruction.
 fn target_list<I: Insn>(alloc: Global, insn: &I) -> Result<Seq<u32>, AllocError>
     ensures { IfOk result (λ found. found ≡ I.targets insn.now) }
 {
     let mut found = Seq::new(alloc);
-    for k in 0..u32::MAX {
-        match insn.target_at(k) {
-            None => return Ok(found),
-            Some(block) => found.push(block)?,
+    match insn.target_at(0) {
+        None => Ok(found),
+        Some(block) => {
+            found.push(block)?;
+            Ok(found)
         }
     }
-    Err(AllocError)
 }
 
 /// The blocks that may follow one with this last instruction.

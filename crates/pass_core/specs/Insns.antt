@@ -1,10 +1,11 @@
 -- What holds of the instructions of every kind.
-use Rattle.std.specs.Prelude.{◌≡◌, ◌≢◌, ℕ, ◌<◌, Bool, false, List, [], ◌∷◌, length, Some, slice_get, slice_set}
+use Rattle.std.specs.Prelude.{◌≡◌, ◌≢◌, ℕ, ◌<◌, ◌≤◌, Bool, false, List, [], ◌∷◌, length, Some, slice_get, slice_set}
 
--- Setting a target sets that one and nothing else, and the jump to a block has that target, reads and writes nothing,
--- and is the only kind of instruction that has a target and does not go on.
+-- An instruction has at most one target. Setting a target sets that one and nothing else, and the jump to a block has
+-- that target, reads and writes nothing, and is the only kind of instruction that has a target and does not go on.
 pub record InsnLaws {I : Type 0} (reads writes targets : I → List ℕ) (with_target : I → ℕ → ℕ → I) (jump_to : ℕ → I)
     (flows_on traps : I → Bool) : Type 0 where
+  pub one_target : (i : I) → length (targets i) ≤ 1
   pub sets_target : (i : I) (k block : ℕ) → k < length (targets i) →
       targets (with_target i k block) ≡ slice_set (targets i) k block
   pub keeps_reads : (i : I) (k block : ℕ) → reads (with_target i k block) ≡ reads i

@@ -82,6 +82,7 @@ impl Insn for Goto {
     ghost traps = { λ _. false };
 
     ghost lawful = { record {
+      one_target = λ i. Prim.omega arith;
       sets_target = λ i k block within. let first : k ≡ 0 = Prim.omega arith in Prim.rw first refl;
       keeps_reads = λ i k block. refl;
       keeps_writes = λ i k block. refl;

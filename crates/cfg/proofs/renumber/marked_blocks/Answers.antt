@@ -1,5 +1,5 @@
 use Rattle.std.proofs.Common.{map, refl, get_or, false}
-use Rattle.cfg.specs.model.Renumber.{renumber}
+use Rattle.cfg.specs.Renumber.{renumber}
 use Rattle.cfg.proofs.Blocks.{kept_more}
 use Rattle.cfg.proofs.renumber.marked_blocks.Goals as goal
 

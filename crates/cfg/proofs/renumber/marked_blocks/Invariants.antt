@@ -1,6 +1,6 @@
 use Rattle.std.proofs.Common.{map}
 use Rattle.std.specs.Vec.Iter.{into_iter_items}
-use Rattle.cfg.specs.model.Renumber.{renumber}
+use Rattle.cfg.specs.Renumber.{renumber}
 use Rattle.cfg.proofs.Blocks.{IsKept}
 use Rattle.cfg.proofs.renumber.marked_blocks.Given as goal
 

@@ -19,6 +19,6 @@ pub returns-in-None : goal.returns-in-None
 returns-in-None g c =
     none_to_replace g.I.Insn.targets g.I.Insn.with_target g.I.Insn.flows_on c.args.numbers.now c.args.block.now c.block.inside.insns.pairs c.block.view_is (sym c.in-None.is ∙ c.last.ensures)
 
-pub returns-in_ok-renumber_insn-in-Some : goal.returns-in_ok-renumber_insn-in-Some
-returns-in_ok-renumber_insn-in-Some g c =
-    last_replaced g.I.Insn.targets g.I.Insn.with_target g.I.Insn.flows_on c.args.numbers.now c.args.block.now c.block.inside.insns.pairs _ _ c.in-Some.id _ c.set-insn.result _ c.block.view_is (sym c.in-Some.is ∙ c.last.ensures) c.set-insn.ensures.value c.set-insn.ensures.pairs c.set-jump.ensures.pairs c.in_ok-renumber_insn-in-Some.ensures c.requires.straight
+pub returns-in-Some : goal.returns-in-Some
+returns-in-Some g c =
+    last_replaced g.I.Insn.targets g.I.Insn.with_target g.I.Insn.flows_on c.args.numbers.now c.args.block.now c.block.inside.insns.pairs _ _ c.in-Some.id _ c.set-insn.result _ c.block.view_is (sym c.in-Some.is ∙ c.last.ensures) c.set-insn.ensures.value c.set-insn.ensures.pairs c.set-jump.ensures.pairs c.renumber_insn.ensures c.requires.straight

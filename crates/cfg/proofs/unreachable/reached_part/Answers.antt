@@ -1,6 +1,6 @@
 use Rattle.std.proofs.Common.{◌≡◌, ap, sym, ◌∙◌, arith, length}
 use Rattle.std.proofs.lemmas.List.FromFn.{length-map-range_with_len}
-use Rattle.cfg.specs.model.Renumber.{number_in}
+use Rattle.cfg.specs.model.Marked.{number_in}
 use Rattle.cfg.proofs.Lists.{length-successors}
 use Rattle.cfg.proofs.Kept.{told, part}
 use Rattle.cfg.proofs.unreachable.reached_part.Goals as goal
