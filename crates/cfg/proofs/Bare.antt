@@ -1,12 +1,10 @@
 -- Instructions whose targets are changed.
 use Rattle.std.proofs.Common.{◌≡◌, ◌≢◌, ℕ, zero, suc, ◌+◌, ◌<◌, ◌≤◌, Bool, List, [], ◌∷◌, ◌++◌, map, length, set, refl, sym, ap, subst, ◌∙◌, inl, inr, arith, length-append, length-set, append_assoc, append-nil, slice_index_or}
-use Rattle.std.proofs.Common.{take, drop, Some, None, slice_get, length-take}
+use Rattle.std.proofs.Common.{Some, None, slice_get}
 use Rattle.std.proofs.lemmas.Bool.{cases_lt}
-use Rattle.std.proofs.lemmas.List.{take-append-drop, take_more, get_or-map}
 use Rattle.std.proofs.lemmas.List.Elements.{All-contains}
 use Rattle.std.proofs.lemmas.Option.{slice_get_within, get_or_from_slice_get, none-some, same_Some}
 use Rattle.std.specs.Prelude.{All}
-use Rattle.cfg.proofs.Lists.{take_all}
 use Rattle.pass_core.specs.Insns.{InsnLaws}
 use Rattle.cfg.specs.Walks.{bare_from, bare}
 use Rattle.cfg.specs.Renumber.{with_targets, renumber}

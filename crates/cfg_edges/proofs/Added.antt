@@ -1,5 +1,5 @@
 -- How many blocks and instructions come in, and that they are jumps alone.
-use Rattle.std.proofs.Common.{◌≡◌, ℕ, suc, ◌+◌, ◌*◌, ◌≤◌, Bool, true, false, List, [], ◌∷◌, ◌++◌, map, length, get_or, refl, sym, ap, ◌∙◌, arith}
+use Rattle.std.proofs.Common.{◌≡◌, ℕ, suc, ◌+◌, ◌*◌, ◌≤◌, Bool, true, false, List, [], ◌∷◌, map, length, get_or, refl, ap, ◌∙◌, arith}
 use Rattle.std.proofs.lemmas.List.Sums.{sum_by-cons}
 use Rattle.pass_core.specs.Insns.{InsnLaws}
 use Rattle.suifvm_ir.specs.Functions.{last_of, count_of}
@@ -39,9 +39,15 @@ module _ {I : Type 0} (targets : I → List ℕ) (with_target : I → ℕ → �
       let fall : List I = jump_to (get_or numbers (n + 1) 0) ∷ [] in
       let jump : List I = jump_to (get_or numbers (target_after targets (last_of x)) 0) ∷ [] in
       let behind : List (List I) = split_from targets with_target jump_to numbers (suc n) splits blocks in
-      omega (arith,
-        count_more (map change x) (fall ∷ jump ∷ behind), count_more fall (jump ∷ behind), count_more jump behind, count_more x blocks,
-        length-map change x, added_insns (suc n) splits blocks (omega arith))
+      omega (
+        arith,
+        count_more (map change x) (fall ∷ jump ∷ behind),
+        count_more fall (jump ∷ behind),
+        count_more jump behind,
+        count_more x blocks,
+        length-map change x,
+        added_insns (suc n) splits blocks (omega arith),
+      )
 
 module _ {I : Type 0} (reads writes targets : I → List ℕ) (with_target : I → ℕ → ℕ → I) (jump_to : ℕ → I) (flows_on traps : I → Bool) (laws : InsnLaws reads writes targets with_target jump_to flows_on traps) (numbers : List ℕ) where
   same_bare : (change : I → I) → ((i : I) → bare targets with_target (change i) ≡ bare targets with_target i) → (xs : List I) → map (bare targets with_target) (map change xs) ≡ map (bare targets with_target) xs
@@ -56,12 +62,12 @@ module _ {I : Type 0} (reads writes targets : I → List ℕ) (with_target : I �
   adds_jumps n (s ∷ splits) [] same = absurd (omega arith)
   adds_jumps n (false ∷ splits) (x ∷ blocks) same =
       SameBlock x (map (renumber targets with_target numbers) x)
-        (same_bare (renumber targets with_target numbers) (renumber_bare reads writes targets with_target jump_to flows_on traps laws numbers) x)
-        (adds_jumps (suc n) splits blocks (omega arith))
+      (same_bare (renumber targets with_target numbers) (renumber_bare reads writes targets with_target jump_to flows_on traps laws numbers) x)
+      (adds_jumps (suc n) splits blocks (omega arith))
   adds_jumps n (true ∷ splits) (x ∷ blocks) same =
       let to : ℕ = get_or numbers n 0 + 2 in
       SameBlock x (map (to_one targets with_target to) x)
-        (same_bare (to_one targets with_target to)
-          (λ i. bare_all reads writes targets with_target jump_to flows_on traps laws i 0 (map (λ _. to) (targets i)) (omega (arith, length-map (λ (_ : ℕ). to) (targets i)))) x)
-        (NewBlock (get_or numbers (n + 1) 0)
-          (NewBlock (get_or numbers (target_after targets (last_of x)) 0) (adds_jumps (suc n) splits blocks (omega arith))))
+      (same_bare (to_one targets with_target to)
+      (λ i. bare_all reads writes targets with_target jump_to flows_on traps laws i 0 (map (λ _. to) (targets i)) (omega (arith, length-map (λ (_ : ℕ). to) (targets i)))) x)
+      (NewBlock (get_or numbers (n + 1) 0)
+      (NewBlock (get_or numbers (target_after targets (last_of x)) 0) (adds_jumps (suc n) splits blocks (omega arith))))

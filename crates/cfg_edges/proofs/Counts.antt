@@ -1,10 +1,10 @@
 -- How many edges lead to a block, as a sum over the lists of followers.
-use Rattle.std.proofs.Common.{◌≡◌, ℕ, zero, suc, ◌+◌, ◌<◌, ◌≤◌, Bool, true, false, cond, eqb, List, [], ◌∷◌, ◌++◌, map, length, refl, sym, ap, ◌∙◌, inl, inr, arith, length-append}
+use Rattle.std.proofs.Common.{◌≡◌, ℕ, suc, ◌+◌, ◌≤◌, Bool, true, false, cond, eqb, List, [], ◌∷◌, ◌++◌, map, length, refl, ap, ◌∙◌, inl, inr, arith, length-append}
 use Rattle.std.specs.Prelude.{filter}
 use Rattle.std.proofs.lemmas.Bool.Decides.{eqb_tells}
 use Rattle.std.proofs.lemmas.Bool.{eq-eqb}
 use Rattle.std.proofs.lemmas.List.Elements.{filter-append}
-use Rattle.cfg.specs.Edges.{edges_to, edges_from, sources_of}
+use Rattle.cfg.specs.Edges.{edges_to, edges_from}
 use Rattle.cfg_edges.specs.Critical.{count_to}
 use Rattle.cfg.proofs.Bare.{length-map}
 
@@ -54,7 +54,7 @@ pub hits_fewer : (number : ℕ → ℕ) (t : ℕ) (ns : List ℕ) → ((x : ℕ)
 hits_fewer number t [] alone = omega arith
 hits_fewer number t (x ∷ ns) alone =
     either_more (eqb (number x) (number t)) (eqb x t) (hits (number t) (map number ns)) (hits t ns) (hits_fewer number t ns alone)
-      (λ is. eq-eqb x t (alone x (same_eqb (number x) (number t) is)))
+    (λ is. eq-eqb x t (alone x (same_eqb (number x) (number t) is)))
 
 -- a block that has the number of none is gone to by none
 pub hits_none : (number : ℕ → ℕ) (d : ℕ) (ns : List ℕ) → ((x : ℕ) → eqb (number x) d ≡ false) → hits d (map number ns) ≡ 0

@@ -1,6 +1,5 @@
 -- Functions that go alike, where an edge may lead by way of a block that is a jump alone.
-use Rattle.std.proofs.Common.{◌≡◌, ℕ, zero, suc, ◌<◌, Bool, true, false, List, [], ◌∷◌, length, Option, Some, None, slice_get, get_or, refl, sym, ap, subst, ◌∙◌, arith}
-use Rattle.std.specs.Prelude.{◌↔◌}
+use Rattle.std.proofs.Common.{◌≡◌, ℕ, zero, suc, ◌<◌, Bool, true, false, List, [], ◌∷◌, length, Some, slice_get, get_or, refl, sym, ap, subst, ◌∙◌, arith}
 use Rattle.std.proofs.lemmas.Option.{slice_get_within, slice_get-get_or, same_Some}
 use Rattle.pass_core.specs.Insns.{InsnLaws}
 use Rattle.cfg.specs.Walks.{bare, block_at, Step, Done, Taken, NotTaken, Walk, Stops, Goes, Returns, Passes, Takes, Jumps, Falls, SameWalks}
@@ -40,28 +39,28 @@ module _ {I : Type 0} (reads writes targets : I → List ℕ) (with_target : I �
     landed t u (Direct related) walk = walk u related
     landed t u {steps = steps} (ByJump v is related) walk =
         subst (λ xs. Walk targets with_target flows_on g u xs steps) (sym is)
-          (Jumps (jump_to v) 0 v (ap (λ ts. slice_get ts 0) (laws.jump_targets v)) (laws.jump_stops v) (walk v related))
+        (Jumps (jump_to v) 0 v (ap (λ ts. slice_get ts 0) (laws.jump_targets v)) (laws.jump_stops v) (walk v related))
 
     pub follow : {b : ℕ} {is : List I} {steps : List (Step I)} → Walk targets with_target flows_on f b is steps → (c : ℕ) (js : List I) → Alike R g b c is js → Walk targets with_target flows_on g c js steps
     follow Stops c js alike = Stops
     follow (Goes {steps = steps} i none flows walk) c _ (More {j = j} {js = js} alike rest) =
         subst (λ x. Walk targets with_target flows_on g c (j ∷ js) (Done x ∷ steps)) (sym alike.same)
-          (Goes j (sym alike.count ∙ none) (sym alike.flows ∙ flows) (follow walk c js (rest flows)))
+        (Goes j (sym alike.count ∙ none) (sym alike.flows ∙ flows) (follow walk c js (rest flows)))
     follow (Returns i none flows) c _ (More {j = j} {js = js} alike rest) =
         subst (λ x. Walk targets with_target flows_on g c (j ∷ js) (Done x ∷ [])) (sym alike.same)
-          (Returns j (sym alike.count ∙ none) (sym alike.flows ∙ flows))
+        (Returns j (sym alike.count ∙ none) (sym alike.flows ∙ flows))
     follow (Passes {steps = steps} i some flows walk) c _ (More {j = j} {js = js} alike rest) =
         subst (λ x. Walk targets with_target flows_on g c (j ∷ js) (NotTaken x ∷ steps)) (sym alike.same)
-          (Passes j (subst (λ n. 0 < n) alike.count some) (sym alike.flows ∙ flows) (follow walk c js (rest flows)))
+        (Passes j (subst (λ n. 0 < n) alike.count some) (sym alike.flows ∙ flows) (follow walk c js (rest flows)))
     follow (Takes {steps = steps} i k block has flows walk) c _ (More {j = j} {js = js} alike rest) =
         let leads = alike.leads k block has in
         subst (λ x. Walk targets with_target flows_on g c (j ∷ js) (Taken x k ∷ steps)) (sym alike.same)
-          (Takes j k leads.to leads.has (sym alike.flows ∙ flows)
-            (landed block leads.to leads.lands (λ v related. follow walk v (block_at g v) (blocks block v related))))
+        (Takes j k leads.to leads.has (sym alike.flows ∙ flows)
+        (landed block leads.to leads.lands (λ v related. follow walk v (block_at g v) (blocks block v related))))
     follow (Jumps i k block has flows walk) c _ (More {j = j} {js = js} alike rest) =
         let leads = alike.leads k block has in
         Jumps j k leads.to leads.has (sym alike.flows ∙ flows)
-          (landed block leads.to leads.lands (λ v related. follow walk v (block_at g v) (blocks block v related)))
+        (landed block leads.to leads.lands (λ v related. follow walk v (block_at g v) (blocks block v related)))
     follow (Falls {block = b} walk) c _ (AtEnd next) =
         Falls (landed (suc b) (suc c) next (λ v related. follow walk v (block_at g v) (blocks (suc b) v related)))
 
@@ -100,20 +99,20 @@ module _ {I : Type 0} (reads writes targets : I → List ℕ) (with_target : I �
     retrace Stops b is st = Stops
     retrace (Goes {steps = steps} j none flows walk) b _ (At (More {i = i} {is = is} alike rest)) =
         subst (λ x. Walk targets with_target flows_on f b (i ∷ is) (Done x ∷ steps)) alike.same
-          (Goes i (alike.count ∙ none) (alike.flows ∙ flows) (retrace walk b is (At (rest (alike.flows ∙ flows)))))
+        (Goes i (alike.count ∙ none) (alike.flows ∙ flows) (retrace walk b is (At (rest (alike.flows ∙ flows)))))
     retrace (Goes {rest = rest} j none flows walk) b is (OnWay v way is_at related) = absurd (never_flows v j rest way flows)
     retrace (Returns j none flows) b _ (At (More {i = i} {is = is} alike rest)) =
         subst (λ x. Walk targets with_target flows_on f b (i ∷ is) (Done x ∷ [])) alike.same
-          (Returns i (alike.count ∙ none) (alike.flows ∙ flows))
+        (Returns i (alike.count ∙ none) (alike.flows ∙ flows))
     retrace (Returns {rest = rest} j none flows) b is (OnWay v way is_at related) = absurd (some_target v j rest way none)
     retrace (Passes {steps = steps} j some flows walk) b _ (At (More {i = i} {is = is} alike rest)) =
         subst (λ x. Walk targets with_target flows_on f b (i ∷ is) (NotTaken x ∷ steps)) alike.same
-          (Passes i (subst (λ n. 0 < n) (sym alike.count) some) (alike.flows ∙ flows) (retrace walk b is (At (rest (alike.flows ∙ flows)))))
+        (Passes i (subst (λ n. 0 < n) (sym alike.count) some) (alike.flows ∙ flows) (retrace walk b is (At (rest (alike.flows ∙ flows)))))
     retrace (Passes {rest = rest} j some flows walk) b is (OnWay v way is_at related) = absurd (never_flows v j rest way flows)
     retrace (Takes {steps = steps} j k target has flows walk) b _ (At (More {i = i} {is = is} alike rest)) =
         let t : ℕ = get_or (targets i) k 0 in
         subst (λ x. Walk targets with_target flows_on f b (i ∷ is) (Taken x k ∷ steps)) alike.same
-          (Takes i k t (from i j alike k target has) (alike.flows ∙ flows) (retrace walk t (block_at f t) (stands t target (came i j alike k target has))))
+        (Takes i k t (from i j alike k target has) (alike.flows ∙ flows) (retrace walk t (block_at f t) (stands t target (came i j alike k target has))))
     retrace (Takes {rest = rest} j k target has flows walk) b is (OnWay v way is_at related) = absurd (never_flows v j rest way flows)
     retrace (Jumps j k target has flows walk) b _ (At (More {i = i} {is = is} alike rest)) =
         let t : ℕ = get_or (targets i) k 0 in
@@ -121,12 +120,13 @@ module _ {I : Type 0} (reads writes targets : I → List ℕ) (with_target : I �
     retrace (Jumps {rest = rest} {steps = steps} j k target has flows walk) b is (OnWay v way is_at related) =
         let to : target ≡ v = only_target v k target (ap (λ x. slice_get (targets x) k) (sym (heads j (jump_to v) rest [] way)) ∙ has) in
         subst (λ xs. Walk targets with_target flows_on f b xs steps) (sym is_at)
-          (retrace walk b (block_at f b) (At (subst (λ u. Alike R g b u (block_at f b) (block_at g u)) (sym to) (blocks b v related))))
+        (retrace walk b (block_at f b) (At (subst (λ u. Alike R g b u (block_at f b) (block_at g u)) (sym to) (blocks b v related))))
     retrace (Falls {block = c} walk) b _ (At (AtEnd next)) = Falls (retrace walk (suc b) (block_at f (suc b)) (stands (suc b) (suc c) next))
     retrace (Falls walk) b is (OnWay v way is_at related) = let clash : ⊥ = cc in absurd clash
 
   -- two functions whose blocks go alike, but for jumps on the way, have the same walks
   pub same_walks : (f g : List (List I)) (R : ℕ → ℕ → Type 0) → ((b c : ℕ) → R b c → Alike R g b c (block_at f b) (block_at g c)) → R 0 0 → SameWalks targets with_target flows_on f g
   same_walks f g R blocks entry steps = (
-      (λ walk. follow f g R blocks walk 0 (block_at g 0) (blocks 0 0 entry)),
-      (λ walk. retrace f g R blocks walk 0 (block_at f 0) (At (blocks 0 0 entry))))
+    (λ walk. follow f g R blocks walk 0 (block_at g 0) (blocks 0 0 entry)),
+    (λ walk. retrace f g R blocks walk 0 (block_at f 0) (At (blocks 0 0 entry))),
+  )

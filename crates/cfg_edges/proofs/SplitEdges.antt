@@ -1,15 +1,14 @@
 -- What the blocks are after each block with a critical edge was split.
-use Rattle.std.proofs.Common.{◌≡◌, ℕ, zero, suc, ◌+◌, ◌-◌, ◌*◌, ◌<◌, ◌≤◌, ◌⊎◌, ◌&&◌, ◌||◌, Bool, true, false, cond, List, [], ◌∷◌, ◌++◌, map, length, get_or, Option, Some, None, slice_get, slice_index_or, if◌then◌else◌, refl, sym, ap, subst, ◌∙◌, inl, inr, arith, length-append}
+use Rattle.std.proofs.Common.{◌≡◌, ℕ, zero, suc, ◌+◌, ◌<◌, ◌≤◌, ◌⊎◌, ◌&&◌, ◌||◌, Bool, true, false, cond, List, [], ◌∷◌, ◌++◌, map, length, get_or, Option, Some, None, slice_index_or, if◌then◌else◌, refl, sym, ap, subst, ◌∙◌, inl, inr, arith, length-append}
 use Rattle.std.specs.Prelude.{All, IsTrue, filter, nat_lt}
 use Rattle.std.specs.List.{Contains, list_any}
-use Rattle.std.proofs.lemmas.Bool.{cases_lt}
 use Rattle.std.proofs.lemmas.Bool.Decides.{leb_tells}
-use Rattle.std.proofs.lemmas.Option.{slice_get_within, get_or_from_slice_get, same_Some, none-some}
-use Rattle.std.proofs.lemmas.List.{get_or-map, get_or_default}
+use Rattle.std.proofs.lemmas.Option.{slice_get_within, get_or_from_slice_get, same_Some}
+use Rattle.std.proofs.lemmas.List.{get_or-map}
 use Rattle.std.proofs.lemmas.List.Elements.{All-head, All-tail, All-contains, Contains-get_or, filter-append}
 use Rattle.std.proofs.lemmas.List.FromFn.{get_or-map-range_with_len}
 use Rattle.pass_core.specs.Insns.{InsnLaws}
-use Rattle.suifvm_ir.specs.Functions.{AllInsns, GoesToBlocks, EndsLate, UsesRegisters, last_of, stops, count_of, successors_after, successors_of}
+use Rattle.suifvm_ir.specs.Functions.{AllInsns, GoesToBlocks, EndsLate, last_of, stops, successors_after, successors_of}
 use Rattle.cfg.specs.Edges.{successors_from, edges_to, edges_from, sources_of, predecessors}
 use Rattle.cfg.specs.Walks.{block_at}
 use Rattle.cfg.specs.Renumber.{renumber}
@@ -20,7 +19,7 @@ use Rattle.cfg.proofs.Lists.{length-successors}
 use Rattle.cfg_edges.specs.Critical.{count_to, NoneCritical, is_critical, critical_count}
 use Rattle.cfg_edges.specs.model.Split.{is_join, is_split, numbers_from, split_from, to_one}
 use Rattle.cfg_edges.specs.model.SplitPart.{IsSplitPart}
-use Rattle.cfg_edges.proofs.Counts.{total, count_is}
+use Rattle.cfg_edges.proofs.Counts.{count_is}
 use Rattle.cfg_edges.proofs.Spreads.{kept_most, new_once}
 use Rattle.cfg_edges.proofs.Added.{marked_most, added_blocks, added_insns, adds_jumps}
 use Rattle.cfg_edges.proofs.SplitWalks.{IsBranch, Kind, Whole, Branch, Fall, Target, kind_of, split_walks, split_reached, split_goes, split_straight, split_registers, split_contents, split_stops, split_back, spreads, rises, gap, whole_followers, branch_followers, jump_followers}
@@ -85,13 +84,13 @@ one_critical p crit n t ns tells is rest = by (p t) refl (crit (n, t)) refl
         absurd never
     by false p_is false c_is =
         subst (λ (x : Bool). 1 ≤ length (cond x ((n, t) ∷ filter crit (edges_to n ns)) (filter crit (edges_to n ns)))) (sym c_is)
-          (rest (sym (ap (λ (x : Bool). x || list_any p ns) p_is) ∙ is))
+        (rest (sym (ap (λ (x : Bool). x || list_any p ns) p_is) ∙ is))
 
 some_critical : (p : ℕ → Bool) (crit : ℕ × ℕ → Bool) (n : ℕ) (ns : List ℕ) → All (λ t. p t ≡ true → crit (n, t) ≡ true) ns → list_any p ns ≡ true → 1 ≤ length (filter crit (edges_to n ns))
 some_critical p crit n [] tells is = let clash : ⊥ = cc in absurd clash
 some_critical p crit n (t ∷ ns) tells is =
     one_critical p crit n t ns (All-head (λ x. p x ≡ true → crit (n, x) ≡ true) t ns tells) is
-      (λ more. some_critical p crit n ns (All-tail (λ x. p x ≡ true → crit (n, x) ≡ true) t ns tells) more)
+    (λ more. some_critical p crit n ns (All-tail (λ x. p x ≡ true → crit (n, x) ≡ true) t ns tells) more)
 
 module _ {I : Type 0} (reads writes targets : I → List ℕ) (with_target : I → ℕ → ℕ → I) (jump_to : ℕ → I) (flows_on traps : I → Bool) (laws : InsnLaws reads writes targets with_target jump_to flows_on traps) (f : List (List I)) (goes : AllInsns (GoesToBlocks targets (length f)) f) (straight : All (EndsLate targets flows_on) f) (ends : IsTrue (stops flows_on f)) where
   abbrev followers : List (List ℕ)
@@ -159,9 +158,12 @@ module _ {I : Type 0} (reads writes targets : I → List ℕ) (with_target : I �
   one_more n nexts true marks m below nexts_is inside is most =
       let two : nat_lt 1 (length nexts) ≡ true = and_left (nat_lt 1 (length nexts)) (list_any (is_join sources) nexts) is in
       let leaves : nat_lt 1 (length (slice_index_or followers n [])) ≡ true = ap (λ ns. nat_lt 1 (length ns)) nexts_is ∙ two in
-      omega (arith, some_critical (is_join sources) crit n nexts
-        (λ k d here join. and_true (nat_lt 1 (length (slice_index_or followers n []))) (nat_lt 1 (count_to followers (get_or nexts k d))) leaves (sym (source_is (get_or nexts k d) (inside k d here)) ∙ join))
-        (and_right (nat_lt 1 (length nexts)) (list_any (is_join sources) nexts) is))
+      omega (
+        arith,
+        some_critical (is_join sources) crit n nexts
+            (λ k d here join. and_true (nat_lt 1 (length (slice_index_or followers n []))) (nat_lt 1 (count_to followers (get_or nexts k d))) leaves (sym (source_is (get_or nexts k d) (inside k d here)) ∙ join))
+            (and_right (nat_lt 1 (length nexts)) (list_any (is_join sources) nexts) is),
+      )
 
   splits_from : (n : ℕ) (rest : List (List ℕ)) → n + length rest ≡ length f → ((j : ℕ) → get_or rest j [] ≡ get_or followers (n + j) []) → marked_count (map (is_split sources) rest) ≤ length (filter crit (edges_from n rest))
   splits_from n [] long at = omega arith
@@ -171,10 +173,12 @@ module _ {I : Type 0} (reads writes targets : I → List ℕ) (with_target : I �
       let is : get_or followers n [] ≡ nexts = sym (at 0 ∙ ap (λ m. get_or followers m []) here) in
       let inside : All (λ t. t < length f) nexts = subst (All (λ t. t < length f)) (sym (nexts_at n below) ∙ is) (within n below) in
       let most = splits_from (suc n) rest (omega arith) (λ j. at (suc j) ∙ ap (λ m. get_or followers m []) (let moved : n + suc j ≡ suc n + j = omega arith in moved)) in
-      omega (arith,
+      omega (
+        arith,
         one_more n nexts (is_split sources nexts) (map (is_split sources) rest) (length (filter crit (edges_from (suc n) rest))) below is inside refl most,
         ap length (filter-append crit (edges_to n nexts) (edges_from (suc n) rest)),
-        length-append (filter crit (edges_to n nexts)) (filter crit (edges_from (suc n) rest)))
+        length-append (filter crit (edges_to n nexts)) (filter crit (edges_from (suc n) rest)),
+      )
 
   splits_most : marked_count splits ≤ critical_count targets flows_on f
   splits_most = splits_from 0 followers (let long : 0 + length followers ≡ length f = omega (arith, length-successors targets flows_on 0 f) in long) (λ j. ap (λ m. get_or followers m []) (let same : j ≡ 0 + j = omega arith in same))
@@ -203,9 +207,11 @@ module _ {I : Type 0} (reads writes targets : I → List ℕ) (with_target : I �
   -- an edge to a new block
   new_edge : (b at : ℕ) → get_or splits b false ≡ true → b < length f → 0 < at → at < 3 → count_to after (number b + at) ≤ 1
   new_edge b at is below some most =
-      omega (arith,
+      omega (
+        arith,
         new_once number (length f) (rises reads writes targets with_target jump_to flows_on traps laws f goes straight ends splits count branches) b (number b + at) below (omega arith) (omega (arith, gap reads writes targets with_target jump_to flows_on traps laws f goes straight ends splits count branches b is below)) (spreads reads writes targets with_target jump_to flows_on traps laws f goes straight ends splits count branches) (omega arith),
-        count_is after (number b + at))
+        count_is after (number b + at),
+      )
 
   pair_cases : (x y to : ℕ) → Contains (x ∷ y ∷ []) to → (to ≡ x) ⊎ (to ≡ y)
   pair_cases x y to (zero, below, is) = inl (sym is)
@@ -240,7 +246,7 @@ module _ {I : Type 0} (reads writes targets : I → List ℕ) (with_target : I �
       let below : c < length g = omega (arith, slice_get_within after c nexts get, length-successors targets flows_on 0 g) in
       let is : nexts ≡ successors_of targets flows_on c (block_at g c) = same_Some nexts (successors_of targets flows_on c (block_at g c)) (sym get ∙ followers_of targets flows_on g c below) in
       subst (λ ns. (length ns ≤ 1) ⊎ (count_to after to ≤ 1)) (sym is)
-        (edge_fine c to (kind_of reads writes targets with_target jump_to flows_on traps laws f goes straight ends splits count branches c below) (subst (λ ns. Contains ns to) is among))
+      (edge_fine c to (kind_of reads writes targets with_target jump_to flows_on traps laws f goes straight ends splits count branches c below) (subst (λ ns. Contains ns to) is among))
 
   pub part : IsSplitPart reads writes targets with_target jump_to flows_on f g
   part =

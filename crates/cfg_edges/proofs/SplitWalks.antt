@@ -19,7 +19,7 @@ use Rattle.cfg.specs.Renumber.{with_targets, renumber}
 use Rattle.cfg.proofs.Bare.{length-map, bare_all, flows_all, targets_all, reads_all, writes_all, renumber_bare, renumber_flows, renumber_targets, renumber_reads, renumber_writes}
 use Rattle.cfg.proofs.Kept.{late_head, late_tail, last_more, successor_within, target_goes, none_stop, followers_of, one_only}
 use Rattle.cfg.proofs.Lists.{length-successors}
-use Rattle.cfg_edges.proofs.Landing.{Lands, Direct, ByJump, Leads, AreAlike, Alike, AtEnd, More, same_walks}
+use Rattle.cfg_edges.proofs.Landing.{Lands, Direct, ByJump, AreAlike, Alike, AtEnd, More, same_walks}
 use Rattle.cfg_edges.proofs.Spreads.{Spreads, NoBlock, IsWhole, IsCut}
 use Rattle.cfg_edges.proofs.Splits.{numbers_head, numbers_next, numbers_rise, split_get, split_length, piece_of, places_some}
 
@@ -95,9 +95,9 @@ module _ {I : Type 0} (reads writes targets : I → List ℕ) (with_target : I �
     leads = λ k t has. record {
       to = number t;
       has =
-        ap (λ ts. slice_get ts k) (renumber_targets reads writes targets with_target jump_to flows_on traps laws numbers i)
-        ∙ slice_get-map (λ (block : ℕ). slice_index_or numbers block 0) (targets i) k
-        ∙ ap (option_map (λ block. slice_index_or numbers block 0)) has;
+          ap (λ ts. slice_get ts k) (renumber_targets reads writes targets with_target jump_to flows_on traps laws numbers i)
+          ∙ slice_get-map (λ (block : ℕ). slice_index_or numbers block 0) (targets i) k
+          ∙ ap (option_map (λ block. slice_index_or numbers block 0)) has;
       lands = Direct (there t (k, slice_get_within (targets i) k t has, get_or_from_slice_get (targets i) k t t has), refl);
     };
   }
@@ -109,10 +109,10 @@ module _ {I : Type 0} (reads writes targets : I → List ℕ) (with_target : I �
   rest_alike b c change (i ∷ x ∷ xs) late stays last empty falls =
       let plain = late_head targets flows_on i x xs late in
       More (plain_alike change i (stays i plain.0) plain.0)
-        (λ flows. rest_alike b c change (x ∷ xs) (late_tail targets flows_on i x xs late) stays
-          (λ j is. last j (last_more targets flows_on i x xs ∙ is))
-          (λ none. empty (last_more targets flows_on i x xs ∙ none))
-          (λ j is. falls j (last_more targets flows_on i x xs ∙ is)))
+      (λ flows. rest_alike b c change (x ∷ xs) (late_tail targets flows_on i x xs late) stays
+      (λ j is. last j (last_more targets flows_on i x xs ∙ is))
+      (λ none. empty (last_more targets flows_on i x xs ∙ none))
+      (λ j is. falls j (last_more targets flows_on i x xs ∙ is)))
 
   none_changed : (h : ℕ → ℕ) (i : I) (ts : List ℕ) → ts ≡ targets i → length ts ≡ 0 → with_targets with_target i 0 (map h (targets i)) ≡ i
   none_changed h i [] is none = ap (λ ts. with_targets with_target i 0 (map h ts)) (sym is)
@@ -131,8 +131,8 @@ module _ {I : Type 0} (reads writes targets : I → List ℕ) (with_target : I �
   after_flow : (b : ℕ) (i : I) → b < length f → last_of (block_at f b) ≡ Some i → flows_on i ≡ true → suc b < length f
   after_flow b i below is flows =
       next_there b (Some i) below is
-        (Contains-append_right (targets i) (if flows_on i then suc b ∷ [] else []) (suc b)
-          (subst (λ goes_on. Contains (if goes_on then suc b ∷ [] else []) (suc b)) (sym flows) (0, omega arith, refl)))
+      (Contains-append_right (targets i) (if flows_on i then suc b ∷ [] else []) (suc b)
+      (subst (λ goes_on. Contains (if goes_on then suc b ∷ [] else []) (suc b)) (sym flows) (0, omega arith, refl)))
 
   whole_next : (b : ℕ) → get_or splits b false ≡ false → b < length f → suc (number b) ≡ number (suc b)
   whole_next b is below = omega (arith, numbers_next 0 splits b (omega (arith, count)), ap places is)
@@ -140,11 +140,11 @@ module _ {I : Type 0} (reads writes targets : I → List ℕ) (with_target : I �
   whole_block : (b : ℕ) → get_or splits b false ≡ false → b < length f → Alike reads writes targets with_target jump_to flows_on traps laws R g b (number b) (block_at f b) (block_at g (number b))
   whole_block b is below =
       subst (λ xs. Alike reads writes targets with_target jump_to flows_on traps laws R g b (number b) (block_at f b) xs) (sym (whole_at b is below))
-        (rest_alike b (number b) ren (block_at f b) (straight b [] below)
-          (λ i none. none_changed (λ block. slice_index_or numbers block 0) i (targets i) refl none)
-          (λ i last. whole_alike i (last_there b i below last))
-          (λ none. Direct (after_none b below none, whole_next b is below))
-          (λ i last flows. Direct (after_flow b i below last flows, whole_next b is below)))
+      (rest_alike b (number b) ren (block_at f b) (straight b [] below)
+      (λ i none. none_changed (λ block. slice_index_or numbers block 0) i (targets i) refl none)
+      (λ i last. whole_alike i (last_there b i below last))
+      (λ none. Direct (after_none b below none, whole_next b is below))
+      (λ i last flows. Direct (after_flow b i below last flows, whole_next b is below)))
 
   single : (ts : List ℕ) (t k x : ℕ) → ts ≡ t ∷ [] → slice_get ts k ≡ Some x → (k ≡ 0) × (x ≡ t)
   single ts t zero x is has = (refl, same_Some x t (sym has ∙ ap (λ us. slice_get us 0) is))
@@ -163,13 +163,13 @@ module _ {I : Type 0} (reads writes targets : I → List ℕ) (with_target : I �
         flows = sym (flows_all reads writes targets with_target jump_to flows_on traps laws i 0 new);
         count = long ∙ sym (ap length now);
         leads = λ k t has.
-          let at = single (targets i) branch.target k t one has in
-          record {
-            to = to;
-            has = ap (λ ts. slice_get ts k) (now ∙ ap (map (λ _. to)) one) ∙ ap (slice_get (to ∷ [])) at.0;
-            lands = ByJump (number branch.target) (target_at b is below)
-              (last_there b i below last t (k, slice_get_within (targets i) k t has, get_or_from_slice_get (targets i) k t t has), ap number (sym at.1));
-          };
+            let at = single (targets i) branch.target k t one has in
+            record {
+              to = to;
+              has = ap (λ ts. slice_get ts k) (now ∙ ap (map (λ _. to)) one) ∙ ap (slice_get (to ∷ [])) at.0;
+              lands = ByJump (number branch.target) (target_at b is below)
+                  (last_there b i below last t (k, slice_get_within (targets i) k t has, get_or_from_slice_get (targets i) k t t has), ap number (sym at.1));
+            };
       }
 
   branch_falls : (b : ℕ) → get_or splits b false ≡ true → b < length f → suc b < length f → Lands reads writes targets with_target jump_to flows_on traps laws R g (suc b) (suc (number b))
@@ -179,11 +179,11 @@ module _ {I : Type 0} (reads writes targets : I → List ℕ) (with_target : I �
   branch_block : (b : ℕ) → get_or splits b false ≡ true → b < length f → Alike reads writes targets with_target jump_to flows_on traps laws R g b (number b) (block_at f b) (block_at g (number b))
   branch_block b is below =
       subst (λ xs. Alike reads writes targets with_target jump_to flows_on traps laws R g b (number b) (block_at f b) xs) (sym (branch_at b is below))
-        (rest_alike b (number b) (one_to (number b + 2)) (block_at f b) (straight b [] below)
-          (λ i none. none_changed (λ _. number b + 2) i (targets i) refl none)
-          (λ i last. branch_alike b is below i last)
-          (λ none. absurd (none-some (branches b is).insn (sym none ∙ (branches b is).last)))
-          (λ i last flows. branch_falls b is below (after_flow b i below last flows)))
+      (rest_alike b (number b) (one_to (number b + 2)) (block_at f b) (straight b [] below)
+      (λ i none. none_changed (λ _. number b + 2) i (targets i) refl none)
+      (λ i last. branch_alike b is below i last)
+      (λ none. absurd (none-some (branches b is).insn (sym none ∙ (branches b is).last)))
+      (λ i last flows. branch_falls b is below (after_flow b i below last flows)))
 
   block_alike : (b : ℕ) (s : Bool) → get_or splits b false ≡ s → b < length f → Alike reads writes targets with_target jump_to flows_on traps laws R g b (number b) (block_at f b) (block_at g (number b))
   block_alike b true is below = branch_block b is below
@@ -192,10 +192,10 @@ module _ {I : Type 0} (reads writes targets : I → List ℕ) (with_target : I �
   pub split_walks : SameWalks targets with_target flows_on f g
   split_walks =
       same_walks reads writes targets with_target jump_to flows_on traps laws f g R
-        (λ b c related.
-          subst (λ n. Alike reads writes targets with_target jump_to flows_on traps laws R g b n (block_at f b) (block_at g n)) (sym related.1)
-            (block_alike b (get_or splits b false) refl related.0))
-        (none_stop targets flows_on f ends, sym (numbers_head 0 splits))
+      (λ b c related.
+      subst (λ n. Alike reads writes targets with_target jump_to flows_on traps laws R g b n (block_at f b) (block_at g n)) (sym related.1)
+      (block_alike b (get_or splits b false) refl related.0))
+      (none_stop targets flows_on f ends, sym (numbers_head 0 splits))
 
   -- paths
   length_g : length g ≡ number (length f)
@@ -205,16 +205,15 @@ module _ {I : Type 0} (reads writes targets : I → List ℕ) (with_target : I �
   piece_within b at s is below inside =
       omega (arith, length_g, numbers_rise splits b (length f) below (omega (arith, count)), ap places is)
 
-
   goes_to : (c to : ℕ) → c < length g → Reached (successors_from targets flows_on 0 g) c → Contains (successors_of targets flows_on c (block_at g c)) to → Reached (successors_from targets flows_on 0 g) to
   goes_to c to below reached among = Follows to (successors_of targets flows_on c (block_at g c)) reached (followers_of targets flows_on g c below) among
 
   jump_goes : (c v : ℕ) → c < length g → block_at g c ≡ jump_to v ∷ [] → Reached (successors_from targets flows_on 0 g) c → Reached (successors_from targets flows_on 0 g) v
   jump_goes c v below is reached =
       goes_to c v below reached
-        (subst (λ xs. Contains (successors_of targets flows_on c xs) v) (sym is)
-          (Contains-append_left (targets (jump_to v)) (if flows_on (jump_to v) then suc c ∷ [] else []) v
-            (subst (λ ts. Contains ts v) (sym (laws.jump_targets v)) (0, omega arith, refl))))
+      (subst (λ xs. Contains (successors_of targets flows_on c xs) v) (sym is)
+      (Contains-append_left (targets (jump_to v)) (if flows_on (jump_to v) then suc c ∷ [] else []) v
+      (subst (λ ts. Contains ts v) (sym (laws.jump_targets v)) (0, omega arith, refl))))
 
   last_map : (change : I → I) (xs : List I) → last_of (map change xs) ≡ option_map change (last_of xs)
   last_map change xs = ap (λ n. slice_get (map change xs) (n - 1)) (length-map change xs) ∙ slice_get-map change xs (length xs - 1)
@@ -223,16 +222,17 @@ module _ {I : Type 0} (reads writes targets : I → List ℕ) (with_target : I �
   flow_behind : (c to : ℕ) (i : I) → flows_on i ≡ true → to ≡ suc c → Contains (successors_after targets flows_on c (Some i)) to
   flow_behind c to i flows is =
       Contains-append_right (targets i) (if flows_on i then suc c ∷ [] else []) to
-        (subst (λ goes_on. Contains (if goes_on then suc c ∷ [] else []) to) (sym flows) (0, omega arith, sym is))
+      (subst (λ goes_on. Contains (if goes_on then suc c ∷ [] else []) to) (sym flows) (0, omega arith, sym is))
 
   target_kept : (i : I) (t : ℕ) → Contains (targets i) t → Contains (targets (ren i)) (number t)
   target_kept i t c =
-      let renumbered = renumber_targets reads writes targets with_target jump_to flows_on traps laws numbers i in
-      (c.0,
-       omega (arith, c.1, ap length renumbered, length-map (λ (block : ℕ). slice_index_or numbers block 0) (targets i)),
-       ap (λ ts. get_or ts c.0 (number t)) renumbered
-       ∙ get_or_map (λ (block : ℕ). slice_index_or numbers block 0) (targets i) c.0 t (number t) c.1
-       ∙ ap number c.2)
+      let renumbered = renumber_targets reads writes targets with_target jump_to flows_on traps laws numbers i in (
+        c.0,
+        omega (arith, c.1, ap length renumbered, length-map (λ (block : ℕ). slice_index_or numbers block 0) (targets i)),
+        ap (λ ts. get_or ts c.0 (number t)) renumbered
+            ∙ get_or_map (λ (block : ℕ). slice_index_or numbers block 0) (targets i) c.0 t (number t) c.1
+            ∙ ap number c.2,
+      )
 
   only_next : (flows : Bool) (b to : ℕ) → Contains (if flows then suc b ∷ [] else []) to → (flows ≡ true) × (to ≡ suc b)
   only_next true b to c = (refl, one_only targets flows_on (suc b) to c.0 c.1 c.2)
@@ -261,20 +261,21 @@ module _ {I : Type 0} (reads writes targets : I → List ℕ) (with_target : I �
       let long : length (targets i) ≡ length new = sym (length-map (λ (_ : ℕ). to) (targets i)) in
       let now : targets (one_to to i) ≡ to ∷ [] = targets_all reads writes targets with_target jump_to flows_on traps laws new (targets i) [] [] i (sym (append-nil (targets i))) long ∙ append-nil new ∙ ap (map (λ _. to)) branch.one in
       let flows : flows_on (one_to to i) ≡ true = flows_all reads writes targets with_target jump_to flows_on traps laws i 0 new ∙ branch.flows in
-      let last : last_of (block_at g (number b)) ≡ Some (one_to to i) = ap last_of (branch_at b is below) ∙ last_map (one_to to) (block_at f b) ∙ ap (option_map (one_to to)) branch.last in
-      (goes_to (number b) (suc (number b)) here reached
-         (subst (λ o. Contains (successors_after targets flows_on (number b) o) (suc (number b))) (sym last) (flow_behind (number b) (suc (number b)) (one_to to i) flows refl)),
-       goes_to (number b) to here reached
-         (subst (λ o. Contains (successors_after targets flows_on (number b) o) to) (sym last)
-           (Contains-append_left (targets (one_to to i)) (if flows_on (one_to to i) then suc (number b) ∷ [] else []) to
-             (subst (λ ts. Contains ts to) (sym now) (0, omega arith, refl)))))
+      let last : last_of (block_at g (number b)) ≡ Some (one_to to i) = ap last_of (branch_at b is below) ∙ last_map (one_to to) (block_at f b) ∙ ap (option_map (one_to to)) branch.last in (
+        goes_to (number b) (suc (number b)) here reached
+            (subst (λ o. Contains (successors_after targets flows_on (number b) o) (suc (number b))) (sym last) (flow_behind (number b) (suc (number b)) (one_to to i) flows refl)),
+        goes_to (number b) to here reached
+            (subst (λ o. Contains (successors_after targets flows_on (number b) o) to) (sym last)
+            (Contains-append_left (targets (one_to to i)) (if flows_on (one_to to i) then suc (number b) ∷ [] else []) to
+            (subst (λ ts. Contains ts to) (sym now) (0, omega arith, refl)))),
+      )
 
   -- an edge of before is a path
   edge_kept : (b t : ℕ) (s : Bool) → get_or splits b false ≡ s → b < length f → Contains (successors_of targets flows_on b (block_at f b)) t → Reached (successors_from targets flows_on 0 g) (number b) → Reached (successors_from targets flows_on 0 g) (number t)
   edge_kept b t false is below c reached =
       goes_to (number b) (number t) (omega (arith, piece_within b 0 false is below (omega arith))) reached
-        (subst (λ o. Contains (successors_after targets flows_on (number b) o) (number t)) (sym (ap last_of (whole_at b is below) ∙ last_map ren (block_at f b)))
-          (whole_edge b t (last_of (block_at f b)) is below refl c))
+      (subst (λ o. Contains (successors_after targets flows_on (number b) o) (number t)) (sym (ap last_of (whole_at b is below) ∙ last_map ren (block_at f b)))
+      (whole_edge b t (last_of (block_at f b)) is below refl c))
   edge_kept b t true is below c reached =
       let branch = branches b is in
       let behind = behind_reached b is below reached in
@@ -284,12 +285,12 @@ module _ {I : Type 0} (reads writes targets : I → List ℕ) (with_target : I �
             let at : Contains (branch.target ∷ []) t = subst (λ ts. Contains ts t) branch.one target in
             let same : t ≡ branch.target = one_only targets flows_on branch.target t at.0 at.1 at.2 in
             subst (λ x. Reached (successors_from targets flows_on 0 g) (number x)) (sym same)
-              (jump_goes (number b + 2) (number branch.target) (piece_within b 2 true is below (omega arith)) (target_at b is below) behind.1)
+            (jump_goes (number b + 2) (number branch.target) (piece_within b 2 true is below (omega arith)) (target_at b is below) behind.1)
         | inr flow ↦
             let next = only_next (flows_on branch.insn) b t flow in
             let same : b + 1 ≡ t = omega (arith, next.1) in
             subst (λ x. Reached (successors_from targets flows_on 0 g) (number x)) same
-              (jump_goes (suc (number b)) (number (b + 1)) (omega (arith, piece_within b 1 true is below (omega arith))) (fall_at b is below) behind.0)
+            (jump_goes (suc (number b)) (number (b + 1)) (omega (arith, piece_within b 1 true is below (omega arith))) (fall_at b is below) behind.0)
       ]
 
   reached_kept : (b : ℕ) → Reached (successors_from targets flows_on 0 f) b → Reached (successors_from targets flows_on 0 g) (number b)
@@ -311,7 +312,7 @@ module _ {I : Type 0} (reads writes targets : I → List ℕ) (with_target : I �
       let piece = piece_of splits c (omega (arith, length_g, ap number count)) in
       let inside : piece.block < length f = omega (arith, piece.below, count) in
       subst (λ n. Reached (successors_from targets flows_on 0 g) n) piece.is
-        (piece_reached piece.block piece.at (get_or splits piece.block false) refl inside piece.inside (reached_kept piece.block (all piece.block inside)))
+      (piece_reached piece.block piece.at (get_or splits piece.block false) refl inside piece.inside (reached_kept piece.block (all piece.block inside)))
 
   -- what stands at a number of the result
   pub data Kind (c : ℕ) : Type 0 where
@@ -343,7 +344,7 @@ module _ {I : Type 0} (reads writes targets : I → List ℕ) (with_target : I �
   branch_target b is below =
       let branch = branches b is in
       target_goes targets flows_on f goes ends b (length (block_at f b) - 1) branch.insn below branch.last branch.target
-        (subst (λ ts. Contains ts branch.target) (sym branch.one) (0, omega arith, refl))
+      (subst (λ ts. Contains ts branch.target) (sym branch.one) (0, omega arith, refl))
 
   branch_next : (b : ℕ) (is : get_or splits b false ≡ true) → b < length f → b + 1 < length f
   branch_next b is below = omega (arith, after_flow b (branches b is).insn below (branches b is).last (branches b is).flows)
@@ -377,8 +378,8 @@ module _ {I : Type 0} (reads writes targets : I → List ℕ) (with_target : I �
       let i : I = slice_index_or (block_at f b) k d in
       let old = goes b [] below k d inside in
       subst (All (λ target. (0 < target) × (target < length g))) (sym (renumber_targets reads writes targets with_target jump_to flows_on traps laws numbers i))
-        (All-map (λ target. (0 < target) × (target < length g)) (λ (block : ℕ). slice_index_or numbers block 0) (targets i)
-          (λ at e there. number_goes (slice_index_or (targets i) at e) (old at e there).0 (old at e there).1)))
+      (All-map (λ target. (0 < target) × (target < length g)) (λ (block : ℕ). slice_index_or numbers block 0) (targets i)
+      (λ at e there. number_goes (slice_index_or (targets i) at e) (old at e there).0 (old at e there).1)))
 
   one_goes : (b : ℕ) → get_or splits b false ≡ true → b < length f → All (GoesToBlocks targets (length g)) (map (one_to (number b + 2)) (block_at f b))
   one_goes b is below = All-map (GoesToBlocks targets (length g)) (one_to (number b + 2)) (block_at f b) (λ k d inside.
@@ -387,13 +388,13 @@ module _ {I : Type 0} (reads writes targets : I → List ℕ) (with_target : I �
       let now : targets (one_to (number b + 2) i) ≡ new =
       targets_all reads writes targets with_target jump_to flows_on traps laws new (targets i) [] [] i (sym (append-nil (targets i))) (sym (length-map (λ (_ : ℕ). number b + 2) (targets i))) ∙ append-nil new in
       subst (All (λ target. (0 < target) × (target < length g))) (sym now)
-        (All-map (λ target. (0 < target) × (target < length g)) (λ (_ : ℕ). number b + 2) (targets i) (λ at e there. (omega arith, piece_within b 2 true is below (omega arith)))))
+      (All-map (λ target. (0 < target) × (target < length g)) (λ (_ : ℕ). number b + 2) (targets i) (λ at e there. (omega arith, piece_within b 2 true is below (omega arith)))))
 
   jump_stays : (t : ℕ) → 0 < t → t < length f → All (GoesToBlocks targets (length g)) (jump_to (number t) ∷ [])
   jump_stays t later below =
       all_one (GoesToBlocks targets (length g)) (jump_to (number t))
-        (subst (All (λ target. (0 < target) × (target < length g))) (sym (laws.jump_targets (number t)))
-          (all_one (λ target. (0 < target) × (target < length g)) (number t) (number_goes t later below)))
+      (subst (All (λ target. (0 < target) × (target < length g))) (sym (laws.jump_targets (number t)))
+      (all_one (λ target. (0 < target) × (target < length g)) (number t) (number_goes t later below)))
 
   pub split_goes : AllInsns (GoesToBlocks targets (length g)) g
   split_goes = each_block (All (GoesToBlocks targets (length g))) whole_goes one_goes jump_stays
@@ -404,31 +405,34 @@ module _ {I : Type 0} (reads writes targets : I → List ℕ) (with_target : I �
       let front : front_of (map change xs) ≡ map change (front_of xs) =
       ap (λ n. take (n - 1) (map change xs)) (length-map change xs) ∙ take-map change (length xs - 1) xs in
       subst (All (IsStraight targets flows_on)) (sym front)
-        (All-map (IsStraight targets flows_on) change (front_of xs)
-          (λ k d below. let plain = late k d below in subst (IsStraight targets flows_on) (sym (stays (slice_index_or (front_of xs) k d) plain.0)) plain))
+      (All-map (IsStraight targets flows_on) change (front_of xs)
+      (λ k d below. let plain = late k d below in subst (IsStraight targets flows_on) (sym (stays (slice_index_or (front_of xs) k d) plain.0)) plain))
 
   pub split_straight : All (EndsLate targets flows_on) g
   split_straight = each_block (EndsLate targets flows_on)
-    (λ b below. late_kept ren (λ i none. none_changed (λ block. slice_index_or numbers block 0) i (targets i) refl none) (block_at f b) (straight b [] below))
-    (λ b is below. late_kept (one_to (number b + 2)) (λ i none. none_changed (λ _. number b + 2) i (targets i) refl none) (block_at f b) (straight b [] below))
-    (λ t later below k d inside. absurd (omega arith))
+      (λ b below. late_kept ren (λ i none. none_changed (λ block. slice_index_or numbers block 0) i (targets i) refl none) (block_at f b) (straight b [] below))
+      (λ b is below. late_kept (one_to (number b + 2)) (λ i none. none_changed (λ _. number b + 2) i (targets i) refl none) (block_at f b) (straight b [] below))
+      (λ t later below k d inside. absurd (omega arith))
 
   pub split_registers : (temps : ℕ) → AllInsns (UsesRegisters reads writes temps) f → AllInsns (UsesRegisters reads writes temps) g
   split_registers temps all = each_block (All (UsesRegisters reads writes temps))
-    (λ b below. All-map (UsesRegisters reads writes temps) ren (block_at f b) (λ k d inside.
+      (λ b below. All-map (UsesRegisters reads writes temps) ren (block_at f b) (λ k d inside.
       let i : I = slice_index_or (block_at f b) k d in
-      let old = all b [] below k d inside in
-      (subst (All (λ register. register < temps)) (sym (renumber_reads reads writes targets with_target jump_to flows_on traps laws numbers i)) old.0,
-       subst (All (λ register. register < temps)) (sym (renumber_writes reads writes targets with_target jump_to flows_on traps laws numbers i)) old.1)))
-    (λ b is below. All-map (UsesRegisters reads writes temps) (one_to (number b + 2)) (block_at f b) (λ k d inside.
+      let old = all b [] below k d inside in (
+        subst (All (λ register. register < temps)) (sym (renumber_reads reads writes targets with_target jump_to flows_on traps laws numbers i)) old.0,
+        subst (All (λ register. register < temps)) (sym (renumber_writes reads writes targets with_target jump_to flows_on traps laws numbers i)) old.1,
+      )))
+      (λ b is below. All-map (UsesRegisters reads writes temps) (one_to (number b + 2)) (block_at f b) (λ k d inside.
       let i : I = slice_index_or (block_at f b) k d in
       let new : List ℕ = map (λ _. number b + 2) (targets i) in
-      let old = all b [] below k d inside in
-      (subst (All (λ register. register < temps)) (sym (reads_all reads writes targets with_target jump_to flows_on traps laws i 0 new)) old.0,
-       subst (All (λ register. register < temps)) (sym (writes_all reads writes targets with_target jump_to flows_on traps laws i 0 new)) old.1)))
-    (λ t later below. all_one (UsesRegisters reads writes temps) (jump_to (number t))
-      (subst (All (λ register. register < temps)) (sym (laws.jump_reads (number t))) (All-nil (λ register. register < temps)),
-       subst (All (λ register. register < temps)) (sym (laws.jump_writes (number t))) (All-nil (λ register. register < temps))))
+      let old = all b [] below k d inside in (
+        subst (All (λ register. register < temps)) (sym (reads_all reads writes targets with_target jump_to flows_on traps laws i 0 new)) old.0,
+        subst (All (λ register. register < temps)) (sym (writes_all reads writes targets with_target jump_to flows_on traps laws i 0 new)) old.1,
+      )))
+      (λ t later below. all_one (UsesRegisters reads writes temps) (jump_to (number t)) (
+        subst (All (λ register. register < temps)) (sym (laws.jump_reads (number t))) (All-nil (λ register. register < temps)),
+        subst (All (λ register. register < temps)) (sym (laws.jump_writes (number t))) (All-nil (λ register. register < temps)),
+      ))
 
   -- what stays of the contents of a block, under a change of targets alone
   same_or_not : (no_jump : Bool) (i j : I) (is js : List I) → bare targets with_target i ≡ bare targets with_target j → map (bare targets with_target) is ≡ map (bare targets with_target) js → map (bare targets with_target) (cond no_jump (i ∷ is) is) ≡ map (bare targets with_target) (cond no_jump (j ∷ js) js)
@@ -448,19 +452,19 @@ module _ {I : Type 0} (reads writes targets : I → List ℕ) (with_target : I �
   whole_contents : (b : ℕ) → contents targets with_target flows_on (map ren (block_at f b)) ≡ contents targets with_target flows_on (block_at f b)
   whole_contents b =
       contents_same ren (renumber_bare reads writes targets with_target jump_to flows_on traps laws numbers) (renumber_flows reads writes targets with_target jump_to flows_on traps laws numbers)
-        (λ i. ap length (renumber_targets reads writes targets with_target jump_to flows_on traps laws numbers i) ∙ length-map (λ (block : ℕ). slice_index_or numbers block 0) (targets i))
-        (block_at f b)
+      (λ i. ap length (renumber_targets reads writes targets with_target jump_to flows_on traps laws numbers i) ∙ length-map (λ (block : ℕ). slice_index_or numbers block 0) (targets i))
+      (block_at f b)
 
   one_contents : (to b : ℕ) → contents targets with_target flows_on (map (one_to to) (block_at f b)) ≡ contents targets with_target flows_on (block_at f b)
   one_contents to b =
       contents_same (one_to to)
-        (λ i. bare_all reads writes targets with_target jump_to flows_on traps laws i 0 (map (λ _. to) (targets i)) (omega (arith, length-map (λ (_ : ℕ). to) (targets i))))
-        (λ i. flows_all reads writes targets with_target jump_to flows_on traps laws i 0 (map (λ _. to) (targets i)))
-        (λ i.
-          let new : List ℕ = map (λ _. to) (targets i) in
-          let long = length-map (λ (_ : ℕ). to) (targets i) in
-          ap length (targets_all reads writes targets with_target jump_to flows_on traps laws new (targets i) [] [] i (sym (append-nil (targets i))) (sym long) ∙ append-nil new) ∙ long)
-        (block_at f b)
+      (λ i. bare_all reads writes targets with_target jump_to flows_on traps laws i 0 (map (λ _. to) (targets i)) (omega (arith, length-map (λ (_ : ℕ). to) (targets i))))
+      (λ i. flows_all reads writes targets with_target jump_to flows_on traps laws i 0 (map (λ _. to) (targets i)))
+      (λ i.
+      let new : List ℕ = map (λ _. to) (targets i) in
+      let long = length-map (λ (_ : ℕ). to) (targets i) in
+      ap length (targets_all reads writes targets with_target jump_to flows_on traps laws new (targets i) [] [] i (sym (append-nil (targets i))) (sym long) ∙ append-nil new) ∙ long)
+      (block_at f b)
 
   -- the contents of the block at a number
   block_contents : (b : ℕ) (s : Bool) → get_or splits b false ≡ s → b < length f → contents targets with_target flows_on (block_at g (number b)) ≡ contents targets with_target flows_on (block_at f b)
@@ -470,8 +474,8 @@ module _ {I : Type 0} (reads writes targets : I → List ℕ) (with_target : I �
   jump_contents : (v : ℕ) → contents targets with_target flows_on (jump_to v ∷ []) ≡ []
   jump_contents v =
       ap (λ no_jump. map (bare targets with_target) (cond no_jump (jump_to v ∷ []) []))
-        (ap (λ flow. if flow then true else (if nat_lt 0 (length (targets (jump_to v))) then false else true)) (laws.jump_stops v)
-        ∙ ap (λ ts. if nat_lt 0 (length ts) then false else true) (laws.jump_targets v))
+      (ap (λ flow. if flow then true else (if nat_lt 0 (length (targets (jump_to v))) then false else true)) (laws.jump_stops v)
+      ∙ ap (λ ts. if nat_lt 0 (length ts) then false else true) (laws.jump_targets v))
 
   not_entry : (b c : ℕ) → c ≡ number b → 0 < c → 0 < b
   not_entry zero c is later = absurd (omega (arith, numbers_head 0 splits))
@@ -488,8 +492,8 @@ module _ {I : Type 0} (reads writes targets : I → List ℕ) (with_target : I �
   pub split_contents : KeepsBlocks targets with_target flows_on f g
   split_contents = record {
     entry =
-      ap (λ n. contents targets with_target flows_on (block_at g n)) (sym (numbers_head 0 splits))
-      ∙ block_contents 0 (get_or splits 0 false) refl (none_stop targets flows_on f ends);
+        ap (λ n. contents targets with_target flows_on (block_at g n)) (sym (numbers_head 0 splits))
+        ∙ block_contents 0 (get_or splits 0 false) refl (none_stop targets flows_on f ends);
     others = λ c later below. other_contents c later (kind_of c below);
   }
 
@@ -517,8 +521,8 @@ module _ {I : Type 0} (reads writes targets : I → List ℕ) (with_target : I �
       let at : length g - 1 ≡ number b = omega (arith, next, whole_next b whole below) in
       let last : last_of g ≡ Some (block_at g (number b)) = ap (slice_get g) at ∙ slice_get-get_or g (number b) [] (number_within b below) in
       subst (λ o. IsTrue (block_stops flows_on o)) (sym last)
-        (subst (λ o. IsTrue (insn_stops flows_on o)) (sym (ap last_of (whole_at b whole below) ∙ last_map ren (block_at f b)))
-          (last_stops b (last_of (block_at f b)) below (omega arith) refl))
+      (subst (λ o. IsTrue (insn_stops flows_on o)) (sym (ap last_of (whole_at b whole below) ∙ last_map ren (block_at f b)))
+      (last_stops b (last_of (block_at f b)) below (omega arith) refl))
 
   -- jumps back
   record InBlock (o : Option (List I)) (at : ℕ) (i : I) : Type 0 where
@@ -551,17 +555,18 @@ module _ {I : Type 0} (reads writes targets : I → List ℕ) (with_target : I �
 
   went_back : (b at : ℕ) (i : I) (t : ℕ) → b < length f → slice_get (block_at f b) at ≡ Some i → Contains (targets i) t → number t < number b + places (get_or splits b false) → WentBack (number t)
   went_back b at i t below has c early =
-      let there : t < length f = (target_goes targets flows_on f goes ends b at i below has t c).1 in
-      (t,
-       record {
-         block = b;
-         at = at;
-         insn = i;
-         stands = ap (λ o. insn_in o at) (slice_get-get_or f b [] below) ∙ has;
-         leads = c;
-         back = not_ahead t b below there early;
-       },
-       block_contents t (get_or splits t false) refl there)
+      let there : t < length f = (target_goes targets flows_on f goes ends b at i below has t c).1 in (
+        t,
+        record {
+          block = b;
+          at = at;
+          insn = i;
+          stands = ap (λ o. insn_in o at) (slice_get-get_or f b [] below) ∙ has;
+          leads = c;
+          back = not_ahead t b below there early;
+        },
+        block_contents t (get_or splits t false) refl there,
+      )
 
   whole_back : (b at to : ℕ) (j : I) → get_or splits b false ≡ false → b < length f → slice_get (map ren (block_at f b)) at ≡ Some j → Contains (targets j) to → to ≤ number b → WentBack to
   whole_back b at to j is below has leads back =
@@ -575,7 +580,7 @@ module _ {I : Type 0} (reads writes targets : I → List ℕ) (with_target : I �
       let number_t : number t ≡ to =
       sym (get_or_map (λ (block : ℕ). slice_index_or numbers block 0) (targets i) k 0 to inside) ∙ ap (λ ts. get_or ts k to) (sym targets_are) ∙ leads.2 in
       subst WentBack number_t
-        (went_back b at i t below before.is (k, inside, get_or_default (targets i) k t 0 inside) (omega (arith, number_t, back, places_some (get_or splits b false))))
+      (went_back b at i t below before.is (k, inside, get_or_default (targets i) k t 0 inside) (omega (arith, number_t, back, places_some (get_or splits b false))))
 
   one_ahead : (b at to : ℕ) (j : I) → slice_get (map (one_to (number b + 2)) (block_at f b)) at ≡ Some j → Contains (targets j) to → to ≡ number b + 2
   one_ahead b at to j has leads =
@@ -604,9 +609,9 @@ module _ {I : Type 0} (reads writes targets : I → List ℕ) (with_target : I �
       let branch = branches b is in
       let to_is : to ≡ number branch.target = jump_leads (number branch.target) at to j (ap (λ xs. slice_get xs at) (sym stands) ∙ has) leads in
       subst WentBack (sym to_is)
-        (went_back b (length (block_at f b) - 1) branch.insn branch.target below branch.last
-          (subst (λ ts. Contains ts branch.target) (sym branch.one) (0, omega arith, refl))
-          (omega (arith, to_is, back, place, ap places is)))
+      (went_back b (length (block_at f b) - 1) branch.insn branch.target below branch.last
+      (subst (λ ts. Contains ts branch.target) (sym branch.one) (0, omega arith, refl))
+      (omega (arith, to_is, back, place, ap places is)))
 
   pub split_back : KeepsBack targets with_target flows_on f g
   split_back to back =
@@ -678,15 +683,15 @@ module _ {I : Type 0} (reads writes targets : I → List ℕ) (with_target : I �
       let is : get_or splits n false ≡ false = ap (λ m. get_or splits m false) (sym here) ∙ sym (split_at 0) in
       let x_is : x ≡ block_at f n = at 0 ∙ ap (block_at f) here in
       IsWhole (successors_of targets flows_on n x) (successors_of targets flows_on first (map ren x))
-        (ap (λ y. successors_of targets flows_on first (map ren y)) x_is
-         ∙ ap (λ m. successors_of targets flows_on m (map ren (block_at f n))) first_is
-         ∙ whole_followers n is below
-         ∙ ap (λ y. map number (successors_of targets flows_on n y)) (sym x_is))
-        (subst (λ y. All (λ t. t < length f) (successors_of targets flows_on n y)) (sym x_is) (followers_within n below))
-        (spreads_from (suc n) (suc first) ss xs (omega arith) (omega arith)
-          (λ j. split_at (suc j) ∙ ap (λ m. get_or splits m false) (let moved : n + suc j ≡ suc n + j = omega arith in moved))
-          (λ j. at (suc j) ∙ ap (block_at f) (let moved : n + suc j ≡ suc n + j = omega arith in moved))
-          (ap suc first_is ∙ whole_next n is below))
+      (ap (λ y. successors_of targets flows_on first (map ren y)) x_is
+      ∙ ap (λ m. successors_of targets flows_on m (map ren (block_at f n))) first_is
+      ∙ whole_followers n is below
+      ∙ ap (λ y. map number (successors_of targets flows_on n y)) (sym x_is))
+      (subst (λ y. All (λ t. t < length f) (successors_of targets flows_on n y)) (sym x_is) (followers_within n below))
+      (spreads_from (suc n) (suc first) ss xs (omega arith) (omega arith)
+      (λ j. split_at (suc j) ∙ ap (λ m. get_or splits m false) (let moved : n + suc j ≡ suc n + j = omega arith in moved))
+      (λ j. at (suc j) ∙ ap (block_at f) (let moved : n + suc j ≡ suc n + j = omega arith in moved))
+      (ap suc first_is ∙ whole_next n is below))
   spreads_from n first (true ∷ ss) (x ∷ xs) same long split_at at first_is =
       let here : n + 0 ≡ n = omega arith in
       let below : n < length f = omega arith in
@@ -697,21 +702,21 @@ module _ {I : Type 0} (reads writes targets : I → List ℕ) (with_target : I �
       let target : ℕ = target_after targets (last_of x) in
       let target_is : target ≡ branch.target = ap (λ y. target_after targets (last_of y)) x_is ∙ ap (target_after targets) branch.last ∙ ap (λ ts. slice_index_or ts 0 0) branch.one in
       IsCut (successors_of targets flows_on n x) (successors_of targets flows_on first (map (one_to (number n + 2)) x)) (successors_of targets flows_on (suc first) (jump_to (number (n + 1)) ∷ [])) (successors_of targets flows_on (suc (suc first)) (jump_to (number target) ∷ [])) branch.target (suc n)
-        (ap (successors_of targets flows_on n) x_is ∙ branch_before n is)
-        (ap (λ y. successors_of targets flows_on first (map (one_to (number n + 2)) y)) x_is
-         ∙ ap (λ m. successors_of targets flows_on m (map (one_to (number n + 2)) (block_at f n))) first_is
-         ∙ branch_followers n is)
-        (jump_followers (suc first) (number (n + 1)) ∙ ap (λ m. number m ∷ []) one)
-        (jump_followers (suc (suc first)) (number target) ∙ ap (λ m. number m ∷ []) target_is)
-        below (branch_target n is below).1 (omega (arith, branch_next n is below)) (omega (arith, gap n is below))
-        (spreads_from (suc n) (suc (suc (suc first))) ss xs (omega arith) (omega arith)
-          (λ j. split_at (suc j) ∙ ap (λ m. get_or splits m false) (let moved : n + suc j ≡ suc n + j = omega arith in moved))
-          (λ j. at (suc j) ∙ ap (block_at f) (let moved : n + suc j ≡ suc n + j = omega arith in moved))
-          (omega (arith, first_is, gap n is below)))
+      (ap (successors_of targets flows_on n) x_is ∙ branch_before n is)
+      (ap (λ y. successors_of targets flows_on first (map (one_to (number n + 2)) y)) x_is
+      ∙ ap (λ m. successors_of targets flows_on m (map (one_to (number n + 2)) (block_at f n))) first_is
+      ∙ branch_followers n is)
+      (jump_followers (suc first) (number (n + 1)) ∙ ap (λ m. number m ∷ []) one)
+      (jump_followers (suc (suc first)) (number target) ∙ ap (λ m. number m ∷ []) target_is)
+      below (branch_target n is below).1 (omega (arith, branch_next n is below)) (omega (arith, gap n is below))
+      (spreads_from (suc n) (suc (suc (suc first))) ss xs (omega arith) (omega arith)
+      (λ j. split_at (suc j) ∙ ap (λ m. get_or splits m false) (let moved : n + suc j ≡ suc n + j = omega arith in moved))
+      (λ j. at (suc j) ∙ ap (block_at f) (let moved : n + suc j ≡ suc n + j = omega arith in moved))
+      (omega (arith, first_is, gap n is below)))
 
   pub spreads : Spreads number (length f) 0 (successors_from targets flows_on 0 f) (successors_from targets flows_on 0 g)
   spreads =
       spreads_from 0 0 splits f count (omega arith)
-        (λ j. ap (λ m. get_or splits m false) (let same : j ≡ 0 + j = omega arith in same))
-        (λ j. ap (block_at f) (let same : j ≡ 0 + j = omega arith in same))
-        (sym (numbers_head 0 splits))
+      (λ j. ap (λ m. get_or splits m false) (let same : j ≡ 0 + j = omega arith in same))
+      (λ j. ap (block_at f) (let same : j ≡ 0 + j = omega arith in same))
+      (sym (numbers_head 0 splits))

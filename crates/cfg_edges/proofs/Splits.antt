@@ -1,5 +1,5 @@
 -- The numbers of blocks of which some are split, and what stands there.
-use Rattle.std.proofs.Common.{◌≡◌, ℕ, zero, suc, ◌+◌, ◌-◌, ◌<◌, ◌≤◌, Bool, true, false, List, [], ◌∷◌, ◌++◌, map, length, get_or, refl, sym, ap, subst, ◌∙◌, inl, inr, arith, length-append, add-zero}
+use Rattle.std.proofs.Common.{◌≡◌, ℕ, zero, suc, ◌+◌, ◌-◌, ◌<◌, ◌≤◌, Bool, true, false, List, [], ◌∷◌, ◌++◌, length, get_or, refl, sym, ap, subst, ◌∙◌, inl, inr, arith, length-append, add-zero}
 use Rattle.std.proofs.lemmas.Bool.{cases_lt}
 use Rattle.std.proofs.Common.{drop, append_assoc, append-nil, ◌*◌, ◌^◌}
 use Rattle.std.specs.Prelude.{All}
@@ -45,7 +45,7 @@ numbers_rise splits b (suc t) later within = elim (cases_lt b t) [
   | inr last ↦
       let same : t ≡ b = omega arith in
       subst (λ x. get_or (numbers_from 0 splits) b 0 + places (get_or splits b false) ≤ get_or (numbers_from 0 splits) (suc x) 0) (sym same)
-        (omega (arith, numbers_next 0 splits b (omega arith)))
+      (omega (arith, numbers_next 0 splits b (omega arith)))
 ]
 
 -- a number is that of a block, or of one of those that come behind it
@@ -80,11 +80,13 @@ module _ {I : Type 0} (targets : I → List ℕ) (with_target : I → ℕ → �
   split_length n [] blocks same = refl
   split_length n (s ∷ splits) [] same = absurd (omega arith)
   split_length n (s ∷ splits) (x ∷ blocks) same =
-      omega (arith,
+      omega (
+        arith,
         length-append (pieces targets with_target jump_to numbers n s x) (split_from targets with_target jump_to numbers (suc n) splits blocks),
         pieces_length n s x,
         split_length (suc n) splits blocks (omega arith),
-        numbers_behind s splits (length splits) (omega arith))
+        numbers_behind s splits (length splits) (omega arith),
+      )
 
   -- what stands at a number
   pub split_get : (n : ℕ) (splits : List Bool) (blocks : List (List I)) (b at : ℕ) → length splits ≡ length blocks → b < length splits → at < places (get_or splits b false) → get_or (split_from targets with_target jump_to numbers n splits blocks) (get_or (numbers_from 0 splits) b 0 + at) [] ≡ get_or (pieces targets with_target jump_to numbers (n + b) (get_or splits b false) (get_or blocks b [])) at []
@@ -98,8 +100,8 @@ module _ {I : Type 0} (targets : I → List ℕ) (with_target : I → ℕ → �
       let here = pieces targets with_target jump_to numbers n s x in
       let rest = split_from targets with_target jump_to numbers (suc n) splits blocks in
       ap (λ k. get_or (here ++ rest) k [])
-        (let place : get_or (numbers_from 0 (s ∷ splits)) (suc b) 0 + at ≡ length here + (get_or (numbers_from 0 splits) b 0 + at) =
-        omega (arith, numbers_behind s splits b (omega arith), pieces_length n s x) in place)
+      (let place : get_or (numbers_from 0 (s ∷ splits)) (suc b) 0 + at ≡ length here + (get_or (numbers_from 0 splits) b 0 + at) =
+      omega (arith, numbers_behind s splits b (omega arith), pieces_length n s x) in place)
       ∙ get_or-append-add here rest (get_or (numbers_from 0 splits) b 0 + at) []
       ∙ split_get (suc n) splits blocks b at (omega arith) (omega arith) inside
       ∙ ap (λ m. get_or (pieces targets with_target jump_to numbers m (get_or splits b false) (get_or blocks b [])) at []) (let moved : suc n + b ≡ n + suc b = omega arith in moved)
@@ -123,11 +125,11 @@ numbered_more splits numbers new next place after at so below new_is place_is af
     let behind : after ≡ next + places s = after_is ∙ ap (λ p. next + p) place_is in
     record {
       split =
-        so.split
-        ∙ ap (λ ss. numbers ++ numbers_from next ss) (drop_marks splits at s below refl)
-        ∙ sym (append_assoc numbers (next ∷ []) rest)
-        ∙ ap (λ ns. ns ++ rest) (sym new_is)
-        ∙ ap (λ n. new ++ numbers_from n (drop (at + 1) splits)) (sym behind);
+          so.split
+          ∙ ap (λ ss. numbers ++ numbers_from next ss) (drop_marks splits at s below refl)
+          ∙ sym (append_assoc numbers (next ∷ []) rest)
+          ∙ ap (λ ns. ns ++ rest) (sym new_is)
+          ∙ ap (λ n. new ++ numbers_from n (drop (at + 1) splits)) (sym behind);
       bound = omega (arith, so.bound, behind, places_most s);
     }
 
@@ -174,12 +176,12 @@ module _ {I : Type 0} (targets : I → List ℕ) (with_target : I → ℕ → �
       let behind : List (List I) = split_from targets with_target jump_to numbers (suc at) (drop (at + 1) splits) rest in
       record {
         split =
-          ap (λ m. new ++ split_from targets with_target jump_to numbers m (drop (at + 1) splits) rest) (let one : at + 1 ≡ suc at = omega arith in one)
-          ∙ ap (λ ps. ps ++ behind) new_is
-          ∙ append_assoc put here behind
-          ∙ ap (λ ss. put ++ split_from targets with_target jump_to numbers at ss (x ∷ rest)) (sym (drop_marks splits at s below refl))
-          ∙ ap (λ xs. put ++ split_from targets with_target jump_to numbers at (drop at splits) xs) (sym left_is)
-          ∙ so.split;
+            ap (λ m. new ++ split_from targets with_target jump_to numbers m (drop (at + 1) splits) rest) (let one : at + 1 ≡ suc at = omega arith in one)
+            ∙ ap (λ ps. ps ++ behind) new_is
+            ∙ append_assoc put here behind
+            ∙ ap (λ ss. put ++ split_from targets with_target jump_to numbers at ss (x ∷ rest)) (sym (drop_marks splits at s below refl))
+            ∙ ap (λ xs. put ++ split_from targets with_target jump_to numbers at (drop at splits) xs) (sym left_is)
+            ∙ so.split;
         place = drop_one all rest x at (sym left_is ∙ so.place);
         bound = omega (arith, so.bound, ap length left_is);
       }

@@ -1,5 +1,5 @@
 -- How many edges lead to each block after some blocks were split, by the edges before.
-use Rattle.std.proofs.Common.{◌≡◌, ℕ, zero, suc, ◌+◌, ◌<◌, ◌≤◌, ◌⊎◌, Bool, cond, List, [], ◌∷◌, map, refl, sym, ap, ◌∙◌, inl, inr, arith}
+use Rattle.std.proofs.Common.{◌≡◌, ℕ, suc, ◌+◌, ◌<◌, ◌≤◌, ◌⊎◌, Bool, cond, List, [], ◌∷◌, map, refl, sym, ap, ◌∙◌, inl, inr, arith}
 use Rattle.std.specs.Prelude.{All}
 use Rattle.std.proofs.lemmas.Bool.{cases_lt, eq-eqb}
 use Rattle.std.proofs.lemmas.Bool.Decides.{eqb_tells}
@@ -26,9 +26,9 @@ pair_most : (d a b : ℕ) → (a ≡ b → ⊥) → hits d (a ∷ b ∷ []) ≤ 
 pair_most d a b apart = elim (eqb_tells a d) [
   | inl same ↦ omega (arith, hits_same d a (b ∷ []) same.1, hits_other d b [] (λ is. apart (same.1 ∙ sym is)))
   | inr other ↦ elim (eqb_tells b d) [
-      | inl same ↦ omega (arith, hits_other d a (b ∷ []) other.1, hits_same d b [] same.1)
-      | inr none ↦ omega (arith, hits_other d a (b ∷ []) other.1, hits_other d b [] none.1)
-    ]
+    | inl same ↦ omega (arith, hits_other d a (b ∷ []) other.1, hits_same d b [] same.1)
+    | inr none ↦ omega (arith, hits_other d a (b ∷ []) other.1, hits_other d b [] none.1)
+  ]
 ]
 
 pair_none : (d a b : ℕ) → (a ≡ d → ⊥) → (b ≡ d → ⊥) → hits d (a ∷ b ∷ []) ≡ 0
@@ -55,9 +55,9 @@ module _ (number : ℕ → ℕ) (limit : ℕ) (rises : (b t : ℕ) → b < t →
   same_block x t below there is = elim (cases_lt x t) [
     | inl before ↦ absurd (omega (arith, is, rises x t before (omega arith)))
     | inr rest ↦ elim (cases_lt t x) [
-        | inl behind ↦ absurd (omega (arith, is, rises t x behind (omega arith)))
-        | inr done ↦ omega arith
-      ]
+      | inl behind ↦ absurd (omega (arith, is, rises t x behind (omega arith)))
+      | inr done ↦ omega arith
+    ]
   ]
 
   -- edges to a block that was there
@@ -93,10 +93,22 @@ module _ (number : ℕ → ℕ) (limit : ℕ) (rises : (b t : ℕ) → b < t →
       let apart = not_between n t here there gap in
       let none : hits (number t) ((number n + 2) ∷ suc (number n) ∷ []) ≡ 0 =
       pair_none (number t) (number n + 2) (suc (number n)) (λ is. far n t 2 apart (omega arith) (omega arith) is) (λ is. far n t 1 apart (omega arith) (omega arith) (omega (arith, is))) in
-      omega (arith,
-        ap (hits t) nexts_is, ap (hits (number t)) new_is, ap (hits (number t)) fall_is, ap (hits (number t)) jump_is,
-        none, hits_two t target next, single_kept t target there target_there, single_kept t next there next_there, kept_most t rest there,
-        total_more t nexts before, total_more (number t) new (fall ∷ jump ∷ after), total_more (number t) fall (jump ∷ after), total_more (number t) jump after)
+      omega (
+        arith,
+        ap (hits t) nexts_is,
+        ap (hits (number t)) new_is,
+        ap (hits (number t)) fall_is,
+        ap (hits (number t)) jump_is,
+        none,
+        hits_two t target next,
+        single_kept t target there target_there,
+        single_kept t next there next_there,
+        kept_most t rest there,
+        total_more t nexts before,
+        total_more (number t) new (fall ∷ jump ∷ after),
+        total_more (number t) fall (jump ∷ after),
+        total_more (number t) jump after,
+      )
 
   -- the number d of a new block behind block b
   module _ (b d : ℕ) (inside : b < limit) (low : number b < d) (high : d < number (suc b)) where
@@ -121,11 +133,19 @@ module _ (number : ℕ → ℕ) (limit : ℕ) (rises : (b t : ℕ) → b < t →
         omega (arith, ap (hits d) is, hits_none nexts all, new_past rest (omega arith), total_more d new after)
     new_past (IsCut {n = n} {after = after} nexts new fall jump target next nexts_is new_is fall_is jump_is here target_there next_there gap rest) past =
         let behind : number (suc b) ≤ number n = not_less (suc b) n (omega arith) (omega arith) in
-        omega (arith,
-          ap (hits d) new_is, ap (hits d) fall_is, ap (hits d) jump_is,
+        omega (
+          arith,
+          ap (hits d) new_is,
+          ap (hits d) fall_is,
+          ap (hits d) jump_is,
           pair_none d (number n + 2) (suc (number n)) (λ is. omega arith) (λ is. omega arith),
-          single_none target target_there, single_none next next_there, new_past rest (omega arith),
-          total_more d new (fall ∷ jump ∷ after), total_more d fall (jump ∷ after), total_more d jump after)
+          single_none target target_there,
+          single_none next next_there,
+          new_past rest (omega arith),
+          total_more d new (fall ∷ jump ∷ after),
+          total_more d fall (jump ∷ after),
+          total_more d jump after,
+        )
 
     -- one edge at most leads there
     pub new_once : {n : ℕ} {before after : List (List ℕ)} → Spreads number limit n before after → n ≤ b → total d after ≤ 1
@@ -137,15 +157,31 @@ module _ (number : ℕ → ℕ) (limit : ℕ) (rises : (b t : ℕ) → b < t →
     new_once (IsCut {n = n} {after = after} nexts new fall jump target next nexts_is new_is fall_is jump_is here target_there next_there gap rest) reached = elim (cases_lt n b) [
       | inl more ↦
           let before_it : number (suc n) ≤ number b = not_less (suc n) b (omega arith) (omega arith) in
-          omega (arith,
-            ap (hits d) new_is, ap (hits d) fall_is, ap (hits d) jump_is,
+          omega (
+            arith,
+            ap (hits d) new_is,
+            ap (hits d) fall_is,
+            ap (hits d) jump_is,
             pair_none d (number n + 2) (suc (number n)) (λ is. omega arith) (λ is. omega arith),
-            single_none target target_there, single_none next next_there, new_once rest (omega arith),
-            total_more d new (fall ∷ jump ∷ after), total_more d fall (jump ∷ after), total_more d jump after)
+            single_none target target_there,
+            single_none next next_there,
+            new_once rest (omega arith),
+            total_more d new (fall ∷ jump ∷ after),
+            total_more d fall (jump ∷ after),
+            total_more d jump after,
+          )
       | inr last ↦
-          omega (arith,
-            ap (hits d) new_is, ap (hits d) fall_is, ap (hits d) jump_is,
+          omega (
+            arith,
+            ap (hits d) new_is,
+            ap (hits d) fall_is,
+            ap (hits d) jump_is,
             pair_most d (number n + 2) (suc (number n)) (λ is. omega arith),
-            single_none target target_there, single_none next next_there, new_past rest (omega arith),
-            total_more d new (fall ∷ jump ∷ after), total_more d fall (jump ∷ after), total_more d jump after)
+            single_none target target_there,
+            single_none next next_there,
+            new_past rest (omega arith),
+            total_more d new (fall ∷ jump ∷ after),
+            total_more d fall (jump ∷ after),
+            total_more d jump after,
+          )
     ]

@@ -4,8 +4,8 @@ ghost use Rattle.std.specs.Prelude.{◌≡◌, ◌<◌, ◌^◌, length, map, If
 ghost use Rattle.std.specs.List.{list_any};
 ghost use Rattle.cfg_edges.specs.model.Split.{is_join, is_split, places, numbers_from};
 
-use cfg::Graph;
 use c_tree::Seq;
+use cfg::Graph;
 use std::alloc::{AllocError, Global};
 
 /// Whether a block has two predecessors or more.

@@ -4,8 +4,8 @@ ghost use Rattle.std.specs.Prelude.{◌≡◌, ◌<◌, ◌+◌, ◌^◌, ◌++�
 ghost use Rattle.suifvm_ir.specs.Functions.{AllInsns, EndsLate, last_of};
 ghost use Rattle.cfg_edges.specs.model.Split.{to_one, target_of, target_after, pieces, split_from};
 
-use cfg::renumber_block;
 use c_tree::Seq;
+use cfg::renumber_block;
 use pass_core::Insn;
 use std::alloc::{AllocError, Global};
 use suifvm_ir::block::Block;
@@ -62,7 +62,8 @@ fn put_split<I: Insn>(
     requires there { number + 1 < length numbers.now }
     requires within { All (λ i. All (λ target. target < length numbers.now) (I.targets i)) block }
     requires small { All (λ n. n + 2 < 2 ^ 32) numbers.now }
-    ensures { OnOk result (put.new ≡ put.old ++ pieces I.targets I.with_target I.jump_to numbers.now number true block) }
+    ensures { OnOk result (put.new ≡
+        put.old ++ pieces I.targets I.with_target I.jump_to numbers.now number true block) }
 {
     let mut block = block;
     let target = redirect(alloc, &mut block, numbers[number] + 2);
@@ -85,7 +86,8 @@ fn put_block<I: Insn>(
     requires there { number + 1 < length numbers.now }
     requires within { All (λ i. All (λ target. target < length numbers.now) (I.targets i)) block }
     requires small { All (λ n. n + 2 < 2 ^ 32) numbers.now }
-    ensures { OnOk result (put.new ≡ put.old ++ pieces I.targets I.with_target I.jump_to numbers.now number split block) }
+    ensures { OnOk result (put.new ≡
+        put.old ++ pieces I.targets I.with_target I.jump_to numbers.now number split block) }
 {
     if split {
         return put_split(alloc, put, block, numbers, number);

@@ -13,8 +13,8 @@ ghost use Rattle.cfg_edges.specs.model.SplitPart.{IsSplitPart};
 
 use crate::marks::{numbers_of, splits_of};
 use crate::pieces::put_all;
-use cfg::{Graph, build};
 use c_tree::Seq;
+use cfg::{Graph, build};
 use pass_core::Insn;
 use std::alloc::{AllocError, Global};
 use suifvm_ir::block::Block;
@@ -33,7 +33,8 @@ fn split_part<I: Insn>(
     requires few { length blocks < 2 ^ 30 }
     requires succ { graph.now.succ ≡ successors_from I.targets I.flows_on 0 blocks }
     requires pred { graph.now.pred ≡ predecessors graph.now.succ (length blocks) }
-    ensures { IfOk result (λ part. IsSplitPart I.reads I.writes I.targets I.with_target I.jump_to I.flows_on blocks part) }
+    ensures { IfOk result (λ part.
+        IsSplitPart I.reads I.writes I.targets I.with_target I.jump_to I.flows_on blocks part) }
 {
     let splits = splits_of(alloc, graph)?;
     let numbers = numbers_of(alloc, splits.as_slice())?;
@@ -41,16 +42,17 @@ fn split_part<I: Insn>(
     Ok(part)
 }
 
-/// The function in which each edge that leads from a block with two successors to one with two predecessors leads by way
-/// of a block of its own: behind such a block come one that jumps to the block that followed it, and one that jumps to
-/// its target.
+/// The function in which each edge that leads from a block with two successors to one with two predecessors leads by
+/// way of a block of its own: behind such a block come one that jumps to the block that followed it, and one that
+/// jumps to its target.
 pub fn split_edges<I: Insn>(alloc: Global, f: Func<I>) -> Result<Func<I>, AllocError>
     requires { 5 * length f.blocks + count_of f.blocks < 2 ^ 30 }
     ensures split { IfOk result (λ g. NoneCritical I.targets I.flows_on g.blocks) }
     ensures walks { IfOk result (λ g. SameWalks I.targets I.with_target I.flows_on f.blocks g.blocks) }
     ensures contents { IfOk result (λ g. KeepsBlocks I.targets I.with_target I.flows_on f.blocks g.blocks) }
     ensures back { IfOk result (λ g. KeepsBack I.targets I.with_target I.flows_on f.blocks g.blocks) }
-    ensures reached { IfOk result (λ g. AllReached I.targets I.flows_on f.blocks → AllReached I.targets I.flows_on g.blocks) }
+    ensures reached { IfOk result (λ g.
+        AllReached I.targets I.flows_on f.blocks → AllReached I.targets I.flows_on g.blocks) }
     ensures added { IfOk result (λ g. AddsJumps I.targets I.with_target I.jump_to f.blocks g.blocks) }
     ensures blocks { IfOk result (λ g.
         length g.blocks ≤ length f.blocks + 2 * critical_count I.targets I.flows_on f.blocks) }

@@ -5,8 +5,8 @@ ghost use Rattle.pass_core.specs.Insns.{InsnLaws};
 
 use std::alloc::Global;
 
-/// An instruction: it reads and writes registers by number, may go to a block by number, and may trap. It has at most one
-/// target.
+/// An instruction: it reads and writes registers by number, may go to a block by number, and may trap. It has at most
+/// one target.
 pub trait Insn: Drop {
     ghost reads: { Self → List ℕ };
 

@@ -1,4 +1,3 @@
-use Rattle.std.proofs.Common.{◌≡◌}
 use Rattle.cfg_edges.proofs.Splits.{put_more}
 use Rattle.cfg_edges.proofs.pieces.put_all.Goals as goal
 

@@ -1,4 +1,4 @@
-use Rattle.std.proofs.Common.{◌≡◌, [], ◌∙◌, ap, sym}
+use Rattle.std.proofs.Common.{[], ◌∙◌, ap, sym}
 use Rattle.suifvm_ir.specs.Functions.{last_of}
 use Rattle.cfg.proofs.Lists.{last_has_id, last_item}
 use Rattle.cfg.proofs.Blocks.{id_stays, last_changed}
@@ -25,11 +25,11 @@ pub returns-in-Some-clause-target : goal.returns-in-Some-clause-target
 returns-in-Some-clause-target g c =
     c.set_only_target-old.ensures.target
     ∙ sym (ap (λ xs. target_after g.I.Insn.targets (last_of xs)) (sym c.block.view_is)
-           ∙ ap (target_after g.I.Insn.targets) (last_item c.block.inside.insns.pairs c.in-Some.id c.set-insn.result (sym c.in-Some.is ∙ c.last.ensures) c.set-insn.ensures.value))
+    ∙ ap (target_after g.I.Insn.targets) (last_item c.block.inside.insns.pairs c.in-Some.id c.set-insn.result (sym c.in-Some.is ∙ c.last.ensures) c.set-insn.ensures.value))
 
 pub returns-in-Some-clause-block : goal.returns-in-Some-clause-block
 returns-in-Some-clause-block g c =
     last_changed g.I.Insn.targets g.I.Insn.flows_on (to_one g.I.Insn.targets g.I.Insn.with_target c.args.to)
-      (none_stays g.I.Insn.targets g.I.Insn.with_target c.args.to)
-      c.args.block.now c.block.inside.insns.pairs _ _ c.in-Some.id _ c.set-insn.result _ c.block.view_is (sym c.in-Some.is ∙ c.last.ensures) c.set-insn.ensures.value c.set-insn.ensures.pairs c.set-jump.ensures.pairs
-      c.set_only_target-old.ensures.insn c.requires
+    (none_stays g.I.Insn.targets g.I.Insn.with_target c.args.to)
+    c.args.block.now c.block.inside.insns.pairs _ _ c.in-Some.id _ c.set-insn.result _ c.block.view_is (sym c.in-Some.is ∙ c.last.ensures) c.set-insn.ensures.value c.set-insn.ensures.pairs c.set-jump.ensures.pairs
+    c.set_only_target-old.ensures.insn c.requires
