@@ -32,6 +32,31 @@ impl Write for Full {
     }
 }
 
+/// A writer that can be called once, and flushed once.
+#[derive(Drop)]
+struct Once {
+    is_written: bool,
+    is_flushed: bool,
+}
+
+impl Write for Once {
+    fn write(&mut self, buf: &[u8]) -> io::Result<usize> {
+        if self.is_written {
+            return Err(io::Error::from(ErrorKind::Other));
+        }
+        self.is_written = true;
+        Ok(buf.len())
+    }
+
+    fn flush(&mut self) -> io::Result<()> {
+        if self.is_flushed {
+            return Err(io::Error::from(ErrorKind::Other));
+        }
+        self.is_flushed = true;
+        Ok(())
+    }
+}
+
 #[test]
 fn a_read_error_is_no_end(rt: HostRuntime) -> Result<(), Fail> {
     let mut source = HostSource::new(rt.alloc(), Broken)?;
@@ -45,6 +70,18 @@ fn a_write_of_nothing_fails(rt: HostRuntime) -> Result<(), Fail> {
     let mut sink = HostSink::new(rt.alloc(), Full)?;
     assert_eq!(rt; sink.put(1), Err(Failed));
     assert_eq!(rt; sink.put_slice(b"ab"), Err(Failed));
+    Ok(())
+}
+
+#[test]
+fn a_slice_takes_one_write_and_one_flush(rt: HostRuntime) -> Result<(), Fail> {
+    let once = Once {
+        is_written: false,
+        is_flushed: false,
+    };
+    let mut sink = HostSink::new(rt.alloc(), once)?;
+    assert_eq!(rt; sink.put_slice(b"abc"), Ok(()));
+    assert_eq!(rt; sink.put(1), Err(Failed), "the writer was called");
     Ok(())
 }
 

@@ -1,10 +1,11 @@
 //! A cursor over tokens.
 
-ghost use Rattle.std.specs.Prelude.{◌≡◌, IfOk, length, take, drop, Ok};
+ghost use Rattle.std.specs.Prelude.{◌≡◌, IfOk, IfErr, length, take, drop, Ok};
 ghost use Rattle.c_lexer.specs.Pieces.{lexemes};
 ghost use Rattle.c_grammar.specs.Tokens as tokens;
 ghost use Rattle.c_grammar.specs.Parser as model;
 ghost use Rattle.c_expression_parser.specs.Answers.{Answers, place_or};
+ghost use Rattle.c_expression_parser.specs.declared.cursor.Fault.TheVariants.{Refused};
 
 use c_lexer::{Keyword, Punct, Token, TokenKind};
 use c_tree::Name;
@@ -216,10 +217,15 @@ impl<'a> Tokens<'a> {
         }
     }
 
-    /// Reads this punctuator.
+    /// Reads this punctuator. No memory is taken.
+    ///
+    /// # Errors
+    ///
+    /// [`Fault::Refused`] where another token stands here.
     #[tactic(auto, unfolding(c_grammar::specs::Parser::expect))]
     pub fn expect(&mut self, mark: Punct) -> Result<(), Fault>
-        ensures { Answers (model.expect mark self.old) result self.new }
+        ensures reads { Answers (model.expect mark self.old) result self.new }
+        ensures fault { IfErr result (λ e. e ≡ Refused) }
     {
         if self.sees(mark) {
             self.take();
@@ -229,18 +235,28 @@ impl<'a> Tokens<'a> {
         }
     }
 
-    /// Reads this punctuator, which ends what was found.
+    /// Reads this punctuator, which ends what was found. No memory is taken.
+    ///
+    /// # Errors
+    ///
+    /// [`Fault::Refused`] where another token stands here.
     pub fn close<T: Drop>(&mut self, mark: Punct, found: T) -> Result<T, Fault>
-        ensures { Answers (model.and_then (model.expect mark self.old) (λ _. model.pure found)) result self.new }
+        ensures reads { Answers (model.and_then (model.expect mark self.old) (λ _. model.pure found)) result self.new }
+        ensures fault { IfErr result (λ e. e ≡ Refused) }
     {
         self.expect(mark)?;
         Ok(found)
     }
 
-    /// Reads this keyword.
+    /// Reads this keyword. No memory is taken.
+    ///
+    /// # Errors
+    ///
+    /// [`Fault::Refused`] where another token stands here.
     #[tactic(auto, unfolding(c_grammar::specs::Parser::expect_word))]
     pub fn expect_word(&mut self, word: Keyword) -> Result<(), Fault>
-        ensures { Answers (model.expect_word word self.old) result self.new }
+        ensures reads { Answers (model.expect_word word self.old) result self.new }
+        ensures fault { IfErr result (λ e. e ≡ Refused) }
     {
         if self.sees_word(word) {
             self.take();

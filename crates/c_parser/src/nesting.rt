@@ -5,7 +5,6 @@ ghost use Rattle.c_nesting.specs.HasNesting.{HasNesting, most_bytes};
 ghost use Rattle.c_parser.specs.Faults.{HasNoNesting};
 
 use crate::fault::ParseFault;
-use c_nesting::ScanFault;
 use std::alloc::Global;
 
 /// The nesting of a text of at most 4,194,304 bytes: the most constructs that stand in one another,
@@ -23,7 +22,6 @@ pub fn nest(alloc: Global, text: &[u8]) -> Result<u32, ParseFault>
 {
     match c_nesting::nest(alloc, text) {
         Ok(nesting) => Ok(nesting),
-        Err(ScanFault::Lex { at }) => Err(ParseFault::Lex { at }),
-        Err(ScanFault::NoMemory) => Err(ParseFault::NoMemory),
+        Err(fault) => Err(ParseFault::of_scan(fault)),
     }
 }

@@ -3,8 +3,8 @@
 ghost use Rattle.std.specs.Prelude.{◌≤◌, ◌<◌, ◌≡◌, length, IfOk, IfErr};
 ghost use Rattle.c_tree.specs.Nodes.{unit_nodes, unit_height};
 ghost use Rattle.c_nesting.specs.HasNesting.{IsTokens, toks_of, most_bytes};
-ghost use Rattle.c_parser.specs.declared.fault.ParseFault.TheVariants.{NoMemory};
-ghost use Rattle.c_parser.specs.Limits.{most_nodes, most_height};
+ghost use Rattle.c_parser.specs.declared.fault.ParseFault.TheVariants.{Nesting, NoMemory};
+ghost use Rattle.c_parser.specs.Limits.{most_nesting, most_nodes, most_height};
 ghost use Rattle.c_parser.specs.Reading.{IsRead, IsNotRead};
 ghost use Rattle.c_parser.specs.model.Gives.{Gives};
 
@@ -35,6 +35,22 @@ fn low_enough(unit: TranslationUnit) -> Result<TranslationUnit, ParseFault>
     }
 }
 
+/// Whether a nesting is taken.
+///
+/// # Errors
+///
+/// [`ParseFault::Nesting`] where it exceeds 256.
+fn nests_within(counted: u32) -> Result<(), ParseFault>
+    ensures taken { IfOk result (λ _. counted ≤ most_nesting) }
+    ensures fault { IfErr result (λ e. (e ≡ Nesting counted) × (most_nesting < counted)) }
+{
+    if counted > MOST_NESTING {
+        Err(ParseFault::Nesting { counted })
+    } else {
+        Ok(())
+    }
+}
+
 /// The unit that the tokens of the text spell.
 fn unit_of(alloc: Global, text: &[u8], tokens: &[Token]) -> Result<TranslationUnit, ParseFault>
     requires { length text.now ≤ most_bytes }
@@ -62,8 +78,10 @@ fn unit_within(alloc: Global, text: &[u8], tokens: &[Token]) -> Result<Translati
 {
     match nesting_of(alloc, tokens) {
         Err(_) => Err(ParseFault::NoMemory),
-        Ok(counted) if counted > MOST_NESTING => Err(ParseFault::Nesting { counted }),
-        Ok(_) => unit_of(alloc, text, tokens),
+        Ok(counted) => match nests_within(counted) {
+            Err(fault) => Err(fault),
+            Ok(()) => unit_of(alloc, text, tokens),
+        },
     }
 }
 

@@ -37,7 +37,10 @@ fn local(
     }
     let declaration = Box::new(alloc, declaration)?;
     tokens.take();
-    let init = Box::new(alloc, expr(alloc, scope, tokens, depth, levels::ASSIGNMENT)?)?;
+    let init = Box::new(
+        alloc,
+        expr(alloc, scope, tokens, depth, levels::ASSIGNMENT)?,
+    )?;
     Ok(Local {
         declaration: Box::into_inner(declaration),
         init: Some(init),
@@ -232,11 +235,7 @@ fn ends_section(tokens: &Tokens<'_>) -> bool
 }
 
 /// Puts declarations behind statements.
-fn push_locals(
-    alloc: Global,
-    found: &mut Seq<Stmt>,
-    locals: Seq<Local>,
-) -> Result<(), AllocError>
+fn push_locals(alloc: Global, found: &mut Seq<Stmt>, locals: Seq<Local>) -> Result<(), AllocError>
     ensures { OnOk result (found.new ≡ found.old ++ locals_of locals) }
 {
     for local in Seq::into_vec(locals) {
