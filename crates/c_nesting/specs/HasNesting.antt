@@ -7,10 +7,6 @@ use Rattle.c_nesting.specs.declared.fault.ScanFault.TheVariants.{Lex, NoMemory}
 use Rattle.c_nesting.specs.declared.nesting.Role.{Role}
 use Rattle.c_nesting.specs.Nesting.{role_of, nesting_of}
 
--- the most bytes of a text
-abbrev pub most_bytes : ℕ
-most_bytes = 4194304
-
 abbrev pub role_of_token : Token → Role
 role_of_token t = role_of t.kind
 

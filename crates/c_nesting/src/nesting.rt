@@ -2,7 +2,8 @@
 
 ghost use Rattle.std.specs.Prelude.{◌≡◌, ◌+◌, ◌^◌, ◌≤◌, ◌<◌, [], IfOk, IfErr, OnOk, length, map};
 ghost use Rattle.c_nesting.specs.Nesting.{role_of_mark, role_of_word, role_of, nesting};
-ghost use Rattle.c_nesting.specs.HasNesting.{HasNesting, IsNoTokens, role_of_token, most_bytes};
+ghost use Rattle.c_lexer.specs.Limits.{text_limit};
+ghost use Rattle.c_nesting.specs.HasNesting.{HasNesting, IsNoTokens, role_of_token};
 ghost use Rattle.c_nesting.specs.model.Walking as walking;
 
 use crate::fault::ScanFault;
@@ -203,7 +204,7 @@ impl Walk {
 
 /// The nesting of at most 4,194,304 tokens.
 pub fn nesting_of(alloc: Global, tokens: &[Token]) -> Result<u32, AllocError>
-    requires { length tokens.now ≤ most_bytes }
+    requires { length tokens.now ≤ text_limit }
     ensures { IfOk result (λ n. n ≡ nesting (map role_of_token tokens.now)) }
 {
     let mut walk = Walk::new(alloc);
@@ -222,7 +223,7 @@ pub fn nesting_of(alloc: Global, tokens: &[Token]) -> Result<u32, AllocError>
 /// [`ScanFault::Lex`] with the first offset at which no token begins (C99 6.4), where there is one,
 /// and [`ScanFault::NoMemory`].
 pub fn nest(alloc: Global, text: &[u8]) -> Result<u32, ScanFault>
-    requires { length text.now ≤ most_bytes }
+    requires { length text.now ≤ text_limit }
     ensures nesting { IfOk result (HasNesting text.now) }
     ensures fault { IfErr result (IsNoTokens text.now) }
 {

@@ -1,7 +1,8 @@
 //! All tokens of a text.
 
 ghost use Rattle.std.specs.Prelude.{◌≤◌, IfOk, IfErr, length, vec_len};
-ghost use Rattle.c_nesting.specs.HasNesting.{IsTokens, IsNoTokens, most_bytes};
+ghost use Rattle.c_lexer.specs.Limits.{text_limit};
+ghost use Rattle.c_nesting.specs.HasNesting.{IsTokens, IsNoTokens};
 
 use crate::fault::ScanFault;
 use c_lexer::{Lexer, Token, TokenKind};
@@ -13,7 +14,7 @@ use std::alloc::Global;
 ///
 /// [`ScanFault::Lex`] with the first offset at which no token begins, and [`ScanFault::NoMemory`].
 pub fn tokens(alloc: Global, text: &[u8]) -> Result<Vec<Token>, ScanFault>
-    requires { length text.now ≤ most_bytes }
+    requires { length text.now ≤ text_limit }
     ensures all { IfOk result (λ tokens. IsTokens text.now tokens.items) }
     ensures count { IfOk result (λ tokens. vec_len tokens ≤ length text.now) }
     ensures fault { IfErr result (IsNoTokens text.now) }

@@ -6,7 +6,8 @@ use Rattle.c_lexer.specs.Pieces.{Lexeme}
 use Rattle.c_tree.specs.declared.declarations.TranslationUnit.{TranslationUnit}
 use Rattle.c_tree.specs.Nodes.{unit_nodes}
 use Rattle.c_nesting.specs.Nesting.{nesting, nesting_of}
-use Rattle.c_nesting.specs.HasNesting.{IsTokens, HasNesting, toks_of, role_of_token, most_bytes}
+use Rattle.c_lexer.specs.Limits.{text_limit}
+use Rattle.c_nesting.specs.HasNesting.{IsTokens, HasNesting, toks_of, role_of_token}
 use Rattle.c_nesting.proofs.Reading.{roles-lexemes}
 use Rattle.c_grammar.specs.ParseUnits.{unit}
 use Rattle.c_grammar.proofs.ReadUnits.{complete}
@@ -51,7 +52,7 @@ not_read_of text ts (Err (Syntax at)) are within gives = record {
 }
 not_read_of text ts (Err NoMemory) are within gives = tt
 
-pub few_of : (text : List ℕ) (ts : List Token) (r : Result TranslationUnit ParseFault) → length ts ≤ length text → length text ≤ most_bytes → Gives (toks_of text ts) r → IfOk r (λ tree. unit_nodes tree ≤ most_nodes)
+pub few_of : (text : List ℕ) (ts : List Token) (r : Result TranslationUnit ParseFault) → length ts ≤ length text → length text ≤ text_limit → Gives (toks_of text ts) r → IfOk r (λ tree. unit_nodes tree ≤ most_nodes)
 few_of text ts (Ok tree) few short gives =
     let h : unit_nodes tree ≤ 2 * length (toks_of text ts).items = unit_few (toks_of text ts) tree (sound (toks_of text ts) tree gives) in
     omega (arith, length_lexemes text ts)

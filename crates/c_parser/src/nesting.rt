@@ -1,7 +1,8 @@
 //! The nesting of a text.
 
 ghost use Rattle.std.specs.Prelude.{◌≤◌, IfOk, IfErr, length};
-ghost use Rattle.c_nesting.specs.HasNesting.{HasNesting, most_bytes};
+ghost use Rattle.c_lexer.specs.Limits.{text_limit};
+ghost use Rattle.c_nesting.specs.HasNesting.{HasNesting};
 ghost use Rattle.c_parser.specs.Faults.{HasNoNesting};
 
 use crate::fault::ParseFault;
@@ -16,7 +17,7 @@ use std::alloc::Global;
 /// [`ParseFault::Lex`] with the first offset at which no token begins (C99 6.4), where there is one,
 /// and [`ParseFault::NoMemory`].
 pub fn nest(alloc: Global, text: &[u8]) -> Result<u32, ParseFault>
-    requires { length text.now ≤ most_bytes }
+    requires { length text.now ≤ text_limit }
     ensures nesting { IfOk result (HasNesting text.now) }
     ensures fault { IfErr result (HasNoNesting text.now) }
 {

@@ -2,7 +2,8 @@
 
 ghost use Rattle.std.specs.Prelude.{◌≤◌, ◌<◌, ◌≡◌, length, IfOk, IfErr};
 ghost use Rattle.c_tree.specs.Nodes.{unit_nodes, unit_height};
-ghost use Rattle.c_nesting.specs.HasNesting.{IsTokens, toks_of, most_bytes};
+ghost use Rattle.c_lexer.specs.Limits.{text_limit};
+ghost use Rattle.c_nesting.specs.HasNesting.{IsTokens, toks_of};
 ghost use Rattle.c_parser.specs.declared.fault.ParseFault.TheVariants.{Nesting, NoMemory};
 ghost use Rattle.c_parser.specs.Limits.{most_nesting, most_nodes, most_height};
 ghost use Rattle.c_parser.specs.Reading.{IsRead, IsNotRead};
@@ -53,7 +54,7 @@ fn nests_within(counted: u32) -> Result<(), ParseFault>
 
 /// The unit that the tokens of the text spell.
 fn unit_of(alloc: Global, text: &[u8], tokens: &[Token]) -> Result<TranslationUnit, ParseFault>
-    requires { length text.now ≤ most_bytes }
+    requires { length text.now ≤ text_limit }
     ensures gives { Gives (toks_of text.now tokens.now) result }
     ensures height { IfOk result (λ unit. unit_height unit ≤ most_height) }
 {
@@ -68,7 +69,7 @@ fn unit_of(alloc: Global, text: &[u8], tokens: &[Token]) -> Result<TranslationUn
 
 /// The unit that tokens spell, which are those of a text of at most 4,194,304 bytes.
 fn unit_within(alloc: Global, text: &[u8], tokens: &[Token]) -> Result<TranslationUnit, ParseFault>
-    requires length { length text.now ≤ most_bytes }
+    requires length { length text.now ≤ text_limit }
     requires all { IsTokens text.now tokens.now }
     requires count { length tokens.now ≤ length text.now }
     ensures read { IfOk result (IsRead text.now) }
@@ -97,7 +98,7 @@ fn unit_within(alloc: Global, text: &[u8], tokens: &[Token]) -> Result<Translati
 /// length where each front can go on; and [`ParseFault::NoMemory`], also where more than 1,024
 /// constructs are open inside the outermost one, or the tree would be higher.
 pub fn parse(alloc: Global, text: &[u8]) -> Result<TranslationUnit, ParseFault>
-    requires { length text.now ≤ most_bytes }
+    requires { length text.now ≤ text_limit }
     ensures read { IfOk result (IsRead text.now) }
     ensures fault { IfErr result (IsNotRead text.now) }
     ensures nodes { IfOk result (λ unit. unit_nodes unit ≤ most_nodes) }

@@ -8,11 +8,7 @@ default_stack = 8388608
 abbrev pub default_budget : ℕ
 default_budget = 1000000000
 
--- how many bytes a C text may have
-abbrev pub most_source : ℕ
-most_source = 4194304
-
--- how many bytes are read of a C file: one more than it may have
+-- how many bytes are read of a C file: one more than a text may have
 abbrev pub source_limit : ℕ
 source_limit = 4194305
 

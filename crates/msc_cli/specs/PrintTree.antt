@@ -1,5 +1,6 @@
 -- What `print` answers, and what it writes.
 use Rattle.std.specs.Prelude.{◌≡◌, ℕ, ◌<◌, ◌≤◌, ◌⊎◌, List, length, Option, IfSome}
+use Rattle.c_lexer.specs.Limits.{text_limit}
 use Rattle.c_lexer.specs.Pieces.{FaultAt}
 use Rattle.c_tree.specs.declared.declarations.TranslationUnit.{TranslationUnit}
 use Rattle.c_tree.specs.Nodes.{text_of as tree_text}
@@ -12,19 +13,19 @@ use Rattle.msc_cli.specs.declared.outcome.SourceFault.TheVariants.{Lex, Syntax}
 use Rattle.msc_cli.specs.declared.outcome.Which.TheVariants.{Text, Nesting}
 use Rattle.msc_cli.specs.FromFile.{Does}
 use Rattle.msc_cli.specs.BuildImage.{PutsBytes}
-use Rattle.msc_cli.specs.Limits.{most_source, source_limit}
+use Rattle.msc_cli.specs.Limits.{source_limit}
 
 -- the text is within the limit, and this is what it spells
 abbrev pub Spells : List ℕ → TranslationUnit → Type 0
-Spells text tree = (length text ≤ most_source) × IsRead text tree
+Spells text tree = (length text ≤ text_limit) × IsRead text tree
 
 -- why there is no tree
 abbrev pub SpellsNone : List ℕ → Outcome → Type 0
-SpellsNone text (Limit Text counted) = (most_source < length text) × (counted ≡ source_limit)
-SpellsNone text (Refused (Lex at)) = (length text ≤ most_source) × FaultAt text at
+SpellsNone text (Limit Text counted) = (text_limit < length text) × (counted ≡ source_limit)
+SpellsNone text (Refused (Lex at)) = (length text ≤ text_limit) × FaultAt text at
 SpellsNone text (Limit Nesting counted) =
-    (length text ≤ most_source) × HasNesting text counted × (most_nesting < counted)
-SpellsNone text (Refused (Syntax at)) = (length text ≤ most_source) × HasNoReading text at
+    (length text ≤ text_limit) × HasNesting text counted × (most_nesting < counted)
+SpellsNone text (Refused (Syntax at)) = (length text ≤ text_limit) × HasNoReading text at
 SpellsNone text _ = ⊥
 
 -- the same of a text that may be told

@@ -1,22 +1,22 @@
-use Rattle.std.proofs.Common.{◌≤◌, arith}
-use Rattle.c_parser.specs.Limits.{most_nesting}
+use Rattle.std.proofs.Common.{sym, subst}
+use Rattle.c_parser.specs.Reading.{IsNotRead}
 use Rattle.c_parser.proofs.Whole.{has_nesting, within_limit, read_of, not_read_of, few_of}
 use Rattle.c_parser.proofs.parsing.unit_within.Goals as goal
 
-pub returns-in-Ok-clause-fault : goal.returns-in-Ok-clause-fault
-returns-in-Ok-clause-fault c = (has_nesting c.args.text.now c.args.tokens.now c.in-Ok.counted c.requires.all c.in-Ok.ensures, omega arith)
+pub returns-in-Err-nests_within-clause-fault : goal.returns-in-Err-nests_within-clause-fault
+returns-in-Err-nests_within-clause-fault c =
+    let told = c.in-Err-nests_within.ensures.fault in
+    subst (IsNotRead c.args.text.now) (sym told.0) (has_nesting c.args.text.now c.args.tokens.now c.in-Ok.counted c.requires.all c.in-Ok.ensures, told.1)
 
-pub returns-in-Ok-2-clause-read : goal.returns-in-Ok-2-clause-read
-returns-in-Ok-2-clause-read c =
-    let low : c.in-Ok.counted ≤ most_nesting = omega arith in
-    let within = within_limit c.args.text.now c.args.tokens.now c.in-Ok.counted c.in-Ok.ensures low in
+pub returns-in-Ok-nests_within-clause-read : goal.returns-in-Ok-nests_within-clause-read
+returns-in-Ok-nests_within-clause-read c =
+    let within = within_limit c.args.text.now c.args.tokens.now c.in-Ok.counted c.in-Ok.ensures c.in-Ok-nests_within.ensures.taken in
     read_of c.args.text.now c.args.tokens.now c.unit_of.result c.requires.all within c.unit_of.ensures.gives
 
-pub returns-in-Ok-2-clause-fault : goal.returns-in-Ok-2-clause-fault
-returns-in-Ok-2-clause-fault c =
-    let low : c.in-Ok.counted ≤ most_nesting = omega arith in
-    let within = within_limit c.args.text.now c.args.tokens.now c.in-Ok.counted c.in-Ok.ensures low in
+pub returns-in-Ok-nests_within-clause-fault : goal.returns-in-Ok-nests_within-clause-fault
+returns-in-Ok-nests_within-clause-fault c =
+    let within = within_limit c.args.text.now c.args.tokens.now c.in-Ok.counted c.in-Ok.ensures c.in-Ok-nests_within.ensures.taken in
     not_read_of c.args.text.now c.args.tokens.now c.unit_of.result c.requires.all within c.unit_of.ensures.gives
 
-pub returns-in-Ok-2-clause-nodes : goal.returns-in-Ok-2-clause-nodes
-returns-in-Ok-2-clause-nodes c = few_of c.args.text.now c.args.tokens.now c.unit_of.result c.requires.count c.requires.length c.unit_of.ensures.gives
+pub returns-in-Ok-nests_within-clause-nodes : goal.returns-in-Ok-nests_within-clause-nodes
+returns-in-Ok-nests_within-clause-nodes c = few_of c.args.text.now c.args.tokens.now c.unit_of.result c.requires.count c.requires.length c.unit_of.ensures.gives
