@@ -13,7 +13,7 @@ use Rattle.c_typed_tree.specs.Constants.{is_integer, are_built, constant, last_v
 use Rattle.c_typed_tree.specs.View.{type_view, expr_view}
 use Rattle.c_typed_tree.specs.model.View.{exprs_view, opens}
 use Rattle.c_constants.specs.declared.evaluation.Evaluation.{Evaluation}
-use Rattle.c_constants.specs.model.Evaluations.{evaluation, followed, start, last_from, is_nothing, comma}
+use Rattle.c_constants.specs.model.Evaluations.{evaluation, sequence, start, last_from, is_nothing, comma}
 
 operands_of : Expr → Exprs
 operands_of (p.Comma ty xs) = xs
@@ -53,11 +53,11 @@ and_true false = refl
 pub built_all : (all : Evaluation) (xs : Exprs) → (last_from all xs).built ≡ (all.built && are_built xs)
 built_all all no_exprs = and_true all.built
 built_all all (more_exprs x xs) =
-    built_all (followed all (evaluation x)) xs ∙ and_assoc all.built (evaluation x).built (are_built xs)
+    built_all (sequence all (evaluation x)) xs ∙ and_assoc all.built (evaluation x).built (are_built xs)
 
 pub value_all : (all : Evaluation) (xs : Exprs) → (last_from all xs).value ≡ last_value all.value xs
 value_all all no_exprs = refl
-value_all all (more_exprs x xs) = value_all (followed all (evaluation x)) xs ∙ value_on all.value (constant x) xs
+value_all all (more_exprs x xs) = value_all (sequence all (evaluation x)) xs ∙ value_on all.value (constant x) xs
 
 pub comma_is : (ty : PlainType) (xs : Exprs)
     → comma ty (is_nothing xs) (last_from start xs) ≡ evaluation (p.Comma ty xs)
@@ -78,18 +78,18 @@ comma_done v ty xs ys nothing all r hv hy hn ha hr =
 
 -- one operand more
 one_step : (all : Evaluation) (y : e.TExpr) (ys : List e.TExpr)
-    → last_from all (exprs_view (y ∷ ys)) ≡ last_from (followed all (evaluation (expr_view y))) (exprs_view ys)
+    → last_from all (exprs_view (y ∷ ys)) ≡ last_from (sequence all (evaluation (expr_view y))) (exprs_view ys)
 one_step all y ys = refl
 
 pub last_more : (xs : List e.TExpr) (i : ℕ) (x : e.TExpr) (first all next : Evaluation) → i < length xs
     → x ≡ get_or xs i x → last_from first (exprs_view xs) ≡ last_from all (exprs_view (drop i xs))
-    → next ≡ followed all (evaluation (expr_view x))
+    → next ≡ sequence all (evaluation (expr_view x))
     → last_from first (exprs_view xs) ≡ last_from next (exprs_view (drop (i + 1) xs))
 last_more xs i x first all next within item so_far is =
     so_far
     ∙ (ap (λ ys. last_from all (exprs_view ys)) (drop-cons xs i x within)
     ∙ (one_step all (get_or xs i x) (drop (suc i) xs)
-    ∙ (ap (λ y. last_from (followed all (evaluation (expr_view y))) (exprs_view (drop (suc i) xs))) (sym item)
+    ∙ (ap (λ y. last_from (sequence all (evaluation (expr_view y))) (exprs_view (drop (suc i) xs))) (sym item)
     ∙ (ap (λ n. last_from n (exprs_view (drop (suc i) xs))) (sym is)
     ∙ ap (λ k. last_from next (exprs_view (drop k xs))) (sym (add-one i))))))
 

@@ -9,7 +9,8 @@ ghost use Rattle.c_constants.specs.Null as null;
 ghost use Rattle.c_constants.specs.model.Evaluations as spec;
 
 use crate::evaluation::{
-    Evaluation, binary, comma, conditional, converted, followed, no_constant, number, start, unary,
+    Evaluation, binary, comma, conditional, evaluation_in, no_constant, number, sequence, start,
+    unary,
 };
 use c_typed_tree::{CType, TExpr};
 
@@ -47,8 +48,8 @@ fn evaluate(e: &TExpr) -> Evaluation
             holds,
             fails,
         } => conditional(ty, evaluate(condition), evaluate(holds), evaluate(fails)),
-        TExpr::Cast { ty, operand } => converted(ty, evaluate(operand)),
-        TExpr::Convert { ty, operand } => converted(ty, evaluate(operand)),
+        TExpr::Cast { ty, operand } => evaluation_in(ty, evaluate(operand)),
+        TExpr::Convert { ty, operand } => evaluation_in(ty, evaluate(operand)),
         TExpr::Index { ty, .. } => no_constant(ty),
         TExpr::Field { ty, .. } => no_constant(ty),
         TExpr::Arrow { ty, .. } => no_constant(ty),
@@ -67,7 +68,7 @@ fn evaluate_all(list: &[TExpr]) -> Evaluation
 {
     let mut all = start();
     for operand in list {
-        all = followed(all, evaluate(operand));
+        all = sequence(all, evaluate(operand));
     }
     all
 }

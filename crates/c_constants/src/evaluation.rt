@@ -5,7 +5,7 @@ ghost use Rattle.c_typed_tree.specs.View.{type_view};
 ghost use Rattle.c_constants.specs.model.Evaluations as spec;
 
 use crate::operators::{
-    after_and, after_or, binary_value, chosen, converted_value, is_pure_operator, unary_value,
+    after_and, after_or, binary_value, choice, converted_value, is_pure_operator, unary_value,
 };
 use c_arithmetic::integer_type::IntegerType;
 use c_tree::{BinaryOp, UnaryOp};
@@ -157,7 +157,7 @@ pub(crate) fn conditional(ty: &CType, x: Evaluation, y: Evaluation, z: Evaluatio
     Evaluation {
         ty,
         built: both(is_some(ty), both(x.built, arms)),
-        value: chosen(x.value, arms, y.value, z.value),
+        value: choice(x.value, arms, y.value, z.value),
     }
 }
 
@@ -171,8 +171,8 @@ fn value_in(ty: Option<IntegerType>, x: Evaluation) -> Option<u64>
 }
 
 /// A cast or a conversion.
-pub(crate) fn converted(ty: &CType, x: Evaluation) -> Evaluation
-    ensures { result ≡ spec.converted (type_view ty.now) x }
+pub(crate) fn evaluation_in(ty: &CType, x: Evaluation) -> Evaluation
+    ensures { result ≡ spec.evaluation_in (type_view ty.now) x }
 {
     let ty = integer_of(ty);
     Evaluation {
@@ -213,8 +213,8 @@ fn value_after(all: Evaluation, next: Evaluation) -> Option<u64>
 }
 
 /// An operand behind others.
-pub(crate) fn followed(all: Evaluation, next: Evaluation) -> Evaluation
-    ensures { result ≡ spec.followed all next }
+pub(crate) fn sequence(all: Evaluation, next: Evaluation) -> Evaluation
+    ensures { result ≡ spec.sequence all next }
 {
     Evaluation {
         ty: next.ty,

@@ -21,7 +21,13 @@ fn word_of(outcome: ArithmeticOutcome) -> Option<u64>
 }
 
 /// An operator between two integers of one type; the count of a shift has a type of its own.
-fn integers_with(op: BinaryOp, t: IntegerType, count: IntegerType, x: u64, y: u64) -> ArithmeticOutcome
+fn integers_with(
+    op: BinaryOp,
+    t: IntegerType,
+    count: IntegerType,
+    x: u64,
+    y: u64,
+) -> ArithmeticOutcome
     ensures { result ≡ spec.integers_with op t count x y }
 {
     match op {
@@ -169,7 +175,7 @@ pub(crate) fn after_or(x: Option<u64>, built: bool, y: Option<u64>) -> Option<u6
 }
 
 /// `?:`.
-pub(crate) fn chosen(
+pub(crate) fn choice(
     x: Option<u64>,
     built: bool,
     holds: Option<u64>,

@@ -11,7 +11,7 @@ use Rattle.std.proofs.lemmas.Option.{slice_get-get_or}
 use Rattle.std.proofs.lemmas.Slice.Eq.{bytes_eq-Decides}
 use Rattle.indexmap.specs.IndexMap.{insert_entry}
 use Rattle.c_scopes.specs.Names.{Entry, find}
-use Rattle.c_scopes.specs.declared.table.Declared.{Declared}
+use Rattle.c_scopes.specs.declared.table.Declaration.{Declaration}
 use Rattle.c_scopes.specs.model.Shadows.{place_of, joined, IsNewest, entry_of, entries_of, IsChained}
 
 same : (x y : List ℕ) → bytes_eq x y ≡ true → x ≡ y
@@ -110,15 +110,15 @@ back xs y = let whole : length xs < length (xs ++ y ∷ []) = omega (arith, leng
 reversed : {X : Type 0} (x : X) (xs : List X) → reverse (x ∷ xs) ≡ reverse xs ++ x ∷ []
 reversed x xs = reverse-append (x ∷ []) xs
 
-entries_length : {X : Type 0} (ds : List (Declared X)) → length (entries_of ds) ≡ length ds
+entries_length : {X : Type 0} (ds : List (Declaration X)) → length (entries_of ds) ≡ length ds
 entries_length [] = refl
 entries_length (d ∷ ds) = ap suc (entries_length ds)
 
-record Stands {X : Type 0} (q : List ℕ) (rs : List (Declared X)) (p : ℕ) : Type 0 where
+record Stands {X : Type 0} (q : List ℕ) (rs : List (Declaration X)) (p : ℕ) : Type 0 where
   pub below : p < length rs
-  pub at : find q (entries_of rs) ≡ option_map (λ (d : Declared X). (p, d.value)) (slice_get (reverse rs) p)
+  pub at : find q (entries_of rs) ≡ option_map (λ (d : Declaration X). (p, d.value)) (slice_get (reverse rs) p)
 
-stands : {X : Type 0} (rs : List (Declared X)) (q : List ℕ) (p : ℕ) → place_of (find q (entries_of rs)) ≡ Some p → Stands q rs p
+stands : {X : Type 0} (rs : List (Declaration X)) (q : List ℕ) (p : ℕ) → place_of (find q (entries_of rs)) ≡ Some p → Stands q rs p
 stands {X} [] q p h = let clash : ⊥ = cc in absurd clash
 stands {X} (r ∷ rs) q p h = by (λ g. stands rs q p g) (bytes_eq q r.name.now) refl h
   where
@@ -128,35 +128,35 @@ stands {X} (r ∷ rs) q p h = by (λ g. stands rs q p g) (bytes_eq q r.name.now)
         record {
           below = omega arith;
           at = ap (λ b. cond b (Some (length (entries_of rs), r.value)) (find q (entries_of rs))) e
-              ∙ (ap (λ i. Some (i, r.value)) (entries_length rs ∙ sym is) ∙ sym (ap (option_map (λ (d : Declared X). (p, d.value))) (ap (λ l. slice_get l p) (reversed r rs) ∙ ap (slice_get (reverse rs ++ r ∷ [])) (is ∙ sym (length-reverse rs)) ∙ back (reverse rs) r)));
+              ∙ (ap (λ i. Some (i, r.value)) (entries_length rs ∙ sym is) ∙ sym (ap (option_map (λ (d : Declaration X). (p, d.value))) (ap (λ l. slice_get l p) (reversed r rs) ∙ ap (slice_get (reverse rs ++ r ∷ [])) (is ∙ sym (length-reverse rs)) ∙ back (reverse rs) r)));
         }
     by rest false e h =
         let s = rest h in
         record {
           below = omega (arith, s.below);
           at = ap (λ b. cond b (Some (length (entries_of rs), r.value)) (find q (entries_of rs))) e
-              ∙ (s.at ∙ sym (ap (option_map (λ (d : Declared X). (p, d.value))) (ap (λ l. slice_get l p) (reversed r rs) ∙ front (reverse rs) r p (omega (arith, s.below, length-reverse rs)))));
+              ∙ (s.at ∙ sym (ap (option_map (λ (d : Declaration X). (p, d.value))) (ap (λ l. slice_get l p) (reversed r rs) ∙ front (reverse rs) r p (omega (arith, s.below, length-reverse rs)))));
         }
 
 -- The list and the map of a table.
-module _ {X S : Type 0} (m : HashMap (Bor (List ℕ)) (Option ℕ) S) (list : List (Declared X)) where
+module _ {X S : Type 0} (m : HashMap (Bor (List ℕ)) (Option ℕ) S) (list : List (Declaration X)) where
   abbrev pub Keeps : Type 0
   Keeps = IsChained (reverse list) × IsNewest m (entries_of (reverse list))
 
-module _ {X S : Type 0} (m : HashMap (Bor (List ℕ)) (Option ℕ) S) (list : List (Declared X)) (keeps : Keeps m list) where
-  pub found : (q : List ℕ) (p : ℕ) → place_of (find q (entries_of (reverse list))) ≡ Some p → find q (entries_of (reverse list)) ≡ option_map (λ (d : Declared X). (p, d.value)) (slice_get list p)
-  found q p h = (stands (reverse list) q p h).at ∙ ap (λ l. option_map (λ (d : Declared X). (p, d.value)) (slice_get l p)) (reverse-reverse list)
+module _ {X S : Type 0} (m : HashMap (Bor (List ℕ)) (Option ℕ) S) (list : List (Declaration X)) (keeps : Keeps m list) where
+  pub found : (q : List ℕ) (p : ℕ) → place_of (find q (entries_of (reverse list))) ≡ Some p → find q (entries_of (reverse list)) ≡ option_map (λ (d : Declaration X). (p, d.value)) (slice_get list p)
+  found q p h = (stands (reverse list) q p h).at ∙ ap (λ l. option_map (λ (d : Declaration X). (p, d.value)) (slice_get l p)) (reverse-reverse list)
 
   pub within : (q : List ℕ) (p : ℕ) → place_of (find q (entries_of (reverse list))) ≡ Some p → p < length list
   within q p h = omega (arith, (stands (reverse list) q p h).below, length-reverse list)
 
-  pub pushed : (n : HashMap (Bor (List ℕ)) (Option ℕ) S) (new : List (Declared X)) (d : Declared X) (eq : Bor (List ℕ) → Bor (List ℕ) → Bool) → ((k l : Bor (List ℕ)) → eq k l ≡ bytes_eq k.now l.now) → (k : Bor (List ℕ)) (p : ℕ)
+  pub pushed : (n : HashMap (Bor (List ℕ)) (Option ℕ) S) (new : List (Declaration X)) (d : Declaration X) (eq : Bor (List ℕ) → Bor (List ℕ) → Bool) → ((k l : Bor (List ℕ)) → eq k l ≡ bytes_eq k.now l.now) → (k : Bor (List ℕ)) (p : ℕ)
       → n.entries ≡ insert_entry eq m.entries k (Some p) → k.now ≡ d.name.now → p ≡ length list → d.shadows ≡ place_of (find d.name.now (entries_of (reverse list))) → new ≡ list ++ d ∷ [] → Keeps n new
   pushed n new d eq is k p entries name place shadows push =
       subst (λ l. IsChained l × IsNewest n (entries_of l)) (sym (ap reverse push ∙ reverse-append list (d ∷ [])))
       ((shadows, keeps.0), push-IsNewest m n eq is k p (entry_of d) (entries_of (reverse list)) entries name (place ∙ sym (entries_length (reverse list) ∙ length-reverse list)) keeps.1)
 
-  pub popped : (n : HashMap (Bor (List ℕ)) (Option ℕ) S) (new : List (Declared X)) (d : Declared X) (name : List ℕ) → n.entries ≡ set_value (λ l. bytes_eq name l.now) m.entries d.shadows → name ≡ d.name.now → list ≡ new ++ d ∷ [] → Keeps n new
+  pub popped : (n : HashMap (Bor (List ℕ)) (Option ℕ) S) (new : List (Declaration X)) (d : Declaration X) (name : List ℕ) → n.entries ≡ set_value (λ l. bytes_eq name l.now) m.entries d.shadows → name ≡ d.name.now → list ≡ new ++ d ∷ [] → Keeps n new
   popped n new d name entries is pop =
       let old : Keeps m (new ++ d ∷ []) = subst (Keeps m) pop keeps in
       let all : IsChained (d ∷ reverse new) × IsNewest m (entries_of (d ∷ reverse new)) = subst (λ l. IsChained l × IsNewest m (entries_of l)) (reverse-append new (d ∷ [])) old in

@@ -12,7 +12,7 @@ use std::marker::Model;
 
 /// A name with what it means, and the place of the one that it shadows.
 #[derive(Drop)]
-struct Declared<'a, T> {
+struct Declaration<'a, T> {
     name: &'a [u8],
     value: T,
     shadows: Option<usize>,
@@ -22,7 +22,7 @@ struct Declared<'a, T> {
 #[derive(Drop)]
 pub struct Table<'a, T> {
     /// With the oldest first.
-    list: Vec<Declared<'a, T>>,
+    list: Vec<Declaration<'a, T>>,
     /// The place of the newest of each name. A name that is gone has none.
     newest: IndexMap<&'a [u8], Option<usize>>,
 }
@@ -98,7 +98,7 @@ impl<'a, T: Drop> Table<'a, T> {
     {
         let shadows = self.place(name);
         let place = self.list.len();
-        self.list.push(Declared {
+        self.list.push(Declaration {
             name,
             value,
             shadows,
@@ -116,7 +116,7 @@ impl<'a, T: Drop> Table<'a, T> {
     fn pop(&mut self)
         ensures { self.new ≡ drop 1 self.old }
     {
-        let Some(Declared { name, shadows, .. }) = self.list.pop() else {
+        let Some(Declaration { name, shadows, .. }) = self.list.pop() else {
             return;
         };
         set_place(&mut self.newest, name, shadows);

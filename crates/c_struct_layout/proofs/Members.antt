@@ -6,7 +6,7 @@ use Rattle.c_typed_tree.specs.declared.types.StructDef.{StructDef}
 use Rattle.c_typed_tree.specs.Layout.{align_of}
 use Rattle.c_typed_tree.specs.View.{type_view}
 use Rattle.c_struct_layout.specs.declared.fields.Field.{Field}
-use Rattle.c_struct_layout.specs.declared.fields.Placed.{Placed}
+use Rattle.c_struct_layout.specs.declared.fields.Placement.{Placement}
 use Rattle.c_struct_layout.specs.declared.places.Span.{Span}
 use Rattle.c_struct_layout.specs.model.Spans.{span, placed}
 use Rattle.c_struct_layout.specs.StructLayout.{place_of, end_of, members_from, end_behind}
@@ -45,11 +45,11 @@ no_span ds end f r is none = by (nat_le (end_of ds end f) MOST_DATA) refl (sym i
 
 -- past the data nothing is placed
 pub none_placed : (ds : List StructDef) (fs : List Field) → MOST_DATA < end_behind ds 0 fs
-    → ◌≡◌ {A = Option Placed} None (placed ds fs)
+    → ◌≡◌ {A = Option Placement} None (placed ds fs)
 none_placed ds fs past = by (nat_le (end_behind ds 0 fs) MOST_DATA) refl
   where
     by : (b : Bool) → nat_le (end_behind ds 0 fs) MOST_DATA ≡ b
-        → ◌≡◌ {A = Option Placed} None
+        → ◌≡◌ {A = Option Placement} None
         (cond b (Some (record { members = members_from ds 0 fs; end = end_behind ds 0 fs })) None)
     by true e = absurd (grind (arith, nat_tests))
     by false e = refl

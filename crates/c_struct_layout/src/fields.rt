@@ -8,7 +8,7 @@ ghost use Rattle.c_typed_tree.specs.View.{type_view};
 ghost use Rattle.c_struct_layout.specs.StructLayout as spec;
 ghost use Rattle.c_struct_layout.specs.model.Spans as model;
 
-use crate::places::{aligned, span_of};
+use crate::places::{align_up, span_of};
 use c_tree::{Name, Seq};
 use c_typed_tree::layout::align_of;
 use c_typed_tree::{CType, Member, StructDef};
@@ -24,7 +24,7 @@ pub struct Field {
 
 /// Members in their places, and the end of the last one.
 #[derive(Drop)]
-pub(crate) struct Placed {
+pub(crate) struct Placement {
     pub members: Seq<Member>,
     pub end: u64,
 }
@@ -44,7 +44,7 @@ fn place_members(
     alloc: Global,
     structs: &[StructDef],
     fields: &[Field],
-) -> Result<Option<Placed>, AllocError>
+) -> Result<Option<Placement>, AllocError>
     requires { All (λ f. IsTrue (layout.is_object structs.now (type_view f.ty))) fields.now }
     ensures placed { IfOk result (λ r. r ≡ model.placed structs.now fields.now) }
     ensures within { IfOk result (λ r. IfSome r (λ p. p.end ≤ MOST_DATA)) }
@@ -60,7 +60,7 @@ fn place_members(
             }
         }
     }
-    Ok(Some(Placed { members, end }))
+    Ok(Some(Placement { members, end }))
 }
 
 /// The greatest alignment of members.
@@ -128,7 +128,7 @@ fn deepest(structs: &[StructDef], fields: &[Field]) -> u64
 }
 
 /// A struct whose members are placed.
-fn rounded(
+fn struct_of(
     structs: &[StructDef],
     tag: Name,
     members: Seq<Member>,
@@ -140,7 +140,7 @@ fn rounded(
     ensures { result ≡ spec.struct_within structs.now tag members depth (spec.whole_size structs.now members end) }
 {
     let align = greatest_align(structs, members.as_slice());
-    let size = aligned(align, end);
+    let size = align_up(align, end);
     if size <= u128::from(MOST_DATA) {
         return Some(StructDef {
             tag,
@@ -168,9 +168,9 @@ pub fn lay_out(
 {
     match place_members(alloc, structs, fields)? {
         None => Ok(None),
-        Some(Placed { members, end }) => {
+        Some(Placement { members, end }) => {
             let depth = deepest(structs, fields);
-            Ok(rounded(structs, tag, members, end, depth))
+            Ok(struct_of(structs, tag, members, end, depth))
         }
     }
 }

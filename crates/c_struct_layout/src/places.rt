@@ -19,7 +19,7 @@ pub(crate) struct Span {
 
 /// The next multiple of an alignment, from a place on.
 #[tactic(auto, using(crate::proofs::Rounding::rounded_down))]
-pub(crate) fn aligned(align: u64, place: u64) -> u128
+pub(crate) fn align_up(align: u64, place: u64) -> u128
     ensures value { result ≡ aligned_up align place }
     ensures most { result ≤ place + align }
 {
@@ -35,7 +35,7 @@ pub(crate) fn span_of(structs: &[StructDef], end: u64, field: &Field) -> Option<
     requires { IsTrue (is_object structs.now (type_view field.now.ty)) }
     ensures { result ≡ spec.span structs.now end field.now }
 {
-    let from = aligned(align_of(structs, &field.ty), end);
+    let from = align_up(align_of(structs, &field.ty), end);
     let to = from + u128::from(size_of(structs, &field.ty));
     if to <= u128::from(MOST_DATA) {
         return Some(Span {

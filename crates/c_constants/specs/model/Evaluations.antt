@@ -57,23 +57,23 @@ conditional ty x y z = record {
 abbrev pub value_in : Option IntegerType → Evaluation → Option ℕ
 value_in ty x = option_and_then (converted_value x.ty ty) x.value
 
-abbrev pub converted : PlainType → Evaluation → Evaluation
-converted ty x = record { ty = integer_of ty; built = is_integer ty && x.built; value = value_in (integer_of ty) x }
+abbrev pub evaluation_in : PlainType → Evaluation → Evaluation
+evaluation_in ty x = record { ty = integer_of ty; built = is_integer ty && x.built; value = value_in (integer_of ty) x }
 
 -- ---- the operands of commas
 
 abbrev pub value_after : Evaluation → Evaluation → Option ℕ
 value_after all next = option_and_then (λ _. next.value) all.value
 
-abbrev pub followed : Evaluation → Evaluation → Evaluation
-followed all next = record { ty = next.ty; built = all.built && next.built; value = value_after all next }
+abbrev pub sequence : Evaluation → Evaluation → Evaluation
+sequence all next = record { ty = next.ty; built = all.built && next.built; value = value_after all next }
 
 abbrev pub start : Evaluation
 start = record { ty = None; built = true; value = Some 0 }
 
 abbrev pub last_from : Evaluation → Exprs → Evaluation
 last_from all no_exprs = all
-last_from all (more_exprs x xs) = last_from (followed all (evaluation x)) xs
+last_from all (more_exprs x xs) = last_from (sequence all (evaluation x)) xs
 
 abbrev pub is_nothing : Exprs → Bool
 is_nothing no_exprs = true

@@ -3,7 +3,7 @@
 use Rattle.std.specs.Prelude.{◌≡◌, ℕ, List, [], ◌∷◌, Option, Some, None, bytes_eq, map}
 use Rattle.std.specs.Borrow.{Bor}
 use Rattle.std.specs.HashMap.{HashMap, get_by}
-use Rattle.c_scopes.specs.declared.table.Declared.{Declared}
+use Rattle.c_scopes.specs.declared.table.Declaration.{Declaration}
 use Rattle.c_scopes.specs.Names.{Entry, find}
 
 abbrev pub place_of : {X : Type 0} → Option (ℕ × X) → Option ℕ
@@ -18,13 +18,13 @@ joined (Some x) = x
 abbrev pub IsNewest : {X S : Type 0} → HashMap (Bor (List ℕ)) (Option ℕ) S → List (Entry X) → Type 0
 IsNewest m xs = (q : List ℕ) → joined (get_by (λ k. bytes_eq q k.now) m) ≡ place_of (find q xs)
 
-abbrev pub entry_of : {X : Type 0} → Declared X → Entry X
+abbrev pub entry_of : {X : Type 0} → Declaration X → Entry X
 entry_of d = record { name = d.name.now; value = d.value }
 
-abbrev pub entries_of : {X : Type 0} → List (Declared X) → List (Entry X)
+abbrev pub entries_of : {X : Type 0} → List (Declaration X) → List (Entry X)
 entries_of ds = map entry_of ds
 
 -- each knows the place of the one that it shadows; the newest stands first
-abbrev pub IsChained : {X : Type 0} → List (Declared X) → Type 0
+abbrev pub IsChained : {X : Type 0} → List (Declaration X) → Type 0
 IsChained [] = Unit {0}
 IsChained (d ∷ ds) = (d.shadows ≡ place_of (find d.name.now (entries_of ds))) × IsChained ds

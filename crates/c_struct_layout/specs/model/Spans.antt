@@ -4,7 +4,7 @@ use Rattle.data_object.specs.declared.TheConstants.{MOST_DATA}
 use Rattle.c_typed_tree.specs.declared.types.StructDef.{StructDef}
 use Rattle.c_struct_layout.specs.declared.fields.Field.{Field}
 use Rattle.c_struct_layout.specs.declared.places.Span.{Span}
-use Rattle.c_struct_layout.specs.declared.fields.Placed.{Placed}
+use Rattle.c_struct_layout.specs.declared.fields.Placement.{Placement}
 use Rattle.c_struct_layout.specs.StructLayout.{place_of, end_of, members_from, end_behind}
 
 abbrev pub span : List StructDef → (end : ℕ) → Field → Option Span
@@ -12,7 +12,7 @@ span ds end f =
     if nat_le (end_of ds end f) MOST_DATA then Some (record { from = place_of ds end f; to = end_of ds end f })
     else None
 
-abbrev pub placed : List StructDef → List Field → Option Placed
+abbrev pub placed : List StructDef → List Field → Option Placement
 placed ds fs =
     if nat_le (end_behind ds 0 fs) MOST_DATA
     then Some (record { members = members_from ds 0 fs; end = end_behind ds 0 fs })

@@ -1,5 +1,5 @@
 use Rattle.std.proofs.Common.{ap, ◌∙◌}
-use Rattle.c_constants.specs.model.Evaluations.{start, followed}
+use Rattle.c_constants.specs.model.Evaluations.{start, sequence}
 use Rattle.c_constants.proofs.Commas.{comma_done, last_more}
 use Rattle.c_constants.proofs.evaluate.+evaluate.Goals as goal
 
@@ -11,5 +11,5 @@ evaluate-returns-in-Comma t c =
 pub evaluate_all-loop-operand-preserved : goal.evaluate_all-loop-operand-preserved
 evaluate_all-loop-operand-preserved t c =
     last_more c.args.list.now c.loop-operand.operand-index c.operand-item.result start c.loop-operand.all
-    c.followed-all.result c.loop-operand-test.true c.operand-item.is c.loop-operand.invariant
-    (c.followed-all.ensures ∙ ap (followed c.loop-operand.all) c.evaluate.ensures)
+    c.sequence-all.result c.loop-operand-test.true c.operand-item.is c.loop-operand.invariant
+    (c.sequence-all.ensures ∙ ap (sequence c.loop-operand.all) c.evaluate.ensures)
