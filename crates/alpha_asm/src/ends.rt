@@ -1,5 +1,6 @@
 //! Where spans end, in a tree that finds the first one past a place.
 
+use crate::spans::Span;
 use std::alloc::{AllocError, Global};
 
 /// The ends of spans. Node 1 of the tree is its root, below node k stand the nodes 2k and 2k + 1, and each node
@@ -17,17 +18,24 @@ pub(crate) fn levels_of(leaves: usize) -> u32 {
 }
 
 impl Ends {
-    /// A tree of so many ends at most, all of them 0.
-    pub(crate) fn new(alloc: Global, count: usize) -> Result<Ends, AllocError> {
-        let levels = levels_of(count);
+    /// A tree of the ends of these spans.
+    pub(crate) fn new(alloc: Global, spans: &[Span]) -> Result<Ends, AllocError> {
+        let levels = levels_of(spans.len());
         let size = 1_usize.wrapping_shl(levels);
         let mut greatest = Vec::new(alloc);
         greatest.resize(size.saturating_mul(2), 0)?;
-        Ok(Ends {
+        let mut ends = Ends {
             greatest,
             size,
             levels,
-        })
+        };
+        for (at, span) in spans.iter().enumerate() {
+            ends.put(size.wrapping_add(at), span.end());
+        }
+        for node in (1..size).rev() {
+            let _has_changed = ends.gather(node);
+        }
+        Ok(ends)
     }
 
     /// The greatest end below a node.
@@ -42,32 +50,25 @@ impl Ends {
         }
     }
 
-    /// Sets an end.
-    pub(crate) fn set(&mut self, at: usize, end: usize) {
-        let mut node = self.size.wrapping_add(at);
-        self.put(node, end);
-        for _level in 0..self.levels {
-            node /= 2;
-            let left = node.wrapping_mul(2);
-            let greatest = self.greatest(left).max(self.greatest(left.wrapping_add(1)));
-            if greatest == self.greatest(node) {
-                return;
-            }
-            self.put(node, greatest);
-        }
+    /// Sets the greatest end below a node from those of the two nodes under it. Answers whether it has changed.
+    fn gather(&mut self, node: usize) -> bool {
+        let left = node.wrapping_mul(2);
+        let greatest = self.greatest(left).max(self.greatest(left.wrapping_add(1)));
+        let has_changed = greatest != self.greatest(node);
+        self.put(node, greatest);
+        has_changed
     }
 
-    /// The greatest end before a place of the row of ends.
-    pub(crate) fn greatest_before(&self, at: usize) -> usize {
+    /// Takes an end out.
+    pub(crate) fn remove(&mut self, at: usize) {
         let mut node = self.size.wrapping_add(at);
-        let mut greatest = 0;
+        self.put(node, 0);
         for _level in 0..self.levels {
-            if node % 2 == 1 {
-                greatest = self.greatest(node.wrapping_sub(1)).max(greatest);
-            }
             node /= 2;
+            if !self.gather(node) {
+                return;
+            }
         }
-        greatest
     }
 
     /// The place of the first end below a node that is past another end, if there is one.

@@ -6,6 +6,7 @@ mod data;
 mod ends;
 mod far;
 mod labels;
+mod outermost;
 mod rooms;
 mod sizes;
 mod spans;

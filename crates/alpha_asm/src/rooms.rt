@@ -1,146 +1,242 @@
-//! How many words more each span has room for, in a tree that finds the span with the least room.
+//! How many words more each span has room for, in a tree that knows the span with the least room.
 
 use crate::ends::levels_of;
 use std::alloc::{AllocError, Global};
 
 /// The room of a span that is not looked at: more than all growth of a text takes.
-const NEVER: i64 = 1 << 62;
+pub(crate) const NEVER: i64 = 1 << 62;
 
-/// The rooms of spans. Node 1 of the tree is its root, and below node k stand the nodes 2k and 2k + 1. What the
-/// rooms below a node have in common stands in the node, so that the lesser of two neighbours is 0, and a room is
-/// the sum of the nodes from its leaf up to the root. The leaves stand from `size` on, `levels` steps below the
-/// root, with one more at each end.
+/// Two neighbours in the tree: what the rooms below each have in common beyond what stands in the nodes above, and
+/// the leaf with the least room below each. So the lesser of the first two is 0.
+#[derive(Clone, Copy, Debug)]
+struct Pair {
+    common: [i64; 2],
+    least: [usize; 2],
+}
+
+/// What the rooms below a node have become: the least of them has so much more, and stands at a leaf.
+#[derive(Clone, Copy, Debug)]
+struct Change {
+    more: i64,
+    least: usize,
+}
+
+/// A node on the way up, with what the rooms below it have become.
+#[derive(Clone, Copy, Debug)]
+struct Edge {
+    node: usize,
+    change: Change,
+}
+
+/// The rooms of spans. Node 1 of the tree is its root, and below node k stand the nodes 2k and 2k + 1, which are the
+/// pair k. A room is the sum of the nodes from its leaf up to the root. The leaves stand from `size` on, `levels`
+/// steps below the root, with one more at each end.
 #[derive(Debug, Drop)]
 pub(crate) struct Rooms {
-    common: Vec<i64>,
+    pairs: Vec<Pair>,
+    root: Change,
     size: usize,
     levels: u32,
 }
 
+impl Pair {
+    /// Changes one side, and takes words from the rooms of the other one. Answers what has become of the rooms of both.
+    fn settle(&mut self, side: usize, change: Change, words: i64) -> Change {
+        let one = side % 2;
+        let other = 1 - one;
+        let room = self.common[one].wrapping_add(change.more);
+        let room_beside = self.common[other].wrapping_sub(words);
+        let more = room.min(room_beside);
+        self.common[one] = room.wrapping_sub(more);
+        self.common[other] = room_beside.wrapping_sub(more);
+        self.least[one] = change.least;
+        let least = if room <= room_beside {
+            change.least
+        } else {
+            self.least[other]
+        };
+        Change { more, least }
+    }
+
+    /// What has become of the rooms of both where they had nothing in common before.
+    fn gather(&mut self) -> Change {
+        let change = Change {
+            more: 0,
+            least: self.least[0],
+        };
+        self.settle(0, change, 0)
+    }
+}
+
 impl Rooms {
-    /// A tree for so many spans, none of which is looked at.
-    pub(crate) fn new(alloc: Global, count: usize) -> Result<Rooms, AllocError> {
-        let levels = levels_of(count.saturating_add(2));
+    /// A tree of these rooms.
+    pub(crate) fn new(alloc: Global, rooms: &[i64]) -> Result<Rooms, AllocError> {
+        let levels = levels_of(rooms.len().saturating_add(2));
         let size = 1_usize.wrapping_shl(levels);
-        let mut common = Vec::new(alloc);
-        common.resize(size.saturating_mul(2), 0)?;
-        let mut rooms = Rooms {
-            common,
+        let nothing = Pair {
+            common: [0, 0],
+            least: [0, 0],
+        };
+        let mut pairs = Vec::new(alloc);
+        pairs.resize(size, nothing)?;
+        let root = Change { more: 0, least: 0 };
+        let mut tree = Rooms {
+            pairs,
+            root,
             size,
             levels,
         };
-        rooms.add(1, NEVER);
-        Ok(rooms)
+        tree.put_all(rooms);
+        tree.gather_all();
+        Ok(tree)
     }
 
-    /// What the rooms below a node have in common.
-    fn common(&self, node: usize) -> i64 {
-        self.common.get(node).copied().unwrap_or(0)
-    }
-
-    /// Adds to all rooms below a node.
-    fn add(&mut self, node: usize, room: i64) {
-        if let Some(common) = self.common.get_mut(node) {
-            *common = common.wrapping_add(room);
+    /// Puts rooms below a node where there is nothing yet.
+    fn put(&mut self, node: usize, rooms: Change) {
+        if let Some(pair) = self.pairs.get_mut(node / 2) {
+            pair.common[node % 2] = rooms.more;
+            pair.least[node % 2] = rooms.least;
         }
     }
 
-    /// Puts what two neighbours have in common into the node above them, and answers it.
-    fn settle(&mut self, node: usize) -> i64 {
-        let left = node.wrapping_mul(2);
-        let right = left.wrapping_add(1);
-        let common = self.common(left).min(self.common(right));
-        if common != 0 {
-            self.add(left, common.wrapping_neg());
-            self.add(right, common.wrapping_neg());
-            self.add(node, common);
+    /// Puts each room into its leaf.
+    fn put_all(&mut self, rooms: &[i64]) {
+        for least in 0..self.size {
+            let more = rooms.get(least.wrapping_sub(1)).copied().unwrap_or(NEVER);
+            self.put(self.size.wrapping_add(least), Change { more, least });
         }
-        common
     }
 
-    /// The leaf of a span.
-    fn leaf(&self, at: usize) -> usize {
-        self.size.wrapping_add(at).wrapping_add(1)
+    /// Puts what rooms have in common into the nodes above.
+    fn gather_all(&mut self) {
+        for node in (1..self.size).rev() {
+            let Some(pair) = self.pairs.get_mut(node) else {
+                return;
+            };
+            self.root = pair.gather();
+            self.put(node, self.root);
+        }
     }
 
     /// The room of a span.
     fn room(&self, at: usize) -> i64 {
-        let mut node = self.leaf(at);
-        let mut room = self.common(node);
+        let mut node = self.size.wrapping_add(at).wrapping_add(1);
+        let mut room = self.root.more;
         for _level in 0..self.levels {
+            if let Some(pair) = self.pairs.get(node / 2) {
+                room = room.wrapping_add(pair.common[node % 2]);
+            }
             node /= 2;
-            room = room.wrapping_add(self.common(node));
         }
         room
     }
 
-    /// Adds to the room of a span.
-    fn add_room(&mut self, at: usize, room: i64) {
-        let mut node = self.leaf(at);
-        self.add(node, room);
+    /// A leaf whose room has so much more.
+    fn edge(&self, leaf: usize, more: i64) -> Edge {
+        Edge {
+            node: self.size.wrapping_add(leaf),
+            change: Change { more, least: leaf },
+        }
+    }
+
+    /// Changes a node, and takes words from the rooms below its neighbour. Answers the node above.
+    fn climb(&mut self, edge: Edge, words: i64) -> Edge {
+        let node = edge.node / 2;
+        let change = match self.pairs.get_mut(node) {
+            Some(pair) => pair.settle(edge.node, edge.change, words),
+            None => edge.change,
+        };
+        Edge { node, change }
+    }
+
+    /// Whether the rooms below a node have become no other.
+    fn is_same(&self, edge: Edge) -> bool {
+        match self.pairs.get(edge.node / 2) {
+            Some(pair) => edge.change.more == 0 && edge.change.least == pair.least[edge.node % 2],
+            None => true,
+        }
+    }
+
+    /// Changes a node and all above it.
+    fn rise(&mut self, edge: Edge) {
+        let mut edge = edge;
         for _level in 0..self.levels {
-            node /= 2;
-            if self.settle(node) == 0 {
+            if edge.node <= 1 {
+                break;
+            }
+            if self.is_same(edge) {
                 return;
             }
+            edge = self.climb(edge, 0);
         }
+        self.root = Change {
+            more: self.root.more.wrapping_add(edge.change.more),
+            least: edge.change.least,
+        };
     }
 
-    /// Looks at a span from now on, whose room is the words that its branch may pass over less those that it does.
-    pub(crate) fn look_at(&mut self, at: usize, most: u64, words: u64) {
-        let room = most.wrapping_sub(words).cast_signed();
-        self.add_room(at, room.wrapping_sub(self.room(at)));
+    /// Changes two neighbours and all above them.
+    fn join(&mut self, left: Edge, right: Edge) {
+        if let Some(pair) = self.pairs.get_mut(right.node / 2) {
+            pair.common[1] = pair.common[1].wrapping_add(right.change.more);
+            pair.least[1] = right.change.least;
+        }
+        let above = self.climb(left, 0);
+        self.rise(above);
     }
 
-    /// Looks at a span no more.
-    pub(crate) fn leave(&mut self, at: usize) {
-        self.add_room(at, NEVER);
-    }
-
-    /// Takes words from the rooms within two leaves, at each level those whose neighbours are not.
-    fn take_within(&mut self, left: usize, right: usize, words: i64) {
-        if left / 2 == right / 2 {
-            return;
-        }
-        if left % 2 == 0 {
-            self.add(left.wrapping_add(1), words.wrapping_neg());
-        }
-        if right % 2 == 1 {
-            self.add(right.wrapping_sub(1), words.wrapping_neg());
-        }
-    }
-
-    /// Takes words from the rooms of the spans from one on to before another one, if there are any.
-    pub(crate) fn take(&mut self, first: usize, past: usize, words: u64) {
-        if first >= past {
-            return;
-        }
-        let mut left = self.size.wrapping_add(first);
-        let mut right = self.leaf(past);
+    /// Changes two leaves, and takes words from the rooms between them: at each level from those nodes between the
+    /// two on the way up whose neighbours are not.
+    fn take(&mut self, left: Edge, right: Edge, words: i64) {
+        let mut left = left;
+        let mut right = right;
         for _level in 0..self.levels {
-            self.take_within(left, right, words.cast_signed());
-            left /= 2;
-            right /= 2;
-            let moved = self.settle(left);
-            if left == right && moved == 0 {
-                return;
+            if left.node / 2 == right.node / 2 {
+                break;
             }
-            self.settle(right);
+            let beside_left = if left.node % 2 == 0 { words } else { 0 };
+            let beside_right = if right.node % 2 == 1 { words } else { 0 };
+            left = self.climb(left, beside_left);
+            right = self.climb(right, beside_right);
         }
+        self.join(left, right);
     }
 
-    /// The span with the least room, where that is less than none.
-    pub(crate) fn overfull(&self) -> Option<usize> {
-        if self.common(1) >= 0 {
+    /// Looks at a span from now on, which has so much room.
+    pub(crate) fn look_at(&mut self, at: usize, room: i64) {
+        let more = room.wrapping_sub(self.room(at));
+        self.rise(self.edge(at.wrapping_add(1), more));
+    }
+
+    /// Looks no more at a span, and takes words from the rooms of those before it, from one on.
+    pub(crate) fn leave_behind(&mut self, first: usize, at: usize, words: u64) {
+        let leaving = self.edge(at.wrapping_add(1), NEVER);
+        if first >= at {
+            self.rise(leaving);
+            return;
+        }
+        self.take(self.edge(first, 0), leaving, words.cast_signed());
+    }
+
+    /// Looks no more at a span, and takes words from the rooms of those behind it, to before another one.
+    pub(crate) fn leave_before(&mut self, at: usize, past: usize, words: u64) {
+        let leaving = self.edge(at.wrapping_add(1), NEVER);
+        if at.saturating_add(1) >= past {
+            self.rise(leaving);
+            return;
+        }
+        self.take(
+            leaving,
+            self.edge(past.wrapping_add(1), 0),
+            words.cast_signed(),
+        );
+    }
+
+    /// The span with the least room, and that room, where it is less than none.
+    pub(crate) fn overfull(&self) -> Option<(usize, i64)> {
+        if self.root.more >= 0 {
             return None;
         }
-        let mut node: usize = 1;
-        for _level in 0..self.levels {
-            node = node.wrapping_mul(2);
-            if self.common(node) > 0 {
-                node = node.wrapping_add(1);
-            }
-        }
-        Some(node.wrapping_sub(self.size).wrapping_sub(1))
+        Some((self.root.least.wrapping_sub(1), self.root.more))
     }
 }

@@ -11,14 +11,15 @@ ghost use Rattle.alpha_asm.specs.model.Sweeps.{AreTargets, near};
 ghost use Rattle.alpha_asm.specs.model.Sums.{HoldsAtMost};
 
 use crate::far::REACH;
+use crate::outermost::Outermost;
 use crate::sizes::{is_branch, words_of_item};
-use crate::spans::{Outermost, spans_of};
+use crate::spans::spans_of;
 use crate::sums::{change_words, sums_of, words_between};
 use alpha_items::item::AsmItem;
 use std::alloc::{AllocError, Global};
 
 /// Whether there is a branch at `i` that is not far, and that does not reach.
-fn is_too_far(items: &[AsmItem], targets: &[usize], far: &[bool], sums: &[u64], i: usize) -> bool
+fn is_too_far(items: &[AsmItem], targets: &[usize], far: &[bool], sums: &[u32], i: usize) -> bool
     requires inside { i < length items.now }
     requires targets { AreTargets items.now targets.now }
     requires far { length far.now ≡ length items.now }
@@ -43,7 +44,7 @@ fn make_far(
     items: &[AsmItem],
     targets: &[usize],
     far: &mut [bool],
-    sums: &mut [u64],
+    sums: &mut [u32],
     i: usize,
 ) -> bool
     requires targets { AreTargets items.now targets.now }
@@ -70,7 +71,7 @@ fn follow(
     items: &[AsmItem],
     targets: &[usize],
     far: &mut [bool],
-    sums: &mut [u64],
+    sums: &mut [u32],
     outermost: &mut Outermost,
 )
     requires targets { AreTargets items.now targets.now }
@@ -81,13 +82,13 @@ fn follow(
     ensures fewer { near far.new ≤ near far.old }
 {
     for _turn in 0..items.len() {
-        let Some((at, branch)) = outermost.overfull() else {
+        let Some(branch) = outermost.overfull() else {
             return;
         };
         if !make_far(items, targets, far, sums, branch) {
             return;
         }
-        outermost.remove(at, branch, more_words(items, branch), sums);
+        outermost.remove(more_words(items, branch), sums);
     }
 }
 
@@ -117,7 +118,7 @@ pub(crate) fn spread(
 {
     let mut sums = sums_of(alloc, items, far)?;
     let spans = spans_of(alloc, items, targets, far, places)?;
-    let mut outermost = Outermost::new(alloc, spans, sums.as_slice())?;
+    let mut outermost = Outermost::new(alloc, spans, places)?;
     follow(items, targets, far, sums.as_mut_slice(), &mut outermost);
     Ok(())
 }

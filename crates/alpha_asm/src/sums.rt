@@ -22,7 +22,7 @@ struct Range {
 }
 
 /// The node above the left end of a range, behind what is counted of it here.
-fn rise_left(sums: &[u64], left: usize, words: u64) -> (usize, u64)
+fn rise_left(sums: &[u32], left: usize, words: u64) -> (usize, u64)
     requires { left < length sums.now }
     ensures node { left ≤ 2 * result.0 }
     ensures near { 2 * result.0 ≤ left + 1 }
@@ -31,11 +31,11 @@ fn rise_left(sums: &[u64], left: usize, words: u64) -> (usize, u64)
     if left % 2 == 0 {
         return (left / 2, words);
     }
-    (left / 2 + 1, words.saturating_add(sums[left]))
+    (left / 2 + 1, words.saturating_add(u64::from(sums[left])))
 }
 
 /// The node above the right end of a range, before what is counted of it here.
-fn rise_right(sums: &[u64], right: usize, words: u64) -> (usize, u64)
+fn rise_right(sums: &[u32], right: usize, words: u64) -> (usize, u64)
     requires { right ≤ length sums.now }
     ensures node { 2 * result.0 ≤ right }
     ensures near { right ≤ 2 * result.0 + 1 }
@@ -44,11 +44,11 @@ fn rise_right(sums: &[u64], right: usize, words: u64) -> (usize, u64)
     if right % 2 == 0 {
         return (right / 2, words);
     }
-    (right / 2, words.saturating_add(sums[right - 1]))
+    (right / 2, words.saturating_add(u64::from(sums[right - 1])))
 }
 
 /// The range of the nodes above.
-fn rise(sums: &[u64], range: Range) -> Range
+fn rise(sums: &[u32], range: Range) -> Range
     requires some { range.left < range.right }
     requires inside { range.right ≤ length sums.now }
     ensures order { result.left ≤ result.right }
@@ -63,7 +63,7 @@ fn rise(sums: &[u64], range: Range) -> Range
 }
 
 /// No more than the words from one item of a text to before another one.
-pub(crate) fn words_between(sums: &[u64], start: usize, end: usize) -> u64
+pub(crate) fn words_between(sums: &[u32], start: usize, end: usize) -> u64
     ensures { (items : List AsmItem) (far : List Bool) → HoldsAtMost (sizes items far) sums.now →
         length far ≡ length items → start ≤ end → end ≤ length items →
         result + place items far start ≤ place items far end }
@@ -84,7 +84,7 @@ pub(crate) fn words_between(sums: &[u64], start: usize, end: usize) -> u64
 
 /// Counts the words of a node below which two others stand.
 #[tactic(auto, using(crate::proofs::Trees::node_raised))]
-fn sum_up(sums: &mut [u64], node: usize)
+fn sum_up(sums: &mut [u32], node: usize)
     requires { 2 * node + 1 < length sums.old }
     ensures { (leaves : List ℕ) → HoldsAtMost leaves sums.old → HoldsAtMost leaves sums.new }
 {
@@ -96,17 +96,17 @@ fn sum_up(sums: &mut [u64], node: usize)
 
 /// Counts the words of an item in its own node.
 #[tactic(auto, using(crate::proofs::Trees::leaf_raised))]
-fn put_words(items: &[AsmItem], far: &[bool], sums: &mut [u64], i: usize)
+fn put_words(items: &[AsmItem], far: &[bool], sums: &mut [u32], i: usize)
     requires inside { i < length items.now }
     requires one_each { length far.now ≡ length items.now }
     requires sums { HoldsAtMost (sizes items.now far.now) sums.old }
     ensures { HoldsAtMost (sizes items.now far.now) sums.new }
 {
-    sums[items.len() + i] = words_of_item(&items[i], far[i]);
+    sums[items.len() + i] = words_of_item(&items[i], far[i]) as u32;
 }
 
 /// Counts the words of an item anew.
-pub(crate) fn change_words(items: &[AsmItem], far: &[bool], sums: &mut [u64], i: usize)
+pub(crate) fn change_words(items: &[AsmItem], far: &[bool], sums: &mut [u32], i: usize)
     requires inside { i < length items.now }
     requires one_each { length far.now ≡ length items.now }
     requires sums { HoldsAtMost (sizes items.now far.now) sums.old }
@@ -121,7 +121,7 @@ pub(crate) fn change_words(items: &[AsmItem], far: &[bool], sums: &mut [u64], i:
 }
 
 /// Counts the words of each item in its own node.
-fn put_all_words(items: &[AsmItem], far: &[bool], sums: &mut [u64])
+fn put_all_words(items: &[AsmItem], far: &[bool], sums: &mut [u32])
     requires one_each { length far.now ≡ length items.now }
     requires sums { HoldsAtMost (sizes items.now far.now) sums.old }
     ensures { HoldsAtMost (sizes items.now far.now) sums.new }
@@ -132,7 +132,7 @@ fn put_all_words(items: &[AsmItem], far: &[bool], sums: &mut [u64])
 }
 
 /// Counts the words of all nodes below which others stand.
-fn sum_all(sums: &mut [u64])
+fn sum_all(sums: &mut [u32])
     ensures { (leaves : List ℕ) → HoldsAtMost leaves sums.old → HoldsAtMost leaves sums.new }
 {
     for node in (1..sums.len() / 2).rev() {
@@ -146,7 +146,7 @@ pub(crate) fn sums_of(
     alloc: Global,
     items: &[AsmItem],
     far: &[bool],
-) -> Result<Vec<u64>, AllocError>
+) -> Result<Vec<u32>, AllocError>
     requires few { length items.now < 2 ^ 60 }
     requires one_each { length far.now ≡ length items.now }
     ensures { IfOk result (λ sums. HoldsAtMost (sizes items.now far.now) sums.items) }
