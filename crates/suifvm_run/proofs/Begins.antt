@@ -16,7 +16,7 @@ use Rattle.suifvm_run.specs.declared.machine.Stop.TheVariants as stop
 use Rattle.suifvm_run.specs.declared.machine.Turn.TheVariants as turn
 use Rattle.suifvm_run.specs.declared.tables.FunctionTable.{FunctionTable}
 use Rattle.suifvm_run.specs.declared.tables.ProgramTable.{ProgramTable}
-use Rattle.suifvm_run.specs.Tidy.{IsTidy}
+use Rattle.vm_operations.specs.Tidy.{IsTidy}
 use Rattle.suifvm_run.specs.model.Begin.{start_at, first_hidden, Begins, EndsAtOnce}
 use Rattle.suifvm_run.specs.model.Config.{Wait, config_of, frames_of}
 use Rattle.suifvm_run.specs.model.Tables.{functions_of, AreNumbered}

@@ -18,7 +18,7 @@ use Rattle.suifvm_run.specs.declared.machine.Machine.{Machine}
 use Rattle.suifvm_run.specs.declared.machine.Stop.TheVariants as stop
 use Rattle.suifvm_run.specs.declared.machine.Turn.TheVariants as turn
 use Rattle.suifvm_run.specs.model.Config.{Hidden, Wait, IsSound, TurnIs, config_of, frame_of, frames_of, program_of, world_in, act_there}
-use Rattle.suifvm_run.specs.Tidy.{IsTidy}
+use Rattle.vm_operations.specs.Tidy.{IsTidy}
 use Rattle.suifvm_run.specs.declared.tables.FunctionTable.{FunctionTable}
 use Rattle.suifvm_run.proofs.Turns.{unwaited}
 use Rattle.suifvm_run.proofs.Sites.{sizes_are, site_past, site_missing, number_past, number_missing}

@@ -1,7 +1,3 @@
-pub mod Words
-pub mod Offsets
-pub mod Tidiness
-pub mod Lives
 pub mod Windows
 pub mod Sites
 pub mod Loops
@@ -13,3 +9,4 @@ pub mod Effects
 pub mod Instructions
 pub mod Progress
 pub mod Begins
+pub mod Wholes

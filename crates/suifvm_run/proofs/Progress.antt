@@ -22,7 +22,8 @@ use Rattle.suifvm_run.specs.declared.tables.ProgramTable.{ProgramTable}
 use Rattle.suifvm_run.specs.model.Config.{Hidden, TurnIs, Wrote, GoesTo, EndsBy, ending_by, config_of, world_in, step_there, with_byte, with_taken, wrote}
 use Rattle.suifvm_run.specs.model.Tables.{functions_of}
 use Rattle.suifvm_run.specs.model.Progress.{run_from, StandsAt, TurnEnds, stop_ending}
-use Rattle.suifvm_run.specs.Run.{Traffic, EndsWith, GoesOn, StopsAs, IsRun, count_plus, input_calls}
+use Rattle.suifvm_run.specs.Run.{Steps, Traffic, GoesOn, count_plus, input_calls}
+use Rattle.suifvm_run.specs.model.Stops.{EndsWith, StopsAs, IsRun}
 
 -- a count that rises once more
 counted : (n : ℕ) (made : Option ℕ) → option_map next_count (option_map (count_plus n) made) ≡ option_map (count_plus (n + 1)) made
@@ -33,6 +34,19 @@ counted n (Some k) = ap (λ j. Some (count_plus j k)) (sym (add-one n))
 put_behind : (output : List ℕ) (byte : ℕ) (taken : Option (List ℕ)) → taken_with (byte ∷ []) (option_map (λ bytes. bytes ++ output) taken) ≡ option_map (λ bytes. bytes ++ (output ++ byte ∷ [])) taken
 put_behind output byte None = refl
 put_behind output byte (Some bytes) = ap (λ x. Some x) (append_assoc bytes output (byte ∷ []))
+
+-- how a run ends, as what the machine came to
+pub stops_by : (run : Steps) (turns : ℕ) (s : Stop) (last : World) → EndsWith run (ending_by s last) → StopsAs run turns (stop_ending turns s) last
+stops_by run turns (stop.Exits status) last ends = ends
+stops_by run turns (stop.Traps code) last ends = ends
+stops_by run turns (stop.Undefined number) last ends = ends
+stops_by run turns stop.Budget last ends = (refl, ends)
+
+pub calls_by : (turns : ℕ) (s : Stop) (n : ℕ) → input_calls (stop_ending turns s) n ≡ n
+calls_by turns (stop.Exits status) n = refl
+calls_by turns (stop.Traps code) n = refl
+calls_by turns (stop.Undefined number) n = refl
+calls_by turns stop.Budget n = refl
 
 pub no_memory_left : (rooms : Rooms) (p : ProgramTable) (start : Config Registers) (turns : ℕ) (told now : Traffic) (m : Machine) → StandsAt rooms p start told now m → IsRun (run_from rooms p start) turns e.NoMemory told now
 no_memory_left rooms p start turns told now m at = record {
@@ -75,25 +89,13 @@ module _ (rooms : Rooms) (start : Config Registers) (turns : ℕ) (told : Traffi
         taken = at.taken ∙ ap (λ o. option_map (λ bytes. bytes ++ o) told.taken) (sym g.same.output);
       }
 
-  stops_by : (s : Stop) (last : World) → EndsWith run (ending_by s last) → StopsAs run turns (stop_ending turns s) last
-  stops_by (stop.Exits status) last ends = ends
-  stops_by (stop.Traps code) last ends = ends
-  stops_by (stop.Undefined number) last ends = ends
-  stops_by stop.Budget last ends = (refl, ends)
-
-  calls_by : (s : Stop) (n : ℕ) → input_calls (stop_ending turns s) n ≡ n
-  calls_by (stop.Exits status) n = refl
-  calls_by (stop.Traps code) n = refl
-  calls_by (stop.Undefined number) n = refl
-  calls_by stop.Budget n = refl
-
   pub over : (now : Traffic) (s : Stop) → TurnIs m new (turn.Over s) (λ rs h. step_there rs m h) → StandsAt rooms p start told now m → IsRun run turns (stop_ending turns s) told now
   over now s t at =
       let ends : EndsBy rooms p (step_there rooms m at.hidden) s at.hidden = t.comes rooms at.hidden in record {
         last = ends.last;
-        stops = stops_by s ends.last (record { steps = at.steps + suc ends.steps; over = more at.steps ends.steps at.hidden at.reached ∙ ends.over });
+        stops = stops_by run turns s ends.last (record { steps = at.steps + suc ends.steps; over = more at.steps ends.steps at.hidden at.reached ∙ ends.over });
         left = at.left ∙ ap (λ x. Some x) (sym ends.shows.input);
-        made = at.made ∙ ap (λ n. option_map (count_plus n) told.made) (sym (calls_by s ends.last.outer.takings ∙ ends.shows.takings));
+        made = at.made ∙ ap (λ n. option_map (count_plus n) told.made) (sym (calls_by turns s ends.last.outer.takings ∙ ends.shows.takings));
         taken = at.taken ∙ ap (λ o. option_map (λ bytes. bytes ++ o) told.taken) (sym ends.shows.output);
       }
 

@@ -18,7 +18,7 @@ use Rattle.suifvm_run.specs.declared.machine.Stop.{Stop}
 use Rattle.suifvm_run.specs.declared.machine.Turn.TheVariants as turn
 use Rattle.suifvm_run.specs.model.Config.{Hidden, Wait, IsSound, TurnIs, Wrote, config_of, frame_of, frames_of, point_of, program_of, world_in, act_there, wrote, ending_by, ends_with}
 use Rattle.suifvm_run.specs.model.Tables.{block_insns}
-use Rattle.suifvm_run.specs.Tidy.{IsTidy}
+use Rattle.vm_operations.specs.Tidy.{IsTidy}
 use Rattle.suifvm_run.proofs.Sites.{sizes_are, site_there}
 use Rattle.suifvm_run.proofs.Turns.{number_here}
 

@@ -19,7 +19,7 @@ use Rattle.suifvm_run.specs.declared.machine.Stop.TheVariants as stop
 use Rattle.suifvm_run.specs.declared.machine.Turn.{Turn}
 use Rattle.suifvm_run.specs.declared.machine.Turn.TheVariants as turn
 use Rattle.suifvm_run.specs.model.Config.{Hidden, Wait, IsSound, SameTraffic, ShowsAs, Comes, TurnIs, Wrote, config_of, world_in, frames_of, point_of, program_of, act_there, at_block, ending_by, wrote}
-use Rattle.suifvm_run.specs.Tidy.{IsTidy}
+use Rattle.vm_operations.specs.Tidy.{IsTidy}
 use Rattle.suifvm_run.proofs.Sites.{number_there, number_past, site_past}
 
 pub unwaited : (let b : Bool = false in b ≡ true) → ⊥

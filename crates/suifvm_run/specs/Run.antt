@@ -1,11 +1,12 @@
 -- What a run of a program does, by its meaning.
-use Rattle.std.specs.Prelude.{◌≡◌, ℕ, zero, suc, ◌+◌, List, ◌++◌, [], ◌∷◌, Option, Some, option_map}
+use Rattle.std.specs.Prelude.{◌≡◌, ℕ, zero, suc, ◌+◌, List, ◌++◌, [], ◌∷◌, map, Option, Some, option_map}
 use Rattle.bk_io.specs.Outside.{next_count}
-use Rattle.mem_model.specs.World.{World}
-use Rattle.mem_model.specs.Ending.{Ending, Done, Trap, Undefined, More}
+use Rattle.mem_model.specs.World.{World, Rooms}
+use Rattle.mem_model.specs.Ending.{Done, Trap, Undefined, More}
 use Rattle.machine_model.specs.Laws.{next_world}
-use Rattle.machine_model.specs.Machine.{Config, Next, Goes, Over}
-use Rattle.vm_meaning.specs.Behave.{Registers}
+use Rattle.machine_model.specs.Machine.{Config, Next, Goes}
+use Rattle.suifvm_ir.specs.declared.program.VmProgram.{VmProgram}
+use Rattle.vm_meaning.specs.Behave.{Registers, behave_vm, vm_run, code_of, main_of, start_world}
 use Rattle.suifvm_run.specs.declared.ending.VmEnding.{VmEnding}
 use Rattle.suifvm_run.specs.declared.ending.VmEnding.TheVariants as e
 
@@ -22,11 +23,6 @@ input_calls _ takings = takings
 -- what so many steps of a run come to
 abbrev pub Steps : Type 0
 Steps = ℕ → Next Registers
-
--- a run is over after some number of steps
-pub record EndsWith (run : Steps) (e : Ending) : Type 0 where
-  pub steps : ℕ
-  pub over : run steps ≡ Over e
 
 -- a run goes on after some number of steps, in a world
 pub record GoesOn (run : Steps) (last : World) : Type 0 where
@@ -45,16 +41,22 @@ pub record PutsNext (run : Steps) (last : World) : Type 0 where
   pub byte : ℕ
   pub puts : (next_world (run (suc before.steps))).outer.output ≡ last.outer.output ++ byte ∷ []
 
--- How a run stops that had so many turns, in its last world: it is over; or a byte could not be taken or put, and it
--- stands before that step; or there was no memory, and it goes on
-abbrev pub StopsAs : Steps → (turns : ℕ) → VmEnding → (last : World) → Type 0
-StopsAs run turns (e.Ended status) last = EndsWith run (Done last status)
-StopsAs run turns (e.Trapped code) last = EndsWith run (Trap last code)
-StopsAs run turns (e.Undefined pc) last = EndsWith run (Undefined last pc)
-StopsAs run turns (e.Budget n) last = (n ≡ turns) × EndsWith run (More last)
-StopsAs run turns e.InputFault last = TakesNext run last
-StopsAs run turns e.WriteFault last = PutsNext run last
-StopsAs run turns e.NoMemory last = GoesOn run last
+-- the run of a program on an input with so many turns, from its start
+abbrev pub run_of : Rooms → VmProgram → (input : List ℕ) → (turns : ℕ) → Steps
+run_of rooms program input turns =
+    vm_run rooms (map code_of program.functions) (main_of program.functions)
+    (start_world program.globals input turns)
+
+-- How this run stops, in its last world: it is over, as the meaning of the program has it; or a byte could not be
+-- taken or put, and it stands before that step; or there was no memory, and it goes on
+abbrev pub Stops : Rooms → VmProgram → (input : List ℕ) → (turns : ℕ) → VmEnding → (last : World) → Type 0
+Stops rooms program input turns (e.Ended status) last = behave_vm rooms program input turns (Done last status)
+Stops rooms program input turns (e.Trapped code) last = behave_vm rooms program input turns (Trap last code)
+Stops rooms program input turns (e.Undefined pc) last = behave_vm rooms program input turns (Undefined last pc)
+Stops rooms program input turns (e.Budget n) last = (n ≡ turns) × behave_vm rooms program input turns (More last)
+Stops rooms program input turns e.InputFault last = TakesNext (run_of rooms program input turns) last
+Stops rooms program input turns e.WriteFault last = PutsNext (run_of rooms program input turns) last
+Stops rooms program input turns e.NoMemory last = GoesOn (run_of rooms program input turns) last
 
 -- what the input and the output tell
 pub record Traffic : Type 0 where
@@ -62,10 +64,11 @@ pub record Traffic : Type 0 where
   pub made : Option ℕ
   pub taken : Option (List ℕ)
 
--- a run that stopped: how, and what it did to the input and the output
-pub record IsRun (run : Steps) (turns : ℕ) (ending : VmEnding) (told after : Traffic) : Type 0 where
+-- the run of a program on an input with so many turns that stopped: how, and what it did to the input and the output
+pub record Behaves (rooms : Rooms) (program : VmProgram) (input : List ℕ) (turns : ℕ) (ending : VmEnding)
+    (told after : Traffic) : Type 0 where
   pub last : World
-  pub stops : StopsAs run turns ending last
+  pub stops : Stops rooms program input turns ending last
   pub left : after.left ≡ Some last.outer.input
   pub made : after.made ≡ option_map (count_plus (input_calls ending last.outer.takings)) told.made
   pub taken : after.taken ≡ option_map (λ bytes. bytes ++ last.outer.output) told.taken

@@ -1,6 +1,6 @@
-pub mod Words
 pub mod Tables
 pub mod Windows
 pub mod Config
+pub mod Stops
 pub mod Progress
 pub mod Begin

@@ -1,15 +1,15 @@
 //! The start of a run.
 
 ghost use Rattle.std.specs.Prelude.{◌≡◌, ◌≤◌, ◌^◌, length, IfOk, IfErr};
-ghost use Rattle.suifvm_run.specs.Tidy.{IsTidy};
+ghost use Rattle.vm_operations.specs.Tidy.{IsTidy};
 ghost use Rattle.suifvm_run.specs.model.Begin.{Begins, EndsAtOnce};
 ghost use Rattle.suifvm_run.specs.model.Tables.{AreNumbered};
 
 use crate::machine::{Call, Machine, Stop, Turn, block_at, function_at};
-use crate::objects::{MOST_OBJECTS, begin_objects};
 use crate::tables::ProgramTable;
 use mem_model::memory::Mem;
 use std::alloc::Global;
+use vm_operations::objects::{MOST_OBJECTS, begin_objects};
 
 /// A run at the start of a function without arguments, in a memory in which so many objects were made. Where there is
 /// none to go on with, what it came to.

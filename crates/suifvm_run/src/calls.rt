@@ -13,11 +13,11 @@ ghost use Rattle.vm_meaning.specs.Effect as effect;
 ghost use Rattle.vm_meaning.specs.Operations as operations;
 
 use crate::machine::{Call, Machine, Stop, Turn, block_at, function_at, register_in};
-use crate::numbers::is_value_of;
-use crate::objects::{MOST_OBJECTS, begin_objects, end_objects};
 use mem_model::value::Value;
 use std::alloc::AllocError;
 use suifvm_ir::insn::{Builtin, Callee, TypedRegister, VmInsn};
+use vm_operations::numbers::is_value_of;
+use vm_operations::objects::{MOST_OBJECTS, begin_objects, end_objects};
 
 /// Whether a value is set.
 fn is_set(value: Value) -> bool

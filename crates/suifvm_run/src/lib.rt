@@ -1,4 +1,7 @@
 //! The interpreter of programs over virtual registers.
+//!
+//! A program is put into tables (`indexing`), its objects of static storage are made, and a machine begins at `main`
+//! (`beginning`). Each step of it is one of the meaning (`step`). `specs/Run.antt` says what a run gives.
 #![tactic(auto)]
 
 mod beginning;
@@ -6,11 +9,10 @@ mod calls;
 pub mod ending;
 mod indexing;
 mod machine;
-pub mod numbers;
-pub mod objects;
-pub mod operators;
-pub mod pointers;
-mod run;
+pub mod run;
 mod step;
 mod steps;
 mod tables;
+
+pub use ending::VmEnding;
+pub use run::run_vm;

@@ -1,18 +1,32 @@
-//! Runs of a machine, with what they ask of the outside.
+//! Runs of programs, with what they ask of the outside.
 
-ghost use Rattle.std.specs.Prelude.{◌≡◌, ℕ, Option, IfNone, unwrap_or};
+ghost use Rattle.std.specs.Prelude.{◌≡◌, ◌<◌, ℕ, List, length, position, Option, Some, IfSome, IfNone, unwrap_or};
 ghost use Rattle.machine_model.specs.Machine.{Config};
 ghost use Rattle.mem_model.specs.World.{Rooms};
-ghost use Rattle.suifvm_run.specs.Run.{Traffic, IsRun, input_faults_after, output_faults_after};
+ghost use Rattle.suifvm_ir.specs.Programs as programs;
+ghost use Rattle.suifvm_run.specs.Run.{Traffic, Behaves, input_faults_after, output_faults_after};
+ghost use Rattle.suifvm_run.specs.model.Begin.{start_at};
 ghost use Rattle.suifvm_run.specs.model.Config as config;
 ghost use Rattle.suifvm_run.specs.model.Progress as progress;
-ghost use Rattle.vm_meaning.specs.Behave.{Registers};
+ghost use Rattle.suifvm_run.specs.model.Stops.{IsRun};
+ghost use Rattle.suifvm_run.specs.model.Tables.{AreNumbered};
+ghost use Rattle.vm_meaning.specs.Behave.{Registers, main_of};
 ghost use Rattle.vm_meaning.specs.Effect as effect;
+ghost use Rattle.vm_operations.specs.Tidy.{IsTidy};
 
+use crate::beginning::begin;
 use crate::ending::VmEnding;
+use crate::indexing::program_table;
 use crate::machine::{Machine, Stop, Turn};
+use crate::tables::ProgramTable;
 use bk_io::outside::{Sink, Source};
+use mem_model::memory::Mem;
 use mem_model::value::Value;
+use std::alloc::Global;
+use suifvm_ir::function::Func;
+use suifvm_ir::insn::VmInsn;
+use suifvm_ir::program::VmProgram;
+use vm_operations::start::start_memory;
 
 /// The ending of a run that had so many turns.
 fn ending_of(stop: Stop, turns: u64) -> VmEnding
@@ -99,4 +113,91 @@ impl<'c, 'p> Machine<'c, 'p> {
         }
         VmEnding::NoMemory
     }
+}
+
+/// Whether a function is the one where a program begins.
+fn is_main(function: &Func<VmInsn>) -> bool
+    ensures { result ≡ programs.is_main function.now }
+{
+    function.name.as_slice() == b"main".as_slice()
+}
+
+/// The place of the function `main`.
+fn main_place(functions: &[Func<VmInsn>]) -> Option<usize>
+    ensures place { result ≡ position programs.is_main functions.now }
+    ensures within { IfSome result (λ at. at < length functions.now) }
+{
+    functions.iter().position(|function| is_main(function))
+}
+
+/// The number of the function `main`.
+fn main_number(program: &VmProgram) -> u32
+    ensures { result ≡ main_of program.now.functions }
+{
+    match main_place(program.functions.as_slice()) {
+        Some(number) => number as u32,
+        None => 0,
+    }
+}
+
+/// Runs the function with a number, which takes no arguments, in a memory in which so many objects were made.
+fn run_table<I: Source, O: Sink>(
+    alloc: Global,
+    table: &ProgramTable<'_>,
+    main: u32,
+    memory: Mem,
+    made: u64,
+    input: &mut I,
+    out: &mut O,
+    turns: u64,
+) -> VmEnding
+    requires tidy { IsTidy memory }
+    requires made { made ≡ length memory }
+    requires numbers { AreNumbered 0 table.now.functions.items table.now.end }
+    ensures run { (rooms : Rooms) (bytes : List ℕ) → I.left input.old ≡ Some bytes →
+        IsRun (progress.run_from rooms table.now (start_at rooms table.now main memory turns bytes)) turns result
+        (record { left = I.left input.old; made = I.made input.old; taken = O.taken out.old })
+        (record { left = I.left input.new; made = I.made input.new; taken = O.taken out.new }) }
+    ensures input_count { I.faults input.new ≡ input_faults_after result (I.faults input.old) }
+    ensures output_count { O.faults out.new ≡ output_faults_after result (O.faults out.old) }
+{
+    match begin(alloc, table, main, memory, made, turns) {
+        Ok(begun) => {
+            let mut machine = begun;
+            machine.run(turns, input, out)
+        }
+        Err(Turn::Over(stop)) => ending_of(stop, turns),
+        Err(_) => VmEnding::NoMemory,
+    }
+}
+
+/// Runs a program with so many turns, on bytes of the input, to the output.
+///
+/// `Ended`, `Trapped` and `Undefined` are the ending that the meaning of the program has on these bytes with so many
+/// turns, whatever the rooms of its functions are, and `Budget` is its want of a turn. `InputFault` and `WriteFault`
+/// come where the input or the output failed, before the step that asked for it. The input is asked once for each
+/// call of `getchar`. `NoMemory` comes where memory is short, and after 2^64 - 1 steps.
+pub fn run_vm<I: Source, O: Sink>(
+    alloc: Global,
+    program: &VmProgram,
+    input: &mut I,
+    out: &mut O,
+    turns: u64,
+) -> VmEnding
+    ensures run { (rooms : Rooms) (bytes : List ℕ) → I.left input.old ≡ Some bytes →
+        Behaves rooms program.now bytes turns result
+        (record { left = I.left input.old; made = I.made input.old; taken = O.taken out.old })
+        (record { left = I.left input.new; made = I.made input.new; taken = O.taken out.new }) }
+    ensures input_count { I.faults input.new ≡ input_faults_after result (I.faults input.old) }
+    ensures output_count { O.faults out.new ≡ output_faults_after result (O.faults out.old) }
+{
+    let Ok(table) = program_table(alloc, program) else {
+        return VmEnding::NoMemory;
+    };
+    let Ok(memory) = start_memory(alloc, program.globals.as_slice()) else {
+        return VmEnding::NoMemory;
+    };
+    let main = main_number(program);
+    let made = program.globals.len() as u64;
+    run_table(alloc, &table, main, memory, made, input, out, turns)
 }

@@ -9,12 +9,12 @@ ghost use Rattle.vm_meaning.specs.Effect as effect;
 ghost use Rattle.vm_meaning.specs.Operations as operations;
 
 use crate::machine::{Machine, Stop, Turn};
-use crate::numbers::{convert, shift, unary, when_value};
-use crate::objects::load;
-use crate::operators::{binary, compare, value_holds};
 use mem_model::value::{Ptr, Value};
 use suifvm_ir::insn::{Place, VmInsn};
 use vm_meaning::answer::Answer;
+use vm_operations::numbers::{convert, shift, unary, when_value};
+use vm_operations::objects::load;
+use vm_operations::operators::{binary, compare, value_holds};
 
 /// Whether an instruction takes a turn.
 fn takes_turn(insn: &VmInsn) -> bool

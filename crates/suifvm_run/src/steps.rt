@@ -13,12 +13,12 @@ ghost use Rattle.vm_meaning.specs.Effect as effect;
 ghost use Rattle.vm_meaning.specs.Operations as operations;
 
 use crate::machine::{Call, Machine, Stop, Turn, block_at, register_in, set_register_in};
-use crate::objects::{copy, store};
 use mem_model::value::Value;
 use std::alloc::AllocError;
 use suifvm_ir::insn::{BranchOp, VmInsn};
 use suifvm_ir::types::{Alignment, MemoryType};
 use vm_meaning::answer::Answer;
+use vm_operations::objects::{copy, store};
 
 /// Whether a branch is taken where its test gives this.
 fn is_taken(op: BranchOp, test: bool) -> bool

@@ -18,7 +18,7 @@ use Rattle.suifvm_run.specs.declared.machine.Turn.{Turn}
 use Rattle.suifvm_run.specs.declared.machine.Turn.TheVariants as turn
 use Rattle.suifvm_run.specs.declared.tables.ProgramTable.{ProgramTable}
 use Rattle.suifvm_run.specs.model.Tables.{functions_of, AreNumbered}
-use Rattle.suifvm_run.specs.Tidy.{IsTidy}
+use Rattle.vm_operations.specs.Tidy.{IsTidy}
 
 -- ---- where it stands
 

@@ -3,7 +3,7 @@ use Rattle.std.proofs.Common.{◌≡◌, ◌≤◌, ◌+◌, ◌^◌, ◌∷◌,
 use Rattle.std.specs.Prelude.{slice_get}
 use Rattle.mem_model.specs.Memory.{begin_objects}
 use Rattle.vm_meaning.specs.Behave.{registers_of}
-use Rattle.suifvm_run.specs.Tidy.{IsTidy}
+use Rattle.vm_operations.specs.Tidy.{IsTidy}
 use Rattle.suifvm_run.proofs.Entries.{entered, no_function, no_block}
 use Rattle.suifvm_run.proofs.machine.Machine.enter.Goals as goal
 

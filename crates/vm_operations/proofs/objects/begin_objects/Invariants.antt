@@ -1,7 +1,7 @@
 use Rattle.std.proofs.Common.{◌≡◌, drop, map}
 use Rattle.mem_model.specs.Memory.{begin_objects}
-use Rattle.suifvm_run.specs.Tidy.{IsTidy}
-use Rattle.suifvm_run.proofs.objects.begin_objects.Given as goal
+use Rattle.vm_operations.specs.Tidy.{IsTidy}
+use Rattle.vm_operations.proofs.objects.begin_objects.Given as goal
 
 abbrev pub invariant-loop-object : goal.invariant-loop-object
 invariant-loop-object l =

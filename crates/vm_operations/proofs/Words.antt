@@ -9,7 +9,7 @@ use Rattle.suifvm_ir.specs.declared.insn.ShiftOp.{ShiftOp}
 use Rattle.vm_meaning.specs.declared.answer.Answer.{Answer}
 use Rattle.vm_meaning.specs.declared.answer.Answer.TheVariants.{Fails}
 use Rattle.vm_meaning.specs.Operations.{on_number, on_numbers, shift_number, shift_by}
-use Rattle.suifvm_run.specs.model.Words.{word_in}
+use Rattle.vm_operations.specs.model.Words.{word_in}
 
 -- an answer from a word, if there is one
 abbrev from_word : Option ℕ → (ℕ → Answer) → Answer

@@ -11,7 +11,7 @@ use Rattle.mem_model.specs.Memory.{Memory, Object, object_at, no_object, begin_o
 use Rattle.mem_model.specs.Laws.{ChangesCells, IsPut, BeginChanges, EndChanges}
 use Rattle.mem_model.proofs.Changes.{put_changes, store_puts, copy_puts}
 use Rattle.mem_model.proofs.Objects.{begin_changes, end_changes}
-use Rattle.suifvm_run.specs.Tidy.{IsTidy}
+use Rattle.vm_operations.specs.Tidy.{IsTidy}
 
 -- no object both lives and does not
 lives : (m : Memory) (p : Ptr) → is_gone m p ≡ false → (object_at m p.object).live ≡ true
@@ -37,19 +37,19 @@ changed m new id c live t = record {
   ];
 }
 
-put : (m new : Memory) (p : Ptr) (size : ℕ) (row : _) → IsPut m new p size row → IsTidy m → IsTidy new
-put m new p size row h t =
+pub put_tidy : (m new : Memory) (p : Ptr) (size : ℕ) (row : _) → IsPut m new p size row → IsTidy m → IsTidy new
+put_tidy m new p size row h t =
     changed m new p.object (subst (λ n. ChangesCells m n p.object) (sym h.is) (put_changes m p row h.can)) (lives m p h.can.live) t
 
 pub store_tidy : (m new : Memory) (p : Ptr) (width : ℕ) (v : Value) → IsWidth width → IsStorable width v → store_at m p width v ≡ Ok new → IsTidy m → IsTidy new
-store_tidy m new p width v wide storable is t = put m new p width (cells_of width v) (store_puts m new p width v wide storable is) t
+store_tidy m new p width v wide storable is t = put_tidy m new p width (cells_of width v) (store_puts m new p width v wide storable is) t
 
 pub store_count : (m new : Memory) (p : Ptr) (width : ℕ) (v : Value) → IsWidth width → IsStorable width v → store_at m p width v ≡ Ok new → length new ≡ length m
 store_count m new p width v wide storable is =
     let put = store_puts m new p width v wide storable is in ap length put.is ∙ (put_changes m p (cells_of width v) put.can).count
 
 pub copy_tidy : (m new : Memory) (to from : Ptr) (size align : ℕ) → copy_at m to from size align ≡ Ok new → IsTidy m → IsTidy new
-copy_tidy m new to from size align is t = put m new to size (row_at m from size) (copy_puts m new to from size align is) t
+copy_tidy m new to from size align is t = put_tidy m new to size (row_at m from size) (copy_puts m new to from size align is) t
 
 pub copy_count : (m new : Memory) (to from : Ptr) (size align : ℕ) → copy_at m to from size align ≡ Ok new → length new ≡ length m
 copy_count m new to from size align is =

@@ -1,7 +1,7 @@
 //! Operators on the values of registers of any type.
 
 ghost use Rattle.std.specs.Prelude.{◌≡◌, not, option_map, Some};
-ghost use Rattle.suifvm_run.specs.Tidy.{IsTidy};
+ghost use Rattle.vm_operations.specs.Tidy.{IsTidy};
 ghost use Rattle.vm_meaning.specs.Operations as operations;
 
 use crate::numbers::{binary_in, compare_in};

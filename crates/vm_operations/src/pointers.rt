@@ -5,7 +5,7 @@ ghost use Rattle.std.specs.Ordering.{int_eq};
 ghost use Rattle.mem_model.specs.Pointers as pointers;
 ghost use Rattle.c_arithmetic.specs.declared.integer_type.IntegerType.TheVariants.{Long};
 ghost use Rattle.c_arithmetic.specs.Words as words;
-ghost use Rattle.suifvm_run.specs.Tidy.{IsTidy};
+ghost use Rattle.vm_operations.specs.Tidy.{IsTidy};
 ghost use Rattle.vm_meaning.specs.Operations as operations;
 
 use mem_model::memory::Mem;
@@ -78,7 +78,7 @@ fn address_plus(memory: &Mem, p: Ptr, by: i64) -> Option<Ptr>
 }
 
 /// A pointer moved by so many bytes (C99 6.5.6).
-pub fn pointer_plus(memory: &Mem, value: Value, by: i64) -> Option<Value>
+pub(crate) fn pointer_plus(memory: &Mem, value: Value, by: i64) -> Option<Value>
     requires { IsTidy memory.now }
     ensures { result ≡ pointers.pointer_plus memory.now value by }
 {
@@ -134,7 +134,7 @@ fn sum(memory: &Mem, a: Value, b: Value) -> Answer
 }
 
 /// An operation on two registers of pointers.
-pub fn pointer_answer(memory: &Mem, op: BinaryOp, a: Value, b: Value) -> Answer
+pub(crate) fn pointer_answer(memory: &Mem, op: BinaryOp, a: Value, b: Value) -> Answer
     requires { IsTidy memory.now }
     ensures { result ≡ operations.pointer_answer memory.now op a b }
 {
@@ -189,7 +189,7 @@ fn pointer_le(memory: &Mem, a: Value, b: Value) -> Option<bool>
 }
 
 /// Whether a pointer is null (C99 6.3.2.3).
-pub fn is_null(memory: &Mem, value: Value) -> Option<bool>
+pub(crate) fn is_null(memory: &Mem, value: Value) -> Option<bool>
     ensures { result ≡ pointers.is_null memory.now value }
 {
     match value {
@@ -250,7 +250,7 @@ fn pointer_eq(memory: &Mem, a: Value, b: Value) -> Option<bool>
 }
 
 /// Turns an answer round.
-pub fn negated(test: Option<bool>) -> Option<bool>
+pub(crate) fn negated(test: Option<bool>) -> Option<bool>
     ensures { result ≡ option_map not test }
 {
     match test {
@@ -260,7 +260,7 @@ pub fn negated(test: Option<bool>) -> Option<bool>
 }
 
 /// A comparison of two registers of pointers.
-pub fn compare_pointer(memory: &Mem, op: CompareOp, a: Value, b: Value) -> Option<bool>
+pub(crate) fn compare_pointer(memory: &Mem, op: CompareOp, a: Value, b: Value) -> Option<bool>
     ensures { result ≡ operations.compare_pointer memory.now op a b }
 {
     match op {

@@ -1,7 +1,7 @@
 use Rattle.std.proofs.Common.{◌≡◌, ◌+◌, ◌-◌}
 use Rattle.mem_model.specs.Memory.{end_objects}
-use Rattle.suifvm_run.specs.Tidy.{IsTidy}
-use Rattle.suifvm_run.proofs.objects.end_objects.Given as goal
+use Rattle.vm_operations.specs.Tidy.{IsTidy}
+use Rattle.vm_operations.proofs.objects.end_objects.Given as goal
 
 abbrev pub invariant-loop-k : goal.invariant-loop-k
 invariant-loop-k l =

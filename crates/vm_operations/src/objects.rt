@@ -1,10 +1,10 @@
 //! What instructions do with memory: loads, stores and copies, and the objects of a call.
 
-ghost use Rattle.std.specs.Prelude.{◌≡◌, ◌+◌, ◌<◌, ◌≤◌, ◌^◌, true, map, length, OnOk, Some, None, if◌then◌else◌};
+ghost use Rattle.std.specs.Prelude.{◌≡◌, ◌+◌, ◌<◌, ◌≤◌, ◌^◌, true, map, length, IfOk, OnOk, Some, None, if◌then◌else◌};
 ghost use Rattle.std.specs.Bool.{OnFalse};
 ghost use Rattle.mem_model.specs.Memory as mem;
 ghost use Rattle.suifvm_ir.specs.Programs as programs;
-ghost use Rattle.suifvm_run.specs.Tidy.{IsTidy};
+ghost use Rattle.vm_operations.specs.Tidy.{IsTidy};
 ghost use Rattle.vm_meaning.specs.Operations as operations;
 
 use crate::numbers::memory_integer;
@@ -21,7 +21,7 @@ use vm_meaning::answer::Answer;
 const MOST_CELLS: u64 = 1 << 63;
 
 /// The number of objects from which on no more are made.
-pub(crate) const MOST_OBJECTS: u64 = 1 << 63;
+pub const MOST_OBJECTS: u64 = 1 << 63;
 
 /// The bytes of an access.
 fn access_bytes(ty: Option<IntegerType>) -> u32
@@ -178,18 +178,19 @@ pub fn copy(memory: &mut Mem, to: Value, from: Value, size: u64, align: Alignmen
     }
 }
 
-/// Makes an object of so many cells. Where memory is short, the memory is as before.
+/// Makes an object of so many cells, and answers its number: how many there were. Where memory is short, the memory is
+/// as before.
 #[tactic(auto, using(crate::proofs::Tidiness::begin_tidy))]
-fn begin_object(memory: &mut Mem, size: u64, writable: bool) -> Result<(), AllocError>
+pub(crate) fn begin_object(memory: &mut Mem, size: u64, writable: bool) -> Result<u64, AllocError>
     requires { IsTidy memory.old }
+    ensures number { IfOk result (λ id. id ≡ length memory.old) }
     ensures ok { OnOk result (memory.new ≡ mem.begin_object memory.old size writable) }
     ensures tidy { IsTidy memory.new }
 {
     if size >= MOST_CELLS {
         return Err(AllocError);
     }
-    memory.alloc_object(size, writable)?;
-    Ok(())
+    memory.alloc_object(size, writable)
 }
 
 /// Makes the objects of a call. Where memory is short, some are made.

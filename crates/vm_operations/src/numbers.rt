@@ -1,7 +1,7 @@
 //! What operators do with the values of registers that hold numbers.
 
 ghost use Rattle.std.specs.Prelude.{◌≡◌, Option, Some, None};
-ghost use Rattle.suifvm_run.specs.model.Words as words;
+ghost use Rattle.vm_operations.specs.model.Words as words;
 ghost use Rattle.vm_meaning.specs.Operations as operations;
 
 use c_arithmetic::comparison::truth;
@@ -13,7 +13,7 @@ use suifvm_ir::types::{MemoryType, VmType};
 use vm_meaning::answer::Answer;
 
 /// The integer type of a register; that of a pointer is none.
-pub fn integer_of(ty: VmType) -> Option<IntegerType>
+pub(crate) fn integer_of(ty: VmType) -> Option<IntegerType>
     ensures { result ≡ operations.integer_of ty }
 {
     match ty {
@@ -26,7 +26,7 @@ pub fn integer_of(ty: VmType) -> Option<IntegerType>
 }
 
 /// The integer type of memory; that of a pointer is none.
-pub fn memory_integer(ty: MemoryType) -> Option<IntegerType>
+pub(crate) fn memory_integer(ty: MemoryType) -> Option<IntegerType>
     ensures { result ≡ operations.memory_integer ty }
 {
     match ty {
@@ -185,7 +185,7 @@ fn word_in(t: IntegerType, value: Value) -> Option<u64>
 
 /// An operation on two registers of numbers.
 #[tactic(auto, using(crate::proofs::Words::on_two, crate::proofs::Words::on_first, crate::proofs::Words::on_second))]
-pub fn binary_in(op: BinaryOp, t: IntegerType, a: Value, b: Value) -> Answer
+pub(crate) fn binary_in(op: BinaryOp, t: IntegerType, a: Value, b: Value) -> Answer
     ensures { result ≡ operations.on_numbers (Some t) a b (operations.binary_number op) }
 {
     let Some(first) = word_in(t, a) else {
@@ -272,7 +272,7 @@ pub fn shift(op: ShiftOp, ty: VmType, value: Value, count: Value) -> Answer
 
 /// A comparison of two registers of numbers.
 #[tactic(auto, using(crate::proofs::Words::on_two, crate::proofs::Words::on_first, crate::proofs::Words::on_second))]
-pub fn compare_in(op: CompareOp, t: IntegerType, a: Value, b: Value) -> Answer
+pub(crate) fn compare_in(op: CompareOp, t: IntegerType, a: Value, b: Value) -> Answer
     ensures { result ≡ operations.on_numbers (Some t) a b (operations.compared op) }
 {
     let Some(first) = word_in(t, a) else {

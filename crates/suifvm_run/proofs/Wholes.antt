@@ -1,0 +1,119 @@
+-- Runs of whole programs.
+use Rattle.std.proofs.Common.{◌≡◌, ℕ, List, [], ◌++◌, map, Option, Some, None, option_map, refl, sym, ap, ◌∙◌, subst}
+use Rattle.std.proofs.lemmas.List.{append-nil}
+use Rattle.mem_model.specs.declared.value.Value.{Value}
+use Rattle.mem_model.specs.Memory.{Memory}
+use Rattle.mem_model.specs.World.{World, Rooms, meter_of}
+use Rattle.machine_model.specs.Machine.{Config, Goes, start}
+use Rattle.data_object.specs.Start.{start_memory}
+use Rattle.suifvm_ir.specs.declared.program.VmProgram.{VmProgram}
+use Rattle.vm_meaning.specs.Behave.{Registers, code_of, main_of, vm_code, vm_run, start_world}
+use Rattle.suifvm_run.specs.declared.ending.VmEnding.{VmEnding}
+use Rattle.suifvm_run.specs.declared.ending.VmEnding.TheVariants as e
+use Rattle.suifvm_run.specs.declared.machine.Machine.{Machine}
+use Rattle.suifvm_run.specs.declared.machine.Stop.{Stop}
+use Rattle.suifvm_run.specs.declared.machine.Turn.TheVariants as turn
+use Rattle.suifvm_run.specs.declared.tables.ProgramTable.{ProgramTable}
+use Rattle.suifvm_run.specs.Run.{Steps, Traffic, Behaves, Stops, run_of, count_plus}
+use Rattle.suifvm_run.specs.model.Begin.{start_at, first_hidden, Begins, EndsAtOnce, IsOverAtOnce}
+use Rattle.suifvm_run.specs.model.Progress.{run_from, StandsAt, stop_ending}
+use Rattle.suifvm_run.specs.model.Stops.{IsRun, StopsAs}
+use Rattle.suifvm_run.specs.model.Tables.{functions_of}
+use Rattle.suifvm_run.proofs.Progress.{stops_by, calls_by}
+
+-- what a run tells that did nothing
+uncounted : (made : Option ℕ) → made ≡ option_map (count_plus 0) made
+uncounted None = refl
+uncounted (Some n) = refl
+
+unwritten : (taken : Option (List ℕ)) → taken ≡ option_map (λ bytes. bytes ++ []) taken
+unwritten None = refl
+unwritten (Some bytes) = ap (λ x. Some x) (sym (append-nil bytes))
+
+module _ (p : ProgramTable) (main turns : ℕ) (memory : Memory) (rooms : Rooms) (input : List ℕ) (told : Traffic)
+    (left : told.left ≡ Some input)
+  where
+    abbrev first : Config Registers
+    first = start_at rooms p main memory turns input
+
+    abbrev run : Steps
+    run = run_from rooms p first
+
+    -- a machine that began runs on
+    pub began : (after : Traffic) (m : Machine) (ending : VmEnding) → Begins p main memory turns m → ((rs : Rooms) (start : Config Registers) (before : Traffic) → StandsAt rs m.program.now start before told m → IsRun (run_from rs m.program.now start) turns ending before after) → IsRun run turns ending told after
+    began after m ending b goes = subst (λ q. IsRun (run_from rooms q first) turns ending told after) b.program (goes rooms first told (record {
+      hidden = first_hidden rooms main input;
+      steps = 0;
+      reached = ap (λ k. Goes k) (b.config rooms input);
+      left = left;
+      made = uncounted told.made;
+      taken = unwritten told.taken;
+    }))
+
+    -- the first step ended the run
+    pub ended_at_once : (s : Stop) → EndsAtOnce p main memory turns (turn.Over s) → IsRun run turns (stop_ending turns s) told told
+    ended_at_once s ends =
+        let over : IsOverAtOnce rooms p main memory turns input s = ends rooms input in record {
+          last = over.last;
+          stops = stops_by run turns s over.last (record { steps = 1; over = over.over });
+          left = left ∙ ap (λ x. Some x) (sym over.shows.input);
+          made = uncounted told.made ∙ ap (λ n. option_map (count_plus n) told.made) (sym (calls_by turns s over.last.outer.takings ∙ over.shows.takings));
+          taken = unwritten told.taken ∙ ap (λ o. option_map (λ bytes. bytes ++ o) told.taken) (sym over.shows.output);
+        }
+
+    -- nothing was done
+    pub nothing_done : IsRun run turns e.NoMemory told told
+    nothing_done = record {
+      last = first.world;
+      stops = record { steps = 0; config = first; goes = refl; world = refl };
+      left = left;
+      made = uncounted told.made;
+      taken = unwritten told.taken;
+    }
+
+-- ---- programs
+
+abbrev world_with : Memory → (input : List ℕ) → (turns : ℕ) → World
+world_with memory input turns = record {
+  outer = record { memory = memory; input = input; takings = 0; output = [] };
+  meter = meter_of turns;
+}
+
+stops_of : (rooms : Rooms) (program : VmProgram) (input : List ℕ) (turns : ℕ) (ending : VmEnding) (last : World) → StopsAs (run_of rooms program input turns) turns ending last → Stops rooms program input turns ending last
+stops_of rooms program input turns (e.Ended status) last s = record { steps = s.steps; over = s.over }
+stops_of rooms program input turns (e.Trapped code) last s = record { steps = s.steps; over = s.over }
+stops_of rooms program input turns (e.Undefined pc) last s = record { steps = s.steps; over = s.over }
+stops_of rooms program input turns (e.Budget n) last s = (s.0, record { steps = s.1.steps; over = s.1.over })
+stops_of rooms program input turns e.InputFault last s = s
+stops_of rooms program input turns e.WriteFault last s = s
+stops_of rooms program input turns e.NoMemory last s = s
+
+behaves : (rooms : Rooms) (program : VmProgram) (input : List ℕ) (turns : ℕ) (ending : VmEnding) (told after : Traffic) → IsRun (run_of rooms program input turns) turns ending told after → Behaves rooms program input turns ending told after
+behaves rooms program input turns ending told after r = record {
+  last = r.last;
+  stops = stops_of rooms program input turns ending r.last r.stops;
+  left = r.left;
+  made = r.made;
+  taken = r.taken;
+}
+
+-- the run of the tables of a program, in the memory that it starts with, is its run
+pub whole : (p : ProgramTable) (program : VmProgram) (main : ℕ) (memory : Memory) (rooms : Rooms) (input : List ℕ) (turns : ℕ) (ending : VmEnding) (told after : Traffic) → functions_of p ≡ map code_of program.functions → memory ≡ start_memory program.globals → main ≡ main_of program.functions → IsRun (run_from rooms p (start_at rooms p main memory turns input)) turns ending told after → Behaves rooms program input turns ending told after
+whole p program main memory rooms input turns ending told after functions objects number r =
+    behaves rooms program input turns ending told after
+    (subst (λ fs. IsRun (vm_run rooms fs (main_of program.functions) (world_with (start_memory program.globals) input turns)) turns ending told after) functions
+    (subst (λ n. IsRun (vm_run rooms (functions_of p) n (world_with (start_memory program.globals) input turns)) turns ending told after) number
+    (subst (λ x. IsRun (vm_run rooms (functions_of p) main (world_with x input turns)) turns ending told after) objects r)))
+
+-- without memory for its tables or objects it is at its start
+pub not_begun : (program : VmProgram) (rooms : Rooms) (input : List ℕ) (turns : ℕ) (told : Traffic) → told.left ≡ Some input → Behaves rooms program input turns e.NoMemory told told
+not_begun program rooms input turns told left = record {
+  last = (first_of program).world;
+  stops = record { steps = 0; config = first_of program; goes = refl; world = refl };
+  left = left;
+  made = uncounted told.made;
+  taken = unwritten told.taken;
+}
+  where
+    first_of : VmProgram → Config Registers
+    first_of q = start Value Registers rooms (vm_code (map code_of q.functions)) (main_of q.functions) (start_world q.globals input turns)

@@ -1,0 +1,30 @@
+-- A run that began, ended at once, or did not begin.
+use Rattle.std.proofs.Common.{◌≡◌, refl, sym, subst, rules}
+use Rattle.suifvm_run.specs.declared.machine.Turn.TheVariants as turn
+use Rattle.suifvm_run.specs.model.Begin.{start_at, EndsAtOnce}
+use Rattle.suifvm_run.specs.model.Progress.{run_from}
+use Rattle.suifvm_run.specs.model.Stops.{IsRun}
+use Rattle.suifvm_run.proofs.Wholes.{began, ended_at_once, nothing_done}
+use Rattle.suifvm_run.proofs.run.run_table.Goals as goal
+
+pub returns-in-Ok-clause-run : goal.returns-in-Ok-clause-run
+returns-in-Ok-clause-run g c rooms bytes left =
+    began c.args.table.now c.args.main c.args.turns c.args.memory rooms bytes (record { left = g.I.Source.left c.args.input.now; made = g.I.Source.made c.args.input.now; taken = g.O.Sink.taken c.args.out.now }) left
+    (record { left = g.I.Source.left c.run.new.input; made = g.I.Source.made c.run.new.input; taken = g.O.Sink.taken c.run.new.out })
+    c.in-Ok.begun c.run.result c.in-Ok.ensures.begins c.run.ensures.run
+
+pub returns-in-Err-Over-clause-run : goal.returns-in-Err-Over-clause-run
+returns-in-Err-Over-clause-run g c rooms bytes left =
+    let over : c.in-Err-Over.field-0 ≡ turn.Over c.in-Err-Over.stop = search rules in
+    subst (λ e. IsRun (run_from rooms c.args.table.now (start_at rooms c.args.table.now c.args.main c.args.memory c.args.turns bytes)) c.args.turns e
+    (record { left = g.I.Source.left c.args.input.now; made = g.I.Source.made c.args.input.now; taken = g.O.Sink.taken c.args.out.now })
+    (record { left = g.I.Source.left c.args.input.now; made = g.I.Source.made c.args.input.now; taken = g.O.Sink.taken c.args.out.now }))
+    (sym c.ending_of.ensures)
+    (ended_at_once c.args.table.now c.args.main c.args.turns c.args.memory rooms bytes (record { left = g.I.Source.left c.args.input.now; made = g.I.Source.made c.args.input.now; taken = g.O.Sink.taken c.args.out.now }) left c.in-Err-Over.stop (subst (λ t. EndsAtOnce c.args.table.now c.args.main c.args.memory c.args.turns t) over c.in-Err-Over.ensures.ends))
+
+pub returns-in-Err : goal.returns-in-Err
+returns-in-Err g c = record {
+  run = λ rooms bytes left. nothing_done c.args.table.now c.args.main c.args.turns c.args.memory rooms bytes (record { left = g.I.Source.left c.args.input.now; made = g.I.Source.made c.args.input.now; taken = g.O.Sink.taken c.args.out.now }) left;
+  input_count = refl;
+  output_count = refl;
+}

@@ -1,0 +1,11 @@
+-- The zeros so far are put.
+use Rattle.std.proofs.Common.{◌≤◌, ◌-◌, replicate}
+use Rattle.mem_model.specs.declared.value.Cell.TheVariants as cell
+use Rattle.vm_operations.specs.model.Fills.{Adds}
+use Rattle.vm_operations.proofs.start.put_zeros.Given as goal
+
+abbrev pub invariant-loop-at : goal.invariant-loop-at
+invariant-loop-at l = record {
+  order : l.first ≤ l.at;
+  adds : Adds l.initial.memory l.memory l.object l.first (replicate (l.at - l.first) (cell.Byte 0));
+}
