@@ -1,5 +1,6 @@
 -- What is compiled behaves as its text.
-use Rattle.std.proofs.Common.{◌≡◌, ℕ, ◌≤◌, List, ◌∷◌, ◌++◌, inl, inr, length, refl, sym, ◌∙◌, ap, subst, arith, length-append, length-take, Option, Some, None, IfSome}
+use Rattle.std.proofs.Common.{◌≡◌, ℕ, ◌≤◌, List, ◌∷◌, ◌++◌, inl, inr, length, refl, sym, ◌∙◌, ap, subst, arith, length-append, length-take, Option, Some, None, IfSome, Result, Ok, Err}
+use Rattle.std.specs.Prelude.{IsErrAnd}
 use Rattle.std.proofs.lemmas.List.{length-map}
 use Rattle.std.specs.Prelude.{codes}
 use Rattle.c_mean.specs.Small.{Expression, SmallUnit, IsSmall, ArePuts, written_by, status_of, meaning}
@@ -27,6 +28,11 @@ pub few_puts : (text : List ℕ) (u : SmallUnit) (puts : List ℕ) → IsSmall t
 few_puts text u puts small e =
     let behind : List ℕ = codes "return " ++ (small.result ++ (codes ";}" ++ small.end)) in
     omega (arith, puts-le small.puts u.puts small.are_puts, small.within, ap length small.whole, length-append small.puts behind, simp length-map at (ap length e))
+
+-- a refusal that is handed on refuses what it refused
+pub form_raised : {A : Type 0} (P : Type 0) (r : Result A ReadFault) (f : ReadFault) → (f ≡ read.Form → P) → IsErrAnd r (λ e. e ≡ f) → r ≡ Err read.Form → P
+form_raised P (Ok a) f h is form = absurd is
+form_raised P (Err e) f h is form = let same : e ≡ read.Form = cc in h (sym is ∙ same)
 
 -- the image of what was read is the one of the program, and behaves as it
 pub compiled : (text : List ℕ) (u : SmallUnit) (puts : List ℕ) (status : ℕ) (p : Program) → IsSmall text u → puts ≡ written_by u → status ≡ status_of u → p ≡ small_program puts status → IsCompiled text p

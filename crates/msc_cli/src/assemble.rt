@@ -1,9 +1,9 @@
 //! The command `assemble`: an assembly text in, the bytes of its image out.
 
-ghost use Rattle.std.specs.Prelude.{◌≡◌, ◌≢◌, ◌↔◌, ◌≤◌, length, IfSome, IfErr, IfOk, Some, IsTrue, option_map};
+ghost use Rattle.std.specs.Prelude.{◌≡◌, ◌≢◌, ◌↔◌, ◌≤◌, ◌<◌, length, IfSome, IfErr, IfOk, Some, IsTrue, option_map};
 ghost use Rattle.bk_io.specs.Shelf.{is_due, after_call};
 ghost use Rattle.msc_cli.specs.FromFile.{IsCause, text_of};
-ghost use Rattle.msc_cli.specs.Limits.{most_assembly};
+ghost use Rattle.msc_cli.specs.Limits.{most_assembly, assembly_limit};
 ghost use Rattle.msc_cli.specs.model.Causes as spec;
 ghost use Rattle.msc_cli.specs.AssembleText.{IsAssembled, RefusesAssembly, Assembles};
 ghost use Rattle.msc_cli.specs.Output.{file_faults_after, output_faults_after};
@@ -69,6 +69,7 @@ fn assemble_text<O: Sink>(alloc: Global, text: &[u8], out: &mut O) -> Outcome
     ensures count { O.faults out.new ≡ output_faults_after result (O.faults out.old) }
     ensures no_file { result ≢ Outcome.FileFault }
     ensures no_input { result ≢ Outcome.InputFault }
+    ensures long { most_assembly < length text.now → result ≡ Outcome.Limit Which.Text assembly_limit }
 {
     if text.len() as u64 >= ASSEMBLY_LIMIT {
         return Outcome::Limit {

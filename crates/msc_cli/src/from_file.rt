@@ -80,11 +80,7 @@ fn compile(alloc: Global, text: &[u8]) -> Result<Image, ReadFault>
     ensures compiled { IfOk result (IsCompiled text.now) }
     ensures form { IsErrOf result ReadFault.Form → IsRefused text.now }
 {
-    let small = match read_small(alloc, text) {
-        Ok(small) => small,
-        Err(ReadFault::Form) => return Err(ReadFault::Form),
-        Err(ReadFault::NoMemory) => return Err(ReadFault::NoMemory),
-    };
+    let small = read_small(alloc, text)?;
     match small_image(alloc, &small) {
         Ok(image) => Ok(image),
         Err(_) => Err(ReadFault::NoMemory),

@@ -1,9 +1,10 @@
 //! The command `print`: a C file in, the text of its syntax tree out.
 
-ghost use Rattle.std.specs.Prelude.{◌≡◌, ◌≢◌, ◌↔◌, IfSome, IfErr, IfOk, Some, IsTrue, option_map};
+ghost use Rattle.std.specs.Prelude.{◌≡◌, ◌≢◌, ◌↔◌, ◌<◌, length, IfSome, IfErr, IfOk, Some, IsTrue, option_map};
 ghost use Rattle.bk_io.specs.Shelf.{is_due, after_call};
 ghost use Rattle.msc_cli.specs.FromFile.{text_of};
 ghost use Rattle.msc_cli.specs.model.Causes.{outcome_of_parse_fault};
+ghost use Rattle.msc_cli.specs.Limits.{most_source, source_limit};
 ghost use Rattle.msc_cli.specs.PrintTree.{WritesTree, Prints};
 ghost use Rattle.msc_cli.specs.Output.{file_faults_after, output_faults_after};
 
@@ -54,6 +55,7 @@ fn print_text<O: Sink>(alloc: Global, text: &[u8], out: &mut O) -> Outcome
     ensures count { O.faults out.new ≡ output_faults_after result (O.faults out.old) }
     ensures no_file { result ≢ Outcome.FileFault }
     ensures no_input { result ≢ Outcome.InputFault }
+    ensures long { most_source < length text.now → result ≡ Outcome.Limit Which.Text source_limit }
 {
     if text.len() as u64 >= SOURCE_LIMIT {
         return Outcome::Limit {

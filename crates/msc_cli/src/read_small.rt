@@ -1,7 +1,7 @@
 //! Reads a text of the small form, and computes what its program does.
 
-ghost use Rattle.std.specs.Prelude.{◌≡◌, IfOk, IsErrOf, OnOk, OnErr, []};
-ghost use Rattle.c_mean.specs.Small.{SmallUnit, IsSmall, written_by, status_of};
+ghost use Rattle.std.specs.Prelude.{◌≡◌, ◌≤◌, ◌<◌, length, true, false, IfOk, IfErr, IsErrOf, OnOk, OnErr, []};
+ghost use Rattle.c_mean.specs.Small.{SmallUnit, IsSmall, most_text, written_by, status_of};
 ghost use Rattle.c_mean.specs.model.SmallModel.{values};
 ghost use Rattle.c_mean.specs.model.SmallModel as model;
 
@@ -41,10 +41,21 @@ pub fn read_small(alloc: Global, text: &[u8]) -> Result<Small, ReadFault>
         (small.puts.items ≡ written_by u) × (small.status ≡ status_of u)) }
     ensures form { IsErrOf result ReadFault.Form → (u : SmallUnit) → IsSmall text.now u → ⊥ }
 {
-    if text.len() > MOST_TEXT {
-        return Err(ReadFault::Form);
-    }
+    within_limit(text)?;
     read_unit(alloc, &mut Cursor::new(text))
+}
+
+/// Refuses a text that is too long.
+fn within_limit(text: &[u8]) -> Result<(), ReadFault>
+    ensures within { OnOk result (length text.now ≤ most_text) }
+    ensures long { OnErr result (most_text < length text.now) }
+    ensures fault { IfErr result (λ fault. fault ≡ ReadFault.Form) }
+{
+    if text.len() > MOST_TEXT {
+        Err(ReadFault::Form)
+    } else {
+        Ok(())
+    }
 }
 
 /// Reads a text however long it is.
@@ -59,9 +70,7 @@ fn read_unit(alloc: Global, text: &mut Cursor<'_>) -> Result<Small, ReadFault>
     expect(text, b"return ")?;
     let status = low_byte(text)?;
     expect(text, b";}")?;
-    if !text.is_at_end() {
-        return Err(ReadFault::Form);
-    }
+    expect_end(text)?;
     Ok(Small { puts, status })
 }
 
@@ -83,9 +92,12 @@ fn read_puts(alloc: Global, text: &mut Cursor<'_>) -> Result<Vec<u8>, ReadFault>
 fn low_byte(text: &mut Cursor<'_>) -> Result<u8, ReadFault>
     ensures found { IfOk result (λ byte. model.whole_expression values text.old ≡ Some (byte, text.new)) }
     ensures form { OnErr result (model.whole_expression values text.old ≡ None) }
+    ensures fault { IfErr result (λ fault. fault ≡ ReadFault.Form) }
 {
-    let value = expression(text, MOST_NESTING).ok_or(ReadFault::Form)?;
-    Ok((value.cast_unsigned() % 256) as u8)
+    match expression(text, MOST_NESTING) {
+        Some(value) => Ok((value.cast_unsigned() % 256) as u8),
+        None => Err(ReadFault::Form),
+    }
 }
 
 /// Reads the word.
@@ -93,8 +105,22 @@ fn low_byte(text: &mut Cursor<'_>) -> Result<u8, ReadFault>
 fn expect(text: &mut Cursor<'_>, word: &[u8]) -> Result<(), ReadFault>
     ensures found { OnOk result (model.word word.now text.old ≡ Some (tt, text.new)) }
     ensures form { OnErr result (model.word word.now text.old ≡ None) }
+    ensures fault { IfErr result (λ fault. fault ≡ ReadFault.Form) }
 {
     if text.skip(word) {
+        Ok(())
+    } else {
+        Err(ReadFault::Form)
+    }
+}
+
+/// Refuses a text of which more than a line feed is left.
+fn expect_end(text: &Cursor<'_>) -> Result<(), ReadFault>
+    ensures end { OnOk result (model.is_end text.now ≡ true) }
+    ensures form { OnErr result (model.is_end text.now ≡ false) }
+    ensures fault { IfErr result (λ fault. fault ≡ ReadFault.Form) }
+{
+    if text.is_at_end() {
         Ok(())
     } else {
         Err(ReadFault::Form)

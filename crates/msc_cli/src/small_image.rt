@@ -2,6 +2,7 @@
 
 ghost use Rattle.std.specs.Prelude.{◌≡◌, ◌+◌, ◌<◌, ◌≤◌, ◌++◌, IfOk, OnOk, map, length};
 ghost use Rattle.alpha_isa.specs.Words.{word_of};
+ghost use Rattle.c_mean.specs.Small.{most_text};
 ghost use Rattle.msc_cli.specs.SmallImage as spec;
 ghost use Rattle.msc_cli.specs.SmallImage.{service_call, small_program};
 
@@ -21,7 +22,7 @@ const SERVICE: u32 = 0x83;
 
 /// The image that puts the bytes of a small program, and ends with its status.
 pub fn small_image(alloc: Global, small: &Small) -> Result<Image, AllocError>
-    requires { length small.now.puts.items ≤ 4096 }
+    requires { length small.now.puts.items ≤ most_text }
     ensures { IfOk result (λ image. image ≡ small_program small.now.puts.items small.now.status) }
 {
     let mut words = Vec::new(alloc);
