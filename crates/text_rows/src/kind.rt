@@ -1,6 +1,6 @@
 //! The kinds of rows, each with its file.
 
-use crate::{calls, outcomes, places, tokens, trees};
+use crate::{places, tokens, trees};
 use anyhow::Result;
 use row_sheets::Table;
 use std::alloc::Global;
@@ -16,13 +16,10 @@ pub enum Kind {
     Places,
     Nesting,
     Depth,
-    Outcomes,
-    Programs,
-    Calls,
 }
 
 /// The kinds in the order in which they are checked.
-pub const KINDS: [Kind; 11] = [
+pub const KINDS: [Kind; 8] = [
     Kind::Tokens,
     Kind::TokenKinds,
     Kind::MarkPairs,
@@ -31,9 +28,6 @@ pub const KINDS: [Kind; 11] = [
     Kind::Places,
     Kind::Nesting,
     Kind::Depth,
-    Kind::Outcomes,
-    Kind::Programs,
-    Kind::Calls,
 ];
 
 impl Table for Kind {
@@ -47,9 +41,6 @@ impl Table for Kind {
             Kind::Places => "places.rows",
             Kind::Nesting => "nesting.rows",
             Kind::Depth => "depth.rows",
-            Kind::Outcomes => "outcomes.rows",
-            Kind::Programs => "programs.rows",
-            Kind::Calls => "calls.rows",
         }
     }
 
@@ -62,9 +53,6 @@ impl Table for Kind {
             Kind::Places => places::answer(alloc, given),
             Kind::Nesting => trees::nesting(alloc, given),
             Kind::Depth => trees::is_read(alloc, given),
-            Kind::Outcomes => outcomes::answer(alloc, given),
-            Kind::Programs => calls::run(alloc, given),
-            Kind::Calls => calls::answer(alloc, given),
         }
     }
 }

@@ -1,6 +1,6 @@
 use Rattle.std.proofs.Common.{ℕ}
 use Rattle.bk_ilist.specs.Listing.{HasId}
-use Rattle.machine_rows.proofs.lists.is_in.Given as goal
+use Rattle.value_rows.proofs.lists.is_in.Given as goal
 
 -- each id among the pairs that are left is the list's
 abbrev pub invariant-loop-other : goal.invariant-loop-other

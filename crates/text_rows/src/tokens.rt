@@ -1,12 +1,10 @@
 //! Texts with their tokens.
 
+use crate::trees::MOST_TEXT;
 use anyhow::{Result, ensure};
 use c_lexer::{Lexer, TokenKind};
 use row_sheets::escape::unescape;
 use std::alloc::Global;
-
-/// The most bytes of a text.
-const MOST_TEXT: usize = 4_194_304;
 
 fn letter(kind: TokenKind) -> char {
     match kind {

@@ -1,6 +1,6 @@
-use Rattle.std.proofs.Common.{◌≡◌, sym, ◌∙◌}
+use Rattle.std.proofs.Common.{sym, ◌∙◌}
 use Rattle.bk_ilist.proofs.Splits.{has_id_head, has_id_cons, has_id_along}
-use Rattle.machine_rows.proofs.lists.is_in.Goals as goal
+use Rattle.value_rows.proofs.lists.is_in.Goals as goal
 
 pub loop-other-init : goal.loop-other-init
 loop-other-init c = (
