@@ -1,11 +1,12 @@
 //! The places of the nodes of trees, which no printed text shows.
 
-use crate::trees::{MOST_TEXT, refused};
+use crate::trees::refused;
 use anyhow::{Result, ensure};
+use c_lexer::TEXT_LIMIT;
 use c_parser::parse;
 use c_tree::{
-    Box, Constant, Declaration, Expr, External, ForFirst, FunctionEnd, Init, Label, Local, Parameter,
-    Section, Stmt, TypeNode,
+    Box, Constant, Declaration, Expr, External, ForFirst, FunctionEnd, Init, Label, Local,
+    Parameter, Section, Stmt, TypeNode,
 };
 use row_sheets::escape::unescape;
 use std::alloc::{AllocError, Global};
@@ -352,7 +353,7 @@ impl Places {
 /// The nodes of a text's tree that have a place, each by its word with its place.
 pub fn answer(alloc: Global, given: &str) -> Result<Vec<u8>> {
     let text = unescape(alloc, given)?;
-    ensure!(text.len() <= MOST_TEXT, "a text that is too long");
+    ensure!(text.len() <= TEXT_LIMIT, "a text that is too long");
     let unit = match parse(alloc, text.as_slice()) {
         Ok(unit) => unit,
         Err(fault) => return Ok(refused(alloc, fault)?),

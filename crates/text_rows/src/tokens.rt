@@ -1,8 +1,7 @@
 //! Texts with their tokens.
 
-use crate::trees::MOST_TEXT;
 use anyhow::{Result, ensure};
-use c_lexer::{Lexer, TokenKind};
+use c_lexer::{Lexer, TEXT_LIMIT, TokenKind};
 use row_sheets::escape::unescape;
 use std::alloc::Global;
 
@@ -22,10 +21,10 @@ fn letter(kind: TokenKind) -> char {
 /// twice.
 pub fn list(alloc: Global, given: &str) -> Result<Vec<u8>> {
     let text = unescape(alloc, given)?;
-    ensure!(text.len() <= MOST_TEXT, "a text that is too long");
+    ensure!(text.len() <= TEXT_LIMIT, "a text that is too long");
     let mut lexer = Lexer::new(text.as_slice());
     let mut list = String::new(alloc);
-    for _ in 0..=MOST_TEXT {
+    for _ in 0..=TEXT_LIMIT {
         let answer = lexer.next();
         match answer {
             Ok(token) if token.kind != TokenKind::End => {
@@ -45,7 +44,7 @@ pub fn list(alloc: Global, given: &str) -> Result<Vec<u8>> {
 /// The kind and the length of the token that a text begins with.
 pub fn first(alloc: Global, given: &str) -> Result<Vec<u8>> {
     let text = unescape(alloc, given)?;
-    ensure!(text.len() <= MOST_TEXT, "a text that is too long");
+    ensure!(text.len() <= TEXT_LIMIT, "a text that is too long");
     let shown = match Lexer::new(text.as_slice()).next() {
         Ok(token) => format!(in alloc; "{:?} {}\n", token.kind, token.len)?,
         Err(fault) => format!(in alloc; "F{}\n", fault.at)?,
