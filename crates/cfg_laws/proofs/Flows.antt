@@ -8,7 +8,7 @@ use Rattle.suifvm_ir.specs.declared.insn.VmInsn.{VmInsn}
 use Rattle.suifvm_ir.specs.declared.insn.VmInsn.TheVariants.{LoadConstant, LoadAddress, Load, Store, Copy, Unary, Binary, Shift, Convert, Compare, Branch, Jump, Call, Return, Mark, Nop}
 use Rattle.suifvm_ir.specs.Insns.{flows_on_of}
 use Rattle.vm_meaning.specs.Operations.{is_value_of}
-use Rattle.vm_meaning.specs.Effect.{does, first, return_act, fails}
+use Rattle.vm_meaning.specs.Effect.{does, first, return_act}
 
 -- an act after which the next instruction follows, at once or behind a call
 abbrev GoesOn : Act Value → Type 0

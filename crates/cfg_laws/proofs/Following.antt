@@ -1,30 +1,22 @@
 -- A program whose functions have the same walks does the same, step by step.
-use Rattle.std.proofs.Common.{◌≡◌, ℕ, zero, suc, ◌+◌, ◌-◌, ◌<◌, ◌≤◌, Bool, true, false, List, [], ◌∷◌, length, drop, Option, Some, None, slice_get, slice_index_or, if◌then◌else◌, refl, sym, ap, subst, ◌∙◌, inl, inr, arith}
+use Rattle.std.proofs.Common.{◌≡◌, ℕ, zero, suc, ◌-◌, ◌<◌, ◌≤◌, true, List, [], ◌∷◌, length, drop, Option, Some, None, slice_get, if◌then◌else◌, refl, sym, ap, subst, ◌∙◌, inl, inr, arith}
 use Rattle.std.specs.Prelude.{IsTrue}
 use Rattle.std.proofs.lemmas.Bool.{cases_lt}
-use Rattle.std.proofs.lemmas.Option.{slice_get_within, slice_get-get_or, none-some}
+use Rattle.std.proofs.lemmas.Option.{slice_get-get_or}
 use Rattle.mem_model.specs.declared.value.Value.{Value}
-use Rattle.mem_model.specs.World.{Outer, Meter, World, Rooms, enter_call, leave_call}
-use Rattle.mem_model.specs.Ending.{Ending, Done, Trap, Undefined, More}
-use Rattle.machine_model.specs.Code.{Stop, Exits, Traps, HasNoMeaning, Act, Writes, Jumps, Calls, Returns, Stops, Site, Point, Code}
-use Rattle.machine_model.specs.Machine.{Frame, Config, Next, Goes, Over, world_of, begin_locals, end_locals, turn_if, stop_ending, entry_frame, jump_to, resume, status_ending, return_to, act_on, step_with, step_at, step, go_on, exec}
-use Rattle.machine_model.proofs.Runs.{steps_add_up}
-use Rattle.suifvm_ir.specs.declared.insn.BranchOp.{BranchOp}
-use Rattle.suifvm_ir.specs.declared.types.VmType.{VmType}
+use Rattle.mem_model.specs.World.{World, Rooms}
+use Rattle.machine_model.specs.Code.{Code}
+use Rattle.machine_model.specs.Machine.{Frame, Config, Next, Goes, Over, step_at, step, go_on, exec}
 use Rattle.suifvm_ir.specs.declared.insn.VmInsn.{VmInsn}
-use Rattle.suifvm_ir.specs.declared.insn.VmInsn.TheVariants.{Branch, Jump}
-use Rattle.suifvm_ir.specs.Insns.{reads_of, writes_of, targets_of, with_block, flows_on_of}
+use Rattle.suifvm_ir.specs.declared.insn.VmInsn.TheVariants.{Jump}
+use Rattle.suifvm_ir.specs.Insns.{targets_of, with_block, flows_on_of}
 use Rattle.suifvm_ir.specs.Functions.{AllInsns, GoesToBlocks, last_of, stops, successors_of, successors_after}
 use Rattle.cfg.specs.Walks.{block_at, SameWalks}
-use Rattle.cfg.proofs.Kept.{none_stop, successor_within, target_goes}
+use Rattle.cfg.proofs.Kept.{successor_within, target_goes}
 use Rattle.std.specs.List.{Contains}
 use Rattle.std.proofs.lemmas.List.Elements.{Contains-append_right}
-use Rattle.vm_meaning.specs.Operations.{value_holds}
-use Rattle.vm_meaning.specs.Effect.{does, takes_turn, branches, is_taken, first}
-use Rattle.vm_meaning.specs.Behave.{Registers, set_registers, registers_of, FunctionCode, insn_site, next_site, site_or_next, site_in_block, site_in_function, sizes_in, vm_code, status_of}
-use Rattle.cfg_laws.specs.SameRuns.{SameEnding}
-use Rattle.cfg_laws.proofs.Flows.{writes_flow, calls_flow}
-use Rattle.cfg_laws.proofs.Walking.{Sort, IsJump, IsBranch, IsPlain, sort, Loud, Pair, SameInsn, TwoBranches, pair_of, Silent, Here, ByJump, ByFall, Found, Alike, meets, after_same, after_passed, after_taken, after_jump, after_fall}
+use Rattle.vm_meaning.specs.Behave.{Registers, FunctionCode, insn_site, next_site, site_or_next, site_in_block, site_in_function, vm_code}
+use Rattle.cfg_laws.proofs.Walking.{Silent, Here, ByJump, ByFall, Alike}
 
 -- what is left of a list
 pub drop_get : {A : Type 0} (at : ℕ) (xs ys : List A) (x : A) → drop at xs ≡ x ∷ ys → slice_get xs at ≡ Some x
@@ -92,14 +84,14 @@ module _ (f : List (List VmInsn)) (valid : Valid f) where
   pub behind_none : (b : ℕ) → b < length f → block_at f b ≡ [] → suc b < length f
   behind_none b below none =
       successor_within targets_of flows_on_of f valid.goes valid.ends b (suc b) below
-        (subst (λ xs. Contains (successors_of targets_of flows_on_of b xs) (suc b)) (sym none) (0, omega arith, refl))
+      (subst (λ xs. Contains (successors_of targets_of flows_on_of b xs) (suc b)) (sym none) (0, omega arith, refl))
 
   behind_flow : (b : ℕ) (i : VmInsn) → b < length f → last_of (block_at f b) ≡ Some i → flows_on_of i ≡ true → suc b < length f
   behind_flow b i below last flows =
       successor_within targets_of flows_on_of f valid.goes valid.ends b (suc b) below
-        (subst (λ o. Contains (successors_after targets_of flows_on_of b o) (suc b)) (sym last)
-          (Contains-append_right (targets_of i) (if flows_on_of i then suc b ∷ [] else []) (suc b)
-            (subst (λ goes_on. Contains (if goes_on then suc b ∷ [] else []) (suc b)) (sym flows) (0, omega arith, refl))))
+      (subst (λ o. Contains (successors_after targets_of flows_on_of b o) (suc b)) (sym last)
+      (Contains-append_right (targets_of i) (if flows_on_of i then suc b ∷ [] else []) (suc b)
+      (subst (λ goes_on. Contains (if goes_on then suc b ∷ [] else []) (suc b)) (sym flows) (0, omega arith, refl))))
 
   -- behind an instruction that goes on
   more_behind : (b at : ℕ) (i : VmInsn) (rest : List VmInsn) → b < length f → flows_on_of i ≡ true → drop at (block_at f b) ≡ i ∷ rest → drop (suc at) (block_at f b) ≡ [] → suc b < length f
@@ -110,7 +102,7 @@ module _ (f : List (List VmInsn)) (valid : Valid f) where
   pub target_below : (b at t : ℕ) (i : VmInsn) (rest : List VmInsn) → b < length f → drop at (block_at f b) ≡ i ∷ rest → targets_of i ≡ t ∷ [] → t < length f
   target_below b at t i rest below is one =
       (target_goes targets_of flows_on_of f valid.goes valid.ends b at i below (drop_get at (block_at f b) rest i is) t
-        (subst (λ ts. Contains ts t) (sym one) (0, omega arith, refl))).1
+      (subst (λ ts. Contains ts t) (sym one) (0, omega arith, refl))).1
 
 module _ (f g : List (List VmInsn)) (valid : Valid f) where
   pub stands_next : (b at c to : ℕ) (i j : VmInsn) (rest ks : List VmInsn) → b < length f → flows_on_of i ≡ true → drop at (block_at f b) ≡ i ∷ rest → drop to (block_at g c) ≡ j ∷ ks → Alike f g b rest c ks → Stands f g b (suc at) c (suc to)
@@ -118,7 +110,7 @@ module _ (f g : List (List VmInsn)) (valid : Valid f) where
     inside = below;
     more = more_behind f valid b at i rest below flows is;
     alike = subst (λ xs. Alike f g b xs c (drop (suc to) (block_at g c))) (sym (drop_next at (block_at f b) rest i is))
-      (subst (λ ys. Alike f g b rest c ys) (sym (drop_next to (block_at g c) ks j there)) alike);
+        (subst (λ ys. Alike f g b rest c ys) (sym (drop_next to (block_at g c) ks j there)) alike);
   }
 
   pub stands_at : (t c to : ℕ) → t < length f → Alike f g t (block_at f t) c (drop to (block_at g c)) → Stands f g t 0 c to

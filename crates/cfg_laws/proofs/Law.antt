@@ -1,13 +1,12 @@
 -- Programs whose functions have the same walks run alike.
-use Rattle.std.proofs.Common.{◌≡◌, ℕ, zero, suc, ◌+◌, Bool, List, [], ◌∷◌, map, length, cond, not, Option, Some, None, slice_get, refl, sym, ap, ◌∙◌}
+use Rattle.std.proofs.Common.{◌≡◌, ℕ, zero, suc, ◌+◌, Bool, List, [], ◌∷◌, map, length, cond, not, Some, None, slice_get, refl, sym, ap, ◌∙◌}
 use Rattle.std.specs.Prelude.{unwrap_or, nat_lt, bytes_eq, codes}
 use Rattle.std.specs.List.{prefix_len}
 use Rattle.mem_model.specs.World.{World, Rooms}
-use Rattle.mem_model.specs.Ending.{Ending}
 use Rattle.suifvm_ir.specs.declared.program.VmProgram.{VmProgram}
 use Rattle.suifvm_ir.specs.Programs.{VmFunction, is_main}
-use Rattle.vm_meaning.specs.Behave.{FunctionCode, code_of, vm_run, main_of, start_world, behave_vm}
-use Rattle.cfg_laws.specs.SameRuns.{SameFunction, SameFunctions, RunsAs, SameWalksRunAlike}
+use Rattle.vm_meaning.specs.Behave.{FunctionCode, code_of, vm_run, main_of, start_world}
+use Rattle.cfg_laws.specs.SameRuns.{SameFunctions, RunsAs, SameWalksRunAlike}
 use Rattle.cfg_laws.proofs.Following.{SameAt}
 use Rattle.cfg_laws.proofs.Running.{ends_alike}
 
@@ -52,8 +51,9 @@ swapped [] [] same = tt
 swapped [] (g ∷ gs) same = absurd same
 swapped (f ∷ fs) [] same = absurd same
 swapped (f ∷ fs) (g ∷ gs) same = (
-    record { name = sym same.0.name; objects = sym same.0.objects; walks = λ steps. ((same.0.walks steps).1, (same.0.walks steps).0) },
-    swapped fs gs same.1)
+  record { name = sym same.0.name; objects = sym same.0.objects; walks = λ steps. ((same.0.walks steps).1, (same.0.walks steps).0) },
+  swapped fs gs same.1,
+)
 
 runs_as : (rooms : Rooms) (before after : VmProgram) → before.globals ≡ after.globals → SameFunctions before.functions after.functions → (input : List ℕ) (turns : ℕ) → RunsAs rooms before after input turns
 runs_as rooms before after globals same input turns e run =
@@ -61,18 +61,20 @@ runs_as rooms before after globals same input turns e run =
     let gs : List FunctionCode = map code_of after.functions in
     let main : ℕ = main_of before.functions in
     let w : World = start_world before.globals input turns in
-    let comes = ends_alike rooms fs gs (same_at before.functions after.functions same) run.steps main w e run.over in
-    (comes.ending,
-     record {
-       steps = comes.steps;
-       over =
-         ap (λ m. vm_run rooms gs m (start_world after.globals input turns) comes.steps) (sym (main_same before.functions after.functions same))
-         ∙ ap (λ objects. vm_run rooms gs main (start_world objects input turns) comes.steps) (sym globals)
-         ∙ comes.runs;
-     },
-     comes.alike)
+    let comes = ends_alike rooms fs gs (same_at before.functions after.functions same) run.steps main w e run.over in (
+      comes.ending,
+      record {
+        steps = comes.steps;
+        over =
+            ap (λ m. vm_run rooms gs m (start_world after.globals input turns) comes.steps) (sym (main_same before.functions after.functions same))
+            ∙ ap (λ objects. vm_run rooms gs main (start_world objects input turns) comes.steps) (sym globals)
+            ∙ comes.runs;
+      },
+      comes.alike,
+    )
 
 pub law : SameWalksRunAlike
 law rooms before after globals same input turns = (
-    runs_as rooms before after globals same input turns,
-    runs_as rooms after before (sym globals) (swapped before.functions after.functions same) input turns)
+  runs_as rooms before after globals same input turns,
+  runs_as rooms after before (sym globals) (swapped before.functions after.functions same) input turns,
+)

@@ -3,8 +3,8 @@ use Rattle.std.proofs.Common.{◌≡◌, ℕ, zero, suc, ◌+◌, ◌<◌, Bool,
 use Rattle.mem_model.specs.declared.value.Value.{Value}
 use Rattle.mem_model.specs.World.{Outer, Meter, World, Rooms, enter_call, leave_call}
 use Rattle.mem_model.specs.Ending.{Ending, Done, Trap, Undefined, More}
-use Rattle.machine_model.specs.Code.{Stop, Exits, Traps, HasNoMeaning, Act, Writes, Jumps, Calls, Returns, Stops, Site, Point, entry_point, Code}
-use Rattle.machine_model.specs.Machine.{Frame, Config, Next, Goes, Over, world_of, begin_locals, end_locals, turn_if, stop_ending, entry_frame, jump_to, resume, status_ending, return_to, act_on, step_with, step_at, step, go_on, exec, start}
+use Rattle.machine_model.specs.Code.{Stop, Exits, Traps, HasNoMeaning, Act, Writes, Jumps, Calls, Returns, Stops, Code}
+use Rattle.machine_model.specs.Machine.{Frame, Config, Next, Goes, Over, world_of, begin_locals, end_locals, turn_if, stop_ending, jump_to, resume, status_ending, return_to, act_on, step_with, step_at, step, go_on, exec, start}
 use Rattle.machine_model.proofs.Runs.{steps_add_up}
 use Rattle.suifvm_ir.specs.declared.insn.BranchOp.{BranchOp}
 use Rattle.suifvm_ir.specs.declared.types.VmType.{VmType}
@@ -14,12 +14,12 @@ use Rattle.suifvm_ir.specs.Insns.{reads_of, writes_of, targets_of, flows_on_of}
 use Rattle.cfg.specs.Walks.{block_at}
 use Rattle.cfg.proofs.Kept.{none_stop}
 use Rattle.vm_meaning.specs.Operations.{value_holds}
-use Rattle.vm_meaning.specs.Effect.{does, takes_turn, branches, is_taken, first}
+use Rattle.vm_meaning.specs.Effect.{does, takes_turn, branches, is_taken}
 use Rattle.vm_meaning.specs.Behave.{Registers, set_registers, registers_of, FunctionCode, insn_site, site_in_function, sizes_in, vm_code, status_of}
 use Rattle.cfg_laws.specs.SameRuns.{SameEnding}
 use Rattle.cfg_laws.proofs.Flows.{writes_flow, calls_flow}
-use Rattle.cfg_laws.proofs.Walking.{Sort, IsJump, IsBranch, IsPlain, sort, strip, Loud, Pair, SameInsn, TwoBranches, pair_of, Silent, Found, Alike, meets, after_same, after_passed, after_taken, after_jump, after_fall}
-use Rattle.cfg_laws.proofs.Following.{Valid, SameCode, SameAt, Stands, stands_next, stands_at, behind_none, target_below, frame, config, site_insn, Came, silent_run, step_end, step_jump, go_zero}
+use Rattle.cfg_laws.proofs.Walking.{Sort, IsJump, IsBranch, IsPlain, sort, Loud, Pair, SameInsn, TwoBranches, pair_of, Silent, Alike, meets, after_same, after_passed, after_taken, after_jump, after_fall}
+use Rattle.cfg_laws.proofs.Following.{Valid, SameAt, Stands, stands_next, stands_at, target_below, frame, config, site_insn, silent_run, step_end, step_jump, go_zero}
 
 module _ (rooms : Rooms) (fs gs : List FunctionCode) (same : (n : ℕ) → SameAt (slice_get fs n) (slice_get gs n)) where
   abbrev first_code : Code Value Registers
@@ -52,7 +52,7 @@ module _ (rooms : Rooms) (fs gs : List FunctionCode) (same : (n : ℕ) → SameA
   entry_by n own rs (Some f) (Some g) is there alike =
       let valid : Valid f.blocks = alike.valid in
       Inside n own rs f g 0 0 0 0 is there valid
-        (stands_at f.blocks g.blocks valid 0 0 0 (none_stop targets_of flows_on_of f.blocks valid.ends) alike.walks)
+      (stands_at f.blocks g.blocks valid 0 0 0 (none_stop targets_of flows_on_of f.blocks valid.ends) alike.walks)
 
   entry_same : (n own : ℕ) (rs : Registers) → SameFrame (frame n own rs 0 0) (frame n own rs 0 0)
   entry_same n own rs = entry_by n own rs (slice_get fs n) (slice_get gs n) refl refl (same n)
@@ -74,8 +74,8 @@ module _ (rooms : Rooms) (fs gs : List FunctionCode) (same : (n : ℕ) → SameA
   return_same at to vs w _ _ NoCaller = status_same at to w (status_of vs)
   return_same at to vs w _ _ (Caller {us = us} {ws = ws} n own rs f g b p c q i is there valid here site stands waiting) =
       subst (λ o. SameNext (resume Value Registers rooms first_code (frame n own rs b p) us w vs o) (resume Value Registers rooms other_code (frame n own rs c q) ws w vs (site_in_function c q (slice_get gs n)))) (sym here)
-        (subst (λ o. SameNext (resume Value Registers rooms first_code (frame n own rs b p) us w vs (Some (insn_site i))) (resume Value Registers rooms other_code (frame n own rs c q) ws w vs o)) (sym site)
-          (BothGo _ _ (Same _ _ us ws w (Inside n own (set_registers (writes_of i) vs rs) f g b (suc p) c (suc q) is there valid stands) waiting)))
+      (subst (λ o. SameNext (resume Value Registers rooms first_code (frame n own rs b p) us w vs (Some (insn_site i))) (resume Value Registers rooms other_code (frame n own rs c q) ws w vs o)) (sym site)
+      (BothGo _ _ (Same _ _ us ws w (Inside n own (set_registers (writes_of i) vs rs) f g b (suc p) c (suc q) is there valid stands) waiting)))
 
   stop_same : (e : Stop) (at to : ℕ) (w : World) → SameNext (Over (stop_ending e at w)) (Over (stop_ending e to w))
   stop_same (Exits status) at to w = BothEnd (Done w status) (Done w status) refl
@@ -95,28 +95,28 @@ module _ (rooms : Rooms) (fs gs : List FunctionCode) (same : (n : ℕ) → SameA
         BothGo _ _ (Same _ _ us ws (world_of o m) (Inside n own (set_registers (writes_of i) vs rs) f g b (suc at) c (suc to) is there valid (next (writes vs o refl))) waiting)
     act_same i m (Jumps target o) none here site writes calls next =
         subst (λ ts. SameNext (jump_to Value Registers rooms first_code k (world_of o m) (insn_site i) (slice_get ts target)) (jump_to Value Registers rooms other_code l (world_of o m) (insn_site i) (slice_get ts target))) (sym none)
-          (BothEnd _ _ (_, refl))
+        (BothEnd _ _ (_, refl))
     act_same i m (Calls function vs o) none here site writes calls next =
         subst (λ sizes. SameNext (act_on Value Registers rooms first_code k m (insn_site i) (Calls function vs o)) (Goes (record { here = frame function (length o.memory) (registers_of vs) 0 0; callers = l.here ∷ ws; world = world_of (begin_locals o sizes) (enter_call rooms function m) }))) (locals_same function)
-          (BothGo _ _ (Same _ _ (k.here ∷ us) (l.here ∷ ws) _ (entry_same function (length o.memory) (registers_of vs)) (Caller n own rs f g b at c to i is there valid here site (next (calls function vs o refl)) waiting)))
+        (BothGo _ _ (Same _ _ (k.here ∷ us) (l.here ∷ ws) _ (entry_same function (length o.memory) (registers_of vs)) (Caller n own rs f g b at c to i is there valid here site (next (calls function vs o refl)) waiting)))
     act_same i m (Returns vs o) none here site writes calls next =
         subst (λ sizes. SameNext (act_on Value Registers rooms first_code k m (insn_site i) (Returns vs o)) (return_to Value Registers rooms other_code (other_code.number l.here.point) vs (world_of (end_locals o own (length sizes)) (leave_call rooms n m)) ws)) (locals_same n)
-          (return_same (first_code.number k.here.point) (other_code.number l.here.point) vs (world_of (end_locals o own (length (sizes_in (slice_get fs n)))) (leave_call rooms n m)) us ws waiting)
+        (return_same (first_code.number k.here.point) (other_code.number l.here.point) vs (world_of (end_locals o own (length (sizes_in (slice_get fs n)))) (leave_call rooms n m)) us ws waiting)
     act_same i m (Stops e o) none here site writes calls next = stop_same e (first_code.number k.here.point) (other_code.number l.here.point) (world_of o m)
 
     plain_with : (i : VmInsn) (turn : Option Meter) → targets_of i ≡ [] → site_in_function b at (slice_get fs n) ≡ Some (insn_site i) → site_in_function c to (slice_get gs n) ≡ Some (insn_site i) → (flows_on_of i ≡ true → Stands f.blocks g.blocks b (suc at) c (suc to)) → SameNext (step_with Value Registers rooms first_code k (insn_site i) turn) (step_with Value Registers rooms other_code l (insn_site i) turn)
     plain_with i None none here site next = BothEnd (More w) (More w) refl
     plain_with i (Some m) none here site next =
         act_same i m (does i own (map rs (reads_of i)) w.outer) none here site
-          (λ vs o act. writes_flow i own (map rs (reads_of i)) vs w.outer o act)
-          (λ function vs o act. calls_flow i own function (map rs (reads_of i)) vs w.outer o act)
-          next
+        (λ vs o act. writes_flow i own (map rs (reads_of i)) vs w.outer o act)
+        (λ function vs o act. calls_flow i own function (map rs (reads_of i)) vs w.outer o act)
+        next
 
     plain_step : (i : VmInsn) → targets_of i ≡ [] → site_in_function b at (slice_get fs n) ≡ Some (insn_site i) → site_in_function c to (slice_get gs n) ≡ Some (insn_site i) → (flows_on_of i ≡ true → Stands f.blocks g.blocks b (suc at) c (suc to)) → SameNext (step Value Registers rooms first_code k) (step Value Registers rooms other_code l)
     plain_step i none here site next =
         subst (λ o. SameNext (step_at Value Registers rooms first_code k o) (step Value Registers rooms other_code l)) (sym here)
-          (subst (λ o. SameNext (step_at Value Registers rooms first_code k (Some (insn_site i))) (step_at Value Registers rooms other_code l o)) (sym site)
-            (plain_with i (turn_if (takes_turn i) w.meter) none here site next))
+        (subst (λ o. SameNext (step_at Value Registers rooms first_code k (Some (insn_site i))) (step_at Value Registers rooms other_code l o)) (sym site)
+        (plain_with i (turn_if (takes_turn i) w.meter) none here site next))
 
     -- a branch
     taken_same : (op : BranchOp) (ty : VmType) (s t u : ℕ) (taken : Bool) → Stands f.blocks g.blocks b (suc at) c (suc to) → Stands f.blocks g.blocks t 0 u 0 → SameNext (act_on Value Registers rooms first_code k w.meter (insn_site (Branch op ty s t)) (if taken then Jumps 0 w.outer else Writes [] w.outer)) (act_on Value Registers rooms other_code l w.meter (insn_site (Branch op ty s u)) (if taken then Jumps 0 w.outer else Writes [] w.outer))
@@ -130,8 +130,8 @@ module _ (rooms : Rooms) (fs gs : List FunctionCode) (same : (n : ℕ) → SameA
     branch_step : (op : BranchOp) (ty : VmType) (s t u : ℕ) → site_in_function b at (slice_get fs n) ≡ Some (insn_site (Branch op ty s t)) → site_in_function c to (slice_get gs n) ≡ Some (insn_site (Branch op ty s u)) → Stands f.blocks g.blocks b (suc at) c (suc to) → Stands f.blocks g.blocks t 0 u 0 → SameNext (step Value Registers rooms first_code k) (step Value Registers rooms other_code l)
     branch_step op ty s t u here site next goes =
         subst (λ o. SameNext (step_at Value Registers rooms first_code k o) (step Value Registers rooms other_code l)) (sym here)
-          (subst (λ o. SameNext (step_at Value Registers rooms first_code k (Some (insn_site (Branch op ty s t)))) (step_at Value Registers rooms other_code l o)) (sym site)
-            (branch_same op ty s t u (value_holds w.outer.memory ty (rs s)) next goes))
+        (subst (λ o. SameNext (step_at Value Registers rooms first_code k (Some (insn_site (Branch op ty s t)))) (step_at Value Registers rooms other_code l o)) (sym site)
+        (branch_same op ty s t u (value_holds w.outer.memory ty (rs s)) next goes))
 
   -- where the other run is after some steps, when the first did one
   record After (x : Next Registers) (l : Config Registers) : Type 0 where
@@ -145,18 +145,18 @@ module _ (rooms : Rooms) (fs gs : List FunctionCode) (same : (n : ℕ) → SameA
     pair_step : (d place : ℕ) (i j : VmInsn) (rest ks : List VmInsn) → Pair i j → drop at (block_at f.blocks b) ≡ i ∷ rest → drop place (block_at g.blocks d) ≡ j ∷ ks → d < length g.blocks → Silent g.blocks c (drop to (block_at g.blocks c)) d (j ∷ ks) → Alike f.blocks g.blocks b (i ∷ rest) c (drop to (block_at g.blocks c)) → SameNext (step Value Registers rooms first_code (config n own rs b at us w)) (step Value Registers rooms other_code (config n own rs d place ws w))
     pair_step d place _ _ rest ks (SameInsn i none) here left inside silent alike =
         plain_step n own rs f g b at d place us ws w is there valid waiting i none
-          (site_insn fs n b at f i rest is stands.inside here)
-          (site_insn gs n d place g i ks there inside left)
-          (λ flows. stands_next f.blocks g.blocks valid b at d place i i rest ks stands.inside flows here left
-            (after_same f.blocks g.blocks b c d i rest (drop to (block_at g.blocks c)) ks none flows silent alike))
+        (site_insn fs n b at f i rest is stands.inside here)
+        (site_insn gs n d place g i ks there inside left)
+        (λ flows. stands_next f.blocks g.blocks valid b at d place i i rest ks stands.inside flows here left
+        (after_same f.blocks g.blocks b c d i rest (drop to (block_at g.blocks c)) ks none flows silent alike))
     pair_step d place _ _ rest ks (TwoBranches op ty s t u) here left inside silent alike =
         branch_step n own rs f g b at d place us ws w is there valid waiting op ty s t u
-          (site_insn fs n b at f (Branch op ty s t) rest is stands.inside here)
-          (site_insn gs n d place g (Branch op ty s u) ks there inside left)
-          (stands_next f.blocks g.blocks valid b at d place (Branch op ty s t) (Branch op ty s u) rest ks stands.inside refl here left
-            (after_passed f.blocks g.blocks b c d op ty s t u rest (drop to (block_at g.blocks c)) ks silent alike))
-          (stands_at f.blocks g.blocks valid t u 0 (target_below f.blocks valid b at t (Branch op ty s t) rest stands.inside here refl)
-            (after_taken f.blocks g.blocks b c d op ty s t u rest (drop to (block_at g.blocks c)) ks silent alike))
+        (site_insn fs n b at f (Branch op ty s t) rest is stands.inside here)
+        (site_insn gs n d place g (Branch op ty s u) ks there inside left)
+        (stands_next f.blocks g.blocks valid b at d place (Branch op ty s t) (Branch op ty s u) rest ks stands.inside refl here left
+        (after_passed f.blocks g.blocks b c d op ty s t u rest (drop to (block_at g.blocks c)) ks silent alike))
+        (stands_at f.blocks g.blocks valid t u 0 (target_below f.blocks valid b at t (Branch op ty s t) rest stands.inside here refl)
+        (after_taken f.blocks g.blocks b c d op ty s t u rest (drop to (block_at g.blocks c)) ks silent alike))
 
     loud_step : (i : VmInsn) (rest : List VmInsn) → Loud i → drop at (block_at f.blocks b) ≡ i ∷ rest → After (step Value Registers rooms first_code (config n own rs b at us w)) (config n own rs c to ws w)
     loud_step i rest loud here =
@@ -169,9 +169,9 @@ module _ (rooms : Rooms) (fs gs : List FunctionCode) (same : (n : ℕ) → SameA
           steps = came.steps + 1;
           next = step Value Registers rooms other_code m;
           runs =
-            steps_add_up Value Registers rooms other_code came.steps 1 l
-            ∙ ap (λ x. go_on x (exec Value Registers rooms other_code 1)) came.runs
-            ∙ go_zero rooms gs (step Value Registers rooms other_code m);
+              steps_add_up Value Registers rooms other_code came.steps 1 l
+              ∙ ap (λ x. go_on x (exec Value Registers rooms other_code 1)) came.runs
+              ∙ go_zero rooms gs (step Value Registers rooms other_code m);
           alike = pair_step found.block came.place i found.insn rest found.rest (pair_of i found.insn (sym found.same) loud found.loud) here came.left came.inside found.silent alike;
         }
 
@@ -182,9 +182,9 @@ module _ (rooms : Rooms) (fs gs : List FunctionCode) (same : (n : ℕ) → SameA
           next = Goes (config n own rs c to ws w);
           runs = refl;
           alike = subst (λ x. SameNext x (Goes (config n own rs c to ws w))) (sym (step_jump rooms fs n own rs b at us w f (Jump t) t rest is stands.inside here refl))
-            (BothGo _ _ (Same _ _ us ws w (Inside n own rs f g t 0 c to is there valid
+              (BothGo _ _ (Same _ _ us ws w (Inside n own rs f g t 0 c to is there valid
               (stands_at f.blocks g.blocks valid t c to (target_below f.blocks valid b at t (Jump t) rest stands.inside here refl)
-                (after_jump f.blocks g.blocks b c t rest (drop to (block_at g.blocks c)) (subst (λ xs. Alike f.blocks g.blocks b xs c (drop to (block_at g.blocks c))) here stands.alike)))) waiting));
+              (after_jump f.blocks g.blocks b c t rest (drop to (block_at g.blocks c)) (subst (λ xs. Alike f.blocks g.blocks b xs c (drop to (block_at g.blocks c))) here stands.alike)))) waiting));
         }
     sort_step _ rest (IsBranch op ty s t) here = loud_step (Branch op ty s t) rest (λ stop. let clash : ⊥ = cc in absurd clash) here
     sort_step i rest (IsPlain _ none stays) here = loud_step i rest (λ stop. none) here
@@ -196,9 +196,9 @@ module _ (rooms : Rooms) (fs gs : List FunctionCode) (same : (n : ℕ) → SameA
           next = Goes (config n own rs c to ws w);
           runs = refl;
           alike = subst (λ x. SameNext x (Goes (config n own rs c to ws w))) (sym (step_end rooms fs n own rs b at us w f is stands.inside here))
-            (BothGo _ _ (Same _ _ us ws w (Inside n own rs f g (suc b) 0 c to is there valid
+              (BothGo _ _ (Same _ _ us ws w (Inside n own rs f g (suc b) 0 c to is there valid
               (stands_at f.blocks g.blocks valid (suc b) c to (stands.more here)
-                (after_fall f.blocks g.blocks b c (drop to (block_at g.blocks c)) (subst (λ xs. Alike f.blocks g.blocks b xs c (drop to (block_at g.blocks c))) here stands.alike)))) waiting));
+              (after_fall f.blocks g.blocks b c (drop to (block_at g.blocks c)) (subst (λ xs. Alike f.blocks g.blocks b xs c (drop to (block_at g.blocks c))) here stands.alike)))) waiting));
         }
     rest_step (i ∷ rest) here = sort_step i rest (sort i) here
 
@@ -211,7 +211,7 @@ module _ (rooms : Rooms) (fs gs : List FunctionCode) (same : (n : ℕ) → SameA
         next = Over (Undefined w (other_code.number l.here.point));
         runs = go_zero rooms gs (step Value Registers rooms other_code l) ∙ ap (λ o. step_at Value Registers rooms other_code l (site_in_function 0 0 o)) there;
         alike = subst (λ o. SameNext (step_at Value Registers rooms first_code k (site_in_function 0 0 o)) (Over (Undefined w (other_code.number l.here.point)))) (sym is)
-          (BothEnd (Undefined w (first_code.number k.here.point)) (Undefined w (other_code.number l.here.point)) (other_code.number l.here.point, refl));
+            (BothEnd (Undefined w (first_code.number k.here.point)) (Undefined w (other_code.number l.here.point)) (other_code.number l.here.point, refl));
       }
 
   frame_step : (a b : Frame Registers) (us ws : List (Frame Registers)) (w : World) → SameFrame a b → Waiting us ws → After (step Value Registers rooms first_code (record { here = a; callers = us; world = w })) (record { here = b; callers = ws; world = w })
@@ -255,7 +255,7 @@ module _ (rooms : Rooms) (fs gs : List FunctionCode) (same : (n : ℕ) → SameA
   start_same : (main : ℕ) (w : World) → SameConfig (start Value Registers rooms first_code main w) (start Value Registers rooms other_code main w)
   start_same main w =
       subst (λ sizes. SameConfig (start Value Registers rooms first_code main w) (record { here = frame main (length w.outer.memory) (registers_of []) 0 0; callers = []; world = world_of (begin_locals w.outer sizes) (enter_call rooms main w.meter) })) (locals_same main)
-        (Same _ _ [] [] _ (entry_same main (length w.outer.memory) (registers_of [])) NoCaller)
+      (Same _ _ [] [] _ (entry_same main (length w.outer.memory) (registers_of [])) NoCaller)
 
   pub ends_alike : (n main : ℕ) (w : World) (e : Ending) → exec Value Registers rooms first_code n (start Value Registers rooms first_code main w) ≡ Over e → Comes (start Value Registers rooms other_code main w) e
   ends_alike n main w e is = comes n (start Value Registers rooms first_code main w) (start Value Registers rooms other_code main w) e (start_same main w) is

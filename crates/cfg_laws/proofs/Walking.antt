@@ -1,7 +1,7 @@
 -- Where two functions of the virtual machine with the same walks stand.
-use Rattle.std.proofs.Common.{◌≡◌, ℕ, zero, suc, ◌<◌, Bool, true, false, List, [], ◌∷◌, length, Option, Some, None, slice_get, refl, sym, ap, subst, ◌∙◌, arith}
+use Rattle.std.proofs.Common.{◌≡◌, ℕ, zero, suc, Bool, true, false, List, [], ◌∷◌, length, Some, None, slice_get, refl, sym, ap, subst, ◌∙◌, arith}
 use Rattle.std.specs.Prelude.{◌↔◌}
-use Rattle.std.proofs.lemmas.Option.{slice_get_within, same_Some, none-some}
+use Rattle.std.proofs.lemmas.Option.{same_Some, none-some}
 use Rattle.suifvm_ir.specs.declared.insn.BranchOp.{BranchOp}
 use Rattle.suifvm_ir.specs.declared.types.VmType.{VmType}
 use Rattle.suifvm_ir.specs.declared.insn.VmInsn.{VmInsn}
@@ -73,8 +73,8 @@ pair_by _ _ (IsBranch op ty s t) (IsBranch op2 ty2 s2 u) same li lj =
     let tys : ty ≡ ty2 = cc in
     let sources : s ≡ s2 = cc in
     subst (λ o. Pair (Branch op ty s t) (Branch o ty2 s2 u)) ops
-      (subst (λ y. Pair (Branch op ty s t) (Branch op y s2 u)) tys
-        (subst (λ r. Pair (Branch op ty s t) (Branch op ty r u)) sources (TwoBranches op ty s t u)))
+    (subst (λ y. Pair (Branch op ty s t) (Branch op y s2 u)) tys
+    (subst (λ r. Pair (Branch op ty s t) (Branch op ty r u)) sources (TwoBranches op ty s t u)))
 pair_by _ j (IsBranch op ty s t) (IsPlain _ none stays) same li lj = absurd (no_one 0 (ap targets_of (same ∙ stays) ∙ none))
 pair_by i _ (IsPlain _ none stays) (IsBranch op ty s t) same li lj = absurd (no_one 0 (ap targets_of (sym same ∙ stays) ∙ none))
 pair_by i j (IsPlain _ none stays) (IsPlain _ none2 stays2) same li lj = subst (λ x. Pair i x) (sym stays ∙ same ∙ stays2) (SameInsn i none)
@@ -229,25 +229,30 @@ module _ (f g : List (List VmInsn)) where
 
   pub after_same : (b c d : ℕ) (i : VmInsn) (rest ys ks : List VmInsn) → targets_of i ≡ [] → flows_on_of i ≡ true → Silent g c ys d (i ∷ ks) → Alike f g b (i ∷ rest) c ys → Alike f g b rest d ks
   after_same b c d i rest ys ks none flows silent alike steps = (
-      (λ walk. inv_goes (silent_down silent ((alike (Done (strip i) ∷ steps)).0 (Goes i (ap length none) flows walk))) i ks (strip i) steps refl refl none),
-      (λ walk. inv_goes ((alike (Done (strip i) ∷ steps)).1 (silent_up silent (Goes i (ap length none) flows walk))) i rest (strip i) steps refl refl none))
+    (λ walk. inv_goes (silent_down silent ((alike (Done (strip i) ∷ steps)).0 (Goes i (ap length none) flows walk))) i ks (strip i) steps refl refl none),
+    (λ walk. inv_goes ((alike (Done (strip i) ∷ steps)).1 (silent_up silent (Goes i (ap length none) flows walk))) i rest (strip i) steps refl refl none),
+  )
 
   pub after_passed : (b c d : ℕ) (op : BranchOp) (ty : VmType) (s t u : ℕ) (rest ys ks : List VmInsn) → Silent g c ys d (Branch op ty s u ∷ ks) → Alike f g b (Branch op ty s t ∷ rest) c ys → Alike f g b rest d ks
   after_passed b c d op ty s t u rest ys ks silent alike steps = (
-      (λ walk. inv_passes (silent_down silent ((alike (NotTaken (Branch op ty s 0) ∷ steps)).0 (Passes (Branch op ty s t) (omega arith) refl walk))) (Branch op ty s u) ks (Branch op ty s 0) steps refl refl refl),
-      (λ walk. inv_passes ((alike (NotTaken (Branch op ty s 0) ∷ steps)).1 (silent_up silent (Passes (Branch op ty s u) (omega arith) refl walk))) (Branch op ty s t) rest (Branch op ty s 0) steps refl refl refl))
+    (λ walk. inv_passes (silent_down silent ((alike (NotTaken (Branch op ty s 0) ∷ steps)).0 (Passes (Branch op ty s t) (omega arith) refl walk))) (Branch op ty s u) ks (Branch op ty s 0) steps refl refl refl),
+    (λ walk. inv_passes ((alike (NotTaken (Branch op ty s 0) ∷ steps)).1 (silent_up silent (Passes (Branch op ty s u) (omega arith) refl walk))) (Branch op ty s t) rest (Branch op ty s 0) steps refl refl refl),
+  )
 
   pub after_taken : (b c d : ℕ) (op : BranchOp) (ty : VmType) (s t u : ℕ) (rest ys ks : List VmInsn) → Silent g c ys d (Branch op ty s u ∷ ks) → Alike f g b (Branch op ty s t ∷ rest) c ys → Alike f g t (block_at f t) u (block_at g u)
   after_taken b c d op ty s t u rest ys ks silent alike steps = (
-      (λ walk. inv_takes (silent_down silent ((alike (Taken (Branch op ty s 0) 0 ∷ steps)).0 (Takes (Branch op ty s t) 0 t refl refl walk))) (Branch op ty s u) ks (Branch op ty s 0) 0 u steps refl refl refl refl),
-      (λ walk. inv_takes ((alike (Taken (Branch op ty s 0) 0 ∷ steps)).1 (silent_up silent (Takes (Branch op ty s u) 0 u refl refl walk))) (Branch op ty s t) rest (Branch op ty s 0) 0 t steps refl refl refl refl))
+    (λ walk. inv_takes (silent_down silent ((alike (Taken (Branch op ty s 0) 0 ∷ steps)).0 (Takes (Branch op ty s t) 0 t refl refl walk))) (Branch op ty s u) ks (Branch op ty s 0) 0 u steps refl refl refl refl),
+    (λ walk. inv_takes ((alike (Taken (Branch op ty s 0) 0 ∷ steps)).1 (silent_up silent (Takes (Branch op ty s u) 0 u refl refl walk))) (Branch op ty s t) rest (Branch op ty s 0) 0 t steps refl refl refl refl),
+  )
 
   pub after_jump : (b c t : ℕ) (rest ys : List VmInsn) → Alike f g b (Jump t ∷ rest) c ys → Alike f g t (block_at f t) c ys
   after_jump b c t rest ys alike steps = (
-      (λ walk. (alike steps).0 (Jumps (Jump t) 0 t refl refl walk)),
-      (λ walk. inv_jump ((alike steps).1 walk) (Jump t) rest t refl refl))
+    (λ walk. (alike steps).0 (Jumps (Jump t) 0 t refl refl walk)),
+    (λ walk. inv_jump ((alike steps).1 walk) (Jump t) rest t refl refl),
+  )
 
   pub after_fall : (b c : ℕ) (ys : List VmInsn) → Alike f g b [] c ys → Alike f g (suc b) (block_at f (suc b)) c ys
   after_fall b c ys alike steps = (
-      (λ walk. (alike steps).0 (Falls walk)),
-      (λ walk. inv_falls ((alike steps).1 walk) refl))
+    (λ walk. (alike steps).0 (Falls walk)),
+    (λ walk. inv_falls ((alike steps).1 walk) refl),
+  )
