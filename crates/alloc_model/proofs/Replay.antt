@@ -70,9 +70,11 @@ pub record Holds (h : Held) (s : Temps) (t : Places) : Type 0 where
   pub each : (n : Holder) (p : Place) → IsNamed n → h n p → t p ≡ s n
 
 stands_there : (h : Held) (s : Temps) (t : Places) (n : Holder) (p : Place) (c : Content) → c ≡ s n → Holds h s t → Holds (stands n p h) s (put place_eq p c t)
-stands_there h s t n p c e r = record { each = λ m q named. ⊎_elim
-  (λ (k, ne). place_other t p c q ne ∙ r.each m q named k)
-  (λ (em, eq). ap (put place_eq p c t) eq ∙ place_same t p c ∙ e ∙ ap s (sym em)) }
+stands_there h s t n p c e r = record {
+  each = λ m q named. ⊎_elim
+      (λ (k, ne). place_other t p c q ne ∙ r.each m q named k)
+      (λ (em, eq). ap (put place_eq p c t) eq ∙ place_same t p c ∙ e ∙ ap s (sym em));
+}
 
 forgets : (h : Held) (s : Temps) (t : Places) (n : Holder) (c : Content) → Holds h s t → Holds (forget n h) (put holder_eq n c s) t
 forgets h s t n c r = record { each = λ m q named (k, ne). r.each m q named k ∙ sym (holder_other s n c m ne) }

@@ -24,21 +24,11 @@ pub struct Standing {
 #[derive(Clone, Copy, Debug, PartialEq, Eq)]
 pub enum Transfer {
     /// From a register to its slot.
-    Store {
-        temp: u32,
-        reg: u8,
-    },
+    Store { temp: u32, reg: u8 },
     /// From its slot to a register.
-    Load {
-        temp: u32,
-        reg: u8,
-    },
+    Load { temp: u32, reg: u8 },
     /// From a register to another one.
-    Shift {
-        temp: u32,
-        from: u8,
-        to: u8,
-    },
+    Shift { temp: u32, from: u8, to: u8 },
 }
 
 /// What is done on the way from the end of a block to the top of another.
@@ -55,33 +45,14 @@ pub enum Event {
     /// It comes to the instruction with a number in linear order.
     Visit(u32),
     /// A temporary gets a register.
-    Assign {
-        temp: u32,
-        reg: u8,
-    },
+    Assign { temp: u32, reg: u8 },
     /// A temporary leaves its register for its slot.
-    Evict {
-        temp: u32,
-        reg: u8,
-    },
-    Store {
-        temp: u32,
-        reg: u8,
-    },
-    Load {
-        temp: u32,
-        reg: u8,
-    },
-    Shift {
-        temp: u32,
-        from: u8,
-        to: u8,
-    },
+    Evict { temp: u32, reg: u8 },
+    Store { temp: u32, reg: u8 },
+    Load { temp: u32, reg: u8 },
+    Shift { temp: u32, from: u8, to: u8 },
     /// A temporary is written in its register.
-    Write {
-        temp: u32,
-        reg: u8,
-    },
+    Write { temp: u32, reg: u8 },
 }
 
 /// A function with the places of its temporaries. Instructions are counted in linear order, which is that of the

@@ -1,5 +1,5 @@
 -- The laws of instructions.
-use Rattle.std.proofs.Common.{◌≡◌, ◌≢◌, ℕ, zero, suc, Bool, true, false, List, [], ◌∷◌, Option, Some, refl, ap, sym, ◌∙◌}
+use Rattle.std.proofs.Common.{◌≡◌, ◌≢◌, ◌≤◌, arith, length, ℕ, zero, suc, Bool, true, false, List, [], ◌∷◌, Option, Some, refl, ap, sym, ◌∙◌}
 use Rattle.std.specs.Prelude.{slice_get, slice_set}
 use Rattle.pass_core.specs.Insns.{InsnLaws}
 use Rattle.temp_ir.specs.declared.insn.TempInsn.{TempInsn}
@@ -31,6 +31,11 @@ kind (Divide routine) = HasNone _ (λ k block. refl) refl
 kind (Serve service) = HasNone _ (λ k block. refl) refl
 kind (Return with_value) = HasNone _ (λ k block. refl) refl
 kind Mark = HasNone _ (λ k block. refl) refl
+
+one : (i : TempInsn) → Kind i → length (targets_of i) ≤ 1
+one _ (IsBranch op source block) = omega arith
+one _ (IsJump block) = omega arith
+one _ (HasNone i same none) = omega (arith, ap length none)
 
 sets : (i : TempInsn) (k block : ℕ) → targets_of (with_block i k block) ≡ slice_set (targets_of i) k block
 sets (Branch op source old) zero block = refl
@@ -119,6 +124,7 @@ only _ block others (HasNone i same none) stops is = absurd (nothing (targets_of
 
 pub insn_laws : InsnLaws reads_of writes_of targets_of with_block jump_of flows_on_of may_trap_of
 insn_laws = record {
+  one_target = λ i. one i (kind i);
   sets_target = λ i k block within. sets i k block;
   keeps_reads = kept (List ℕ) reads_of (λ op source a b. refl) (λ a b. refl);
   keeps_writes = kept (List ℕ) writes_of (λ op source a b. refl) (λ a b. refl);
