@@ -12,4 +12,5 @@ pub mod SmallSteps
 pub mod Steps
 pub mod Units
 pub mod Whole
+pub mod SmallAsks
 pub mod SmallEnds

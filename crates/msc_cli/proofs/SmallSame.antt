@@ -6,9 +6,13 @@ use Rattle.c_mean.specs.Small.{Expression, SmallUnit, low_byte, written_by, stat
 use Rattle.alpha_isa.specs.Program.{Program}
 use Rattle.alpha_isa.specs.Behave.{behave_a, output_of, start}
 use Rattle.alpha_isa.specs.Behave as alpha
+use Rattle.alpha_isa.specs.State.{State}
+use Rattle.alpha_isa.specs.Step.{Goes, exec}
+use Rattle.alpha_run.specs.Services.{asks}
 use Rattle.msc_cli.specs.SmallImage.{small_program}
 use Rattle.msc_cli.specs.Same.{IsPrefix, output_of_c, SameOn, Same}
 use Rattle.msc_cli.proofs.SmallRun.{small_run, AreBytes, runs}
+use Rattle.msc_cli.proofs.SmallAsks.{never_asks}
 
 -- a run that goes on has written a front of the whole output, and one that ended has written it all
 pub data Shape (whole : List ℕ) (status : ℕ) (b : alpha.Behaviour) : Type 0 where
@@ -104,6 +108,9 @@ module _ (u : SmallUnit) (stack : ℕ) (input : List ℕ) where
 
   pub machine_ends_later : (k : ℕ) → all_steps (written_by u) ≤ k → behave_a (image_of u) stack input k ≡ alpha.Done (written_by u) (status_of u)
   machine_ends_later k enough = machine_runs k ∙ ends_later (written_by u) (status_of u) [] k enough
+
+  pub machine_asks : (k : ℕ) (t : State) → exec (image_of u) k (start (image_of u) stack input) ≡ Goes t → asks (image_of u) 3 t ≡ false
+  machine_asks k t = never_asks (image_of u) (written_by u) (status_of u) 0 (start (image_of u) stack input) t (are_bytes u.puts) (low_byte-lt u.status) refl refl refl k
 
   machine_shape : (k : ℕ) → Shape (written_by u) (status_of u) (behave_a (image_of u) stack input k)
   machine_shape k = subst (Shape (written_by u) (status_of u)) (sym (machine_runs k)) (shape (written_by u) (status_of u) [] k (written_by u) refl)

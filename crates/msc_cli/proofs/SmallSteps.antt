@@ -1,5 +1,5 @@
 -- What the instructions of a small image do, one service call after another.
-use Rattle.std.proofs.Common.{◌≡◌, ◌==◌, ℕ, zero, suc, ◌+◌, ◌-◌, ◌/◌, ◌%◌, ◌^◌, ◌<◌, List, [], ◌∷◌, ◌++◌, false, nat_lt, Some, length, drop, set, map, refl, sym, ◌∙◌, ap, subst, arith, slice_get, slice_set, get_or-set_same, get_or-set_other}
+use Rattle.std.proofs.Common.{◌≡◌, ◌==◌, ◌&&◌, ℕ, zero, suc, ◌+◌, ◌-◌, ◌/◌, ◌%◌, ◌^◌, ◌<◌, List, [], ◌∷◌, ◌++◌, false, nat_lt, Some, length, drop, set, map, refl, sym, ◌∙◌, ap, subst, arith, slice_get, slice_set, get_or-set_same, get_or-set_other}
 use Rattle.std.proofs.Math.ListN.{length-set}
 use Rattle.std.proofs.lemmas.Bool.{le-ltb}
 use Rattle.alpha_isa.specs.declared.insn.Fields.{Fields}
@@ -10,6 +10,7 @@ use Rattle.alpha_isa.specs.Program.{Program, word_address, instruction_at}
 use Rattle.alpha_isa.specs.State.{State, register}
 use Rattle.alpha_isa.specs.Step.{Goes, step, exec, go_on, fetched_step, service_step, insn_step}
 use Rattle.alpha_isa.proofs.Words.{word_decoded}
+use Rattle.alpha_run.specs.Services.{is_service, asks}
 use Rattle.msc_cli.specs.SmallImage.{set_register, service_call}
 
 slice_get-drop : {A : Type 0} (xs : List A) (i : ℕ) (x : A) (rest : List A) → drop i xs ≡ x ∷ rest → slice_get xs i ≡ Some x
@@ -90,3 +91,22 @@ service_steps p s i operand service n rest size small few here e =
     step_is p (before_service operand service s) (suc (suc i)) (Pal 0x83) rest (drop-suc p.words (suc i) _ _ later) refl (omega arith)
     ∙ ap (λ number. service_step number (before_service operand service s)) (service_number operand service s size) in
     rw (first, second, third) refl
+
+-- an instruction that calls no service asks for none
+asks_none : (p : Program) (s : State) (f : Fields) → instruction_at p s.pc ≡ Some f → is_service (Some f) ≡ false → asks p 3 s ≡ false
+asks_none p s f here other = ap (λ found. is_service found && (register s 0 == 3)) here ∙ ap (λ b. b && (register s 0 == 3)) other
+
+-- nor do the three of a service call ask for a byte of the input, where the service is another
+pub call_asks : (p : Program) (s : State) (i operand service : ℕ) (rest : List ℕ) → length s.registers ≡ 32 → operand < 256 → service < 256 → (service == 3) ≡ false → drop i p.words ≡ map word_of (service_call operand service) ++ rest → s.pc ≡ word_address i
+    → (asks p 3 s ≡ false) × (asks p 3 (after_set 16 operand s) ≡ false) × (asks p 3 (before_service operand service s) ≡ false)
+call_asks p s i operand service rest size small few other here e =
+    let later = drop-suc p.words i _ _ here in
+    let t : State = after_set 16 operand s in
+    let u : State = before_service operand service s in
+    let first : instruction_at p s.pc ≡ Some (set_register 16 operand) = fetched_is p i s.pc (set_register 16 operand) _ here (omega arith, omega arith, omega arith) e in
+    let second : instruction_at p t.pc ≡ Some (set_register 0 service) = fetched_is p (suc i) t.pc (set_register 0 service) _ later (omega arith, omega arith, omega arith) (omega arith) in
+    let third : instruction_at p u.pc ≡ Some (Pal 0x83) = fetched_is p (suc (suc i)) u.pc (Pal 0x83) rest (drop-suc p.words (suc i) _ _ later) refl (omega arith) in (
+      asks_none p s (set_register 16 operand) first refl,
+      asks_none p t (set_register 0 service) second refl,
+      ap (λ found. is_service found && (register u 0 == 3)) third ∙ ap (λ n. n == 3) (service_number operand service s size) ∙ other,
+    )

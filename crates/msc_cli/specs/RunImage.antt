@@ -48,9 +48,8 @@ Holds bytes p = IfSome bytes (λ b. IsImage b p)
 abbrev pub Executes : Option (List ℕ) → Outcome → Traffic → Traffic → Type 0
 Executes bytes = Does (RefusesBytes bytes) (Holds bytes) RunsImage
 
--- what a run of a small program may answer: its status, unless the outside fails or memory is short
+-- what a run of a small program may answer: its status, unless the output fails or memory is short
 pub data EndsWith (status : ℕ) : Outcome → Type 0 where
   ran : EndsWith status (Ran status)
-  input_fault : EndsWith status InputFault
   write_fault : EndsWith status WriteFault
   no_memory : EndsWith status NoMemory

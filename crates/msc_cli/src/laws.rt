@@ -26,8 +26,8 @@ pub fn a_run_is_the_program()
         (put : List ℕ) × (after.taken ≡ taken_with put before.taken) × DoesAlike text input put status }
 {}
 
-/// A run of a program of the small form, on an input that is told, ends with the program's status, unless the outside
-/// fails or memory is short: it is never out of steps, stuck or trapped.
+/// A run of a program of the small form, on an input that is told, ends with the program's status, unless the file or
+/// the output fails or memory is short: it is never out of steps, stuck or trapped, and no input fails it.
 pub fn a_small_program_ends()
     ensures { (text input : List ℕ) (u : SmallUnit) (answer : Answer) (before after : Traffic) → IsSmall text u →
         before.left ≡ Some input → Runs (Some text) answer before after → answer ≢ FileFault →

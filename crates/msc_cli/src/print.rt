@@ -2,9 +2,10 @@
 
 ghost use Rattle.std.specs.Prelude.{◌≡◌, ◌≢◌, ◌↔◌, ◌<◌, length, IfSome, IfErr, IfOk, Some, IsTrue, option_map};
 ghost use Rattle.bk_io.specs.Shelf.{is_due, after_call};
+ghost use Rattle.c_lexer.specs.Limits.{text_limit};
 ghost use Rattle.msc_cli.specs.FromFile.{text_of};
 ghost use Rattle.msc_cli.specs.model.Causes.{outcome_of_parse_fault};
-ghost use Rattle.msc_cli.specs.Limits.{most_source, source_limit};
+ghost use Rattle.msc_cli.specs.Limits.{source_limit};
 ghost use Rattle.msc_cli.specs.PrintTree.{WritesTree, Prints};
 ghost use Rattle.msc_cli.specs.Output.{file_faults_after, output_faults_after};
 
@@ -55,7 +56,7 @@ fn print_text<O: Sink>(alloc: Global, text: &[u8], out: &mut O) -> Outcome
     ensures count { O.faults out.new ≡ output_faults_after result (O.faults out.old) }
     ensures no_file { result ≢ Outcome.FileFault }
     ensures no_input { result ≢ Outcome.InputFault }
-    ensures long { most_source < length text.now → result ≡ Outcome.Limit Which.Text source_limit }
+    ensures long { text_limit < length text.now → result ≡ Outcome.Limit Which.Text source_limit }
 {
     if text.len() as u64 >= SOURCE_LIMIT {
         return Outcome::Limit {

@@ -9,4 +9,4 @@ pub mod number;
 mod sheet;
 pub mod table;
 
-pub use table::{Table, check_table, ends_well, path_of};
+pub use table::{Table, check_tables};

@@ -4,7 +4,7 @@ use crate::escape::{escape, unescape};
 use crate::sheet::{Row, read_rows};
 use anyhow::{Context, Result, bail};
 use std::alloc::Global;
-use std::fs;
+use std::{env, fs};
 
 /// A file of rows of one kind, with what its rows are given to.
 pub trait Table {
@@ -16,9 +16,25 @@ pub trait Table {
     fn answer(&mut self, alloc: Global, given: &str) -> Result<Vec<u8>>;
 }
 
+/// Checks the tables that the words of the command line name, or all of them where there are no words, and
+/// prints a line for each. It fails where one of them differs.
+pub fn check_tables<T: Table>(rt: &HostRuntime, tables: &mut [T]) -> Result<()> {
+    let words: Vec<String> = env::args(rt)?.collect(rt.alloc())?;
+    let mut differing = 0u32;
+    for table in tables {
+        let Some(path) = path_of(words.as_slice(), table.file()) else {
+            continue;
+        };
+        if !check_table(rt, table, path)? {
+            differing = differing.saturating_add(1);
+        }
+    }
+    ends_well(differing)
+}
+
 /// The path of a file, if it is to be checked: its own name where there are no words behind that of the
 /// program, else the first word that ends with it.
-pub fn path_of<'a>(words: &'a [String], file: &'a str) -> Option<&'a str> {
+fn path_of<'a>(words: &'a [String], file: &'a str) -> Option<&'a str> {
     let (_program, paths) = words.split_first()?;
     if paths.is_empty() {
         return Some(file);
@@ -33,7 +49,7 @@ pub fn path_of<'a>(words: &'a [String], file: &'a str) -> Option<&'a str> {
 
 /// Checks the rows of a file and prints its line: the count of its rows, or the first that differs, with what
 /// was due and what came. It answers whether what comes is always what is due.
-pub fn check_table<T: Table>(rt: &HostRuntime, table: &mut T, path: &str) -> Result<bool> {
+fn check_table<T: Table>(rt: &HostRuntime, table: &mut T, path: &str) -> Result<bool> {
     let alloc = rt.alloc();
     let text = fs::read_to_string(rt, path).context(format_args!("reading {path}"))?;
     let rows = read_rows(alloc, text.as_str())?;
@@ -67,7 +83,7 @@ fn first_difference<T: Table>(
 }
 
 /// The end of a program of rows: a failure where files differ.
-pub fn ends_well(differing: u32) -> Result<()> {
+fn ends_well(differing: u32) -> Result<()> {
     if differing > 0 {
         bail!("rows differ in {differing} files");
     }

@@ -10,3 +10,5 @@ pub mod Instructions
 pub mod Progress
 pub mod Begins
 pub mod Wholes
+pub mod Falls
+pub mod Ends

@@ -1,2 +1,3 @@
 pub mod Run
 pub mod model
+pub mod Laws

@@ -4,3 +4,4 @@ pub mod Config
 pub mod Stops
 pub mod Progress
 pub mod Begin
+pub mod Falls

@@ -8,6 +8,7 @@ mod beginning;
 mod calls;
 pub mod ending;
 mod indexing;
+pub mod laws;
 mod machine;
 pub mod run;
 mod step;

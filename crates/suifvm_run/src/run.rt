@@ -7,9 +7,10 @@ ghost use Rattle.suifvm_ir.specs.Programs as programs;
 ghost use Rattle.suifvm_run.specs.Run.{Traffic, Behaves, input_faults_after, output_faults_after};
 ghost use Rattle.suifvm_run.specs.model.Begin.{start_at};
 ghost use Rattle.suifvm_run.specs.model.Config as config;
+ghost use Rattle.suifvm_run.specs.model.Falls.{AreMarked, machine_left};
 ghost use Rattle.suifvm_run.specs.model.Progress as progress;
 ghost use Rattle.suifvm_run.specs.model.Stops.{IsRun};
-ghost use Rattle.suifvm_run.specs.model.Tables.{AreNumbered};
+ghost use Rattle.suifvm_run.specs.model.Tables.{AreNumbered, functions_of};
 ghost use Rattle.vm_meaning.specs.Behave.{Registers, main_of};
 ghost use Rattle.vm_meaning.specs.Effect as effect;
 ghost use Rattle.vm_operations.specs.Tidy.{IsTidy};
@@ -58,9 +59,12 @@ impl<'c, 'p> Machine<'c, 'p> {
         input: &mut I,
         out: &mut O,
     ) -> Option<VmEnding>
-        requires { config.IsSound self.old }
+        requires sound { config.IsSound self.old }
+        requires marked { AreMarked (config.program_of self.old) }
         ensures sound { IfNone result (config.IsSound self.new) }
         ensures program { IfNone result (self.new.program.now ≡ self.old.program.now) }
+        // fewer steps are left that it can take
+        ensures falls { IfNone result (machine_left self.new < machine_left self.old) }
         ensures run { (rooms : Rooms) (start : Config Registers) (told : Traffic) →
             progress.StandsAt rooms self.old.program.now start told
             (record { left = I.left input.old; made = I.made input.old; taken = O.taken out.old }) self.old →
@@ -89,15 +93,15 @@ impl<'c, 'p> Machine<'c, 'p> {
         }
     }
 
-    /// Runs until the run stops, which had so many turns. After 2^64 - 1 steps, which no run lives to see, it gives up
-    /// as for want of memory.
+    /// Runs until the run stops, which had so many turns. It does, since a jump that goes back takes a turn.
     pub(crate) fn run<I: Source, O: Sink>(
         &mut self,
         turns: u64,
         input: &mut I,
         out: &mut O,
     ) -> VmEnding
-        requires { config.IsSound self.old }
+        requires sound { config.IsSound self.old }
+        requires marked { AreMarked (config.program_of self.old) }
         ensures run { (rooms : Rooms) (start : Config Registers) (told : Traffic) →
             progress.StandsAt rooms self.old.program.now start told
             (record { left = I.left input.old; made = I.made input.old; taken = O.taken out.old }) self.old →
@@ -106,12 +110,11 @@ impl<'c, 'p> Machine<'c, 'p> {
         ensures input_count { I.faults input.new ≡ input_faults_after result (I.faults input.old) }
         ensures output_count { O.faults out.new ≡ output_faults_after result (O.faults out.old) }
     {
-        for _step in 0..u64::MAX {
+        loop {
             if let Some(ending) = self.turn(turns, input, out) {
                 return ending;
             }
         }
-        VmEnding::NoMemory
     }
 }
 
@@ -154,6 +157,7 @@ fn run_table<I: Source, O: Sink>(
     requires tidy { IsTidy memory }
     requires made { made ≡ length memory }
     requires numbers { AreNumbered 0 table.now.functions.items table.now.end }
+    requires marked { AreMarked (functions_of table.now) }
     ensures run { (rooms : Rooms) (bytes : List ℕ) → I.left input.old ≡ Some bytes →
         IsRun (progress.run_from rooms table.now (start_at rooms table.now main memory turns bytes)) turns result
         (record { left = I.left input.old; made = I.made input.old; taken = O.taken out.old })
@@ -176,7 +180,7 @@ fn run_table<I: Source, O: Sink>(
 /// `Ended`, `Trapped` and `Undefined` are the ending that the meaning of the program has on these bytes with so many
 /// turns, whatever the rooms of its functions are, and `Budget` is its want of a turn. `InputFault` and `WriteFault`
 /// come where the input or the output failed, before the step that asked for it. The input is asked once for each
-/// call of `getchar`. `NoMemory` comes where memory is short, and after 2^64 - 1 steps.
+/// call of `getchar`. `NoMemory` comes where memory is short.
 pub fn run_vm<I: Source, O: Sink>(
     alloc: Global,
     program: &VmProgram,

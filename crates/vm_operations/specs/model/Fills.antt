@@ -6,13 +6,13 @@ use Rattle.mem_model.specs.Memory.{Object, Memory}
 use Rattle.vm_operations.specs.Tidy.{IsTidy}
 
 -- its front holds cells, and the rest was never written
-abbrev pub filled : (writable : Bool) → (size : ℕ) → (front : List Cell) → Object
-filled writable size front =
+abbrev pub with_front : (writable : Bool) → (size : ℕ) → (front : List Cell) → Object
+with_front writable size front =
     record { live = true; writable = writable; cells = front ++ replicate (size - length front) Empty }
 
 -- a row was put into the last object, from a place on: where the front ended there, it is longer by the row
 pub record Adds (old new : Memory) (object at : ℕ) (row : List Cell) : Type 0 where
   pub fronts : (before : Memory) (writable : Bool) (size : ℕ) (front : List Cell) →
-      object ≡ length before → at ≡ length front → old ≡ before ++ filled writable size front ∷ [] →
-      new ≡ before ++ filled writable size (front ++ row) ∷ []
+      object ≡ length before → at ≡ length front → old ≡ before ++ with_front writable size front ∷ [] →
+      new ≡ before ++ with_front writable size (front ++ row) ∷ []
   pub tidy : IsTidy new

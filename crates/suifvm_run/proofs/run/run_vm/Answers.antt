@@ -1,6 +1,8 @@
 -- The run of a program is the run of its tables, or did not begin.
 use Rattle.std.proofs.Common.{ap, ◌∙◌}
 use Rattle.data_object.specs.Start.{start_memory}
+use Rattle.suifvm_run.specs.model.Tables.{functions_of}
+use Rattle.suifvm_run.proofs.Ends.{table_marked}
 use Rattle.suifvm_run.proofs.Wholes.{whole, not_begun}
 use Rattle.suifvm_run.proofs.run.run_vm.Goals as goal
 
@@ -9,6 +11,9 @@ returns-in_default-clause-run g c rooms bytes left = not_begun c.args.program.no
 
 pub returns-in_default-start_memory-clause-run : goal.returns-in_default-start_memory-clause-run
 returns-in_default-start_memory-clause-run g c rooms bytes left = not_begun c.args.program.now rooms bytes c.args.turns (record { left = g.I.Source.left c.args.input.now; made = g.I.Source.made c.args.input.now; taken = g.O.Sink.taken c.args.out.now }) left
+
+pub run_table-requires-clause-marked : goal.run_table-requires-clause-marked
+run_table-requires-clause-marked g c = table_marked (functions_of c.in-Ok.table) c.args.program.now c.in-Ok.ensures.code
 
 pub returns-clause-run : goal.returns-clause-run
 returns-clause-run g c rooms bytes left =

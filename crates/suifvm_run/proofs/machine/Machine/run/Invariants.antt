@@ -4,15 +4,20 @@ use Rattle.machine_model.specs.Machine.{Config}
 use Rattle.mem_model.specs.World.{Rooms}
 use Rattle.vm_meaning.specs.Behave.{Registers}
 use Rattle.suifvm_run.specs.Run.{Traffic}
-use Rattle.suifvm_run.specs.model.Config.{IsSound}
+use Rattle.suifvm_run.specs.model.Config.{IsSound, program_of}
+use Rattle.suifvm_run.specs.model.Falls.{AreMarked, machine_left}
 use Rattle.suifvm_run.specs.model.Progress.{StandsAt}
 use Rattle.suifvm_run.proofs.machine.Machine.run.Given as goal
 
-abbrev pub invariant-loop-step : goal.invariant-loop-step
-invariant-loop-step g l = record {
+abbrev pub invariant-loop-ending : goal.invariant-loop-ending
+invariant-loop-ending g l = record {
   sound : IsSound l.self;
+  marked : AreMarked (program_of l.self);
   program : l.self.program.now ≡ l.fn.self.program.now;
   run : (rooms : Rooms) (start : Config Registers) (told : Traffic) → StandsAt rooms l.fn.self.program.now start told (record { left = g.I.Source.left l.fn.input; made = g.I.Source.made l.fn.input; taken = g.O.Sink.taken l.fn.out }) l.fn.self → StandsAt rooms l.fn.self.program.now start told (record { left = g.I.Source.left l.input; made = g.I.Source.made l.input; taken = g.O.Sink.taken l.out }) l.self;
   input_count : g.I.Source.faults l.input ≡ g.I.Source.faults l.fn.input;
   output_count : g.O.Sink.faults l.out ≡ g.O.Sink.faults l.fn.out;
 }
+
+abbrev pub decreases-loop-ending : goal.decreases-loop-ending
+decreases-loop-ending g l = machine_left l.self

@@ -5,6 +5,7 @@ use Rattle.mem_model.specs.declared.value.Value.TheVariants.{Word}
 use Rattle.suifvm_ir.specs.Insns.{named}
 use Rattle.suifvm_run.specs.model.Config.{Wrote}
 use Rattle.suifvm_run.proofs.Progress.{goes_on, over_as, put_done, put_failed, take_failed, take_done, take_no_memory, no_memory_left}
+use Rattle.suifvm_run.proofs.Ends.{goes_falls, puts_falls, takes_falls}
 use Rattle.suifvm_run.proofs.machine.Machine.turn.Goals as goal
 
 pub returns-in-Goes-clause-run : goal.returns-in-Goes-clause-run
@@ -34,3 +35,14 @@ returns-in-Err-write-clause-run g c rooms start told at = take_no_memory rooms s
 
 pub returns-in-NoMemory-clause-run : goal.returns-in-NoMemory-clause-run
 returns-in-NoMemory-clause-run g c rooms start told at = no_memory_left rooms c.args.self.now.program.now start c.args.turns told _ c.args.self.now at
+
+pub returns-in-Goes-clause-falls : goal.returns-in-Goes-clause-falls
+returns-in-Goes-clause-falls g c = goes_falls c.args.self.now c.step.new.self c.requires.marked c.in-Goes.ensures
+
+pub returns-in-Ok-clause-falls : goal.returns-in-Ok-clause-falls
+returns-in-Ok-clause-falls g c = puts_falls c.args.self.now c.step.new.self c.requires.marked c.in-Puts.byte c.in-Puts.ensures
+
+pub returns-in-Ok-write-clause-falls : goal.returns-in-Ok-write-clause-falls
+returns-in-Ok-write-clause-falls g c =
+    takes_falls c.args.self.now c.step.new.self c.requires.marked c.in-Takes.destination c.in-Ok-next.byte c.write.new.self c.in-Takes.ensures
+    (subst (λ n. Wrote c.step.new.self c.write.new.self (named c.in-Takes.destination) (Word n)) c.word_of.ensures c.in-Ok-write.ensures)

@@ -1,0 +1,5 @@
+mod Runs
+mod Output
+mod Traps
+mod Replay
+mod Keeps

@@ -1,0 +1,140 @@
+-- Small programs over temporaries, to show what the meaning gives of them.
+use Rattle.std.specs.Prelude.{◌≡◌, ℕ, ◌-◌, ◌^◌, pos, negsuc, true, false, List, [], ◌∷◌, Option, Some, None}
+use Rattle.mem_model.specs.Ending.{Ending, Done, Trap, Undefined, More}
+use Rattle.machine_model.specs.Machine.{Next, Goes, Over}
+use Rattle.data_object.specs.declared.DataObject.{DataObject}
+use Rattle.data_object.specs.declared.Cell.TheVariants as cell
+use Rattle.suifvm_ir.specs.declared.insn.Place.TheVariants.{Global, Local}
+use Rattle.temp_ir.specs.declared.operation.AddressOp.TheVariants.{Lda, Ldah}
+use Rattle.temp_ir.specs.declared.operation.LoadOp.TheVariants.{Ldbu, Ldl, Ldq}
+use Rattle.temp_ir.specs.declared.operation.StoreOp.TheVariants.{Stb, Stl, Stq}
+use Rattle.temp_ir.specs.declared.operation.BranchOp.TheVariants.{Beq, Bne, Blt}
+use Rattle.temp_ir.specs.declared.operation.Operation.TheVariants.{Addl, Addq, AddqV, Subq, Cmpeq, Cmpult, Bis, Mulq}
+use Rattle.temp_ir.specs.declared.operation.ExtendOp.TheVariants.{Sextb}
+use Rattle.temp_ir.specs.declared.operation.Routine.TheVariants.{Divq, Reml}
+use Rattle.temp_ir.specs.declared.operation.Service as service
+use Rattle.temp_ir.specs.declared.operation.Service.TheVariants.{End, PutByte, GetByte}
+use Rattle.temp_ir.specs.declared.insn.FixedRegister.TheVariants.{Value, Argument0, Argument1, Argument2, Argument3, Argument4, Argument5, Dividend, Divisor, Answer}
+use Rattle.temp_ir.specs.declared.insn.Source.TheVariants as s
+use Rattle.temp_ir.specs.declared.insn.Operand.TheVariants as o
+use Rattle.temp_ir.specs.declared.insn.TempInsn.{TempInsn}
+use Rattle.temp_ir.specs.declared.insn.TempInsn.TheVariants.{Address, ObjectAddress, Load, Store, Operate, Extend, ToFixed, FromFixed, SetFixed, WriteArgument, ReadArgument, Branch, Jump, Call, Divide, Serve, Return, Mark}
+use Rattle.alloc_model.specs.Temporaries.{FunctionCode, Temps, temp_run, start_world}
+
+-- what is seen of a run: how it ended, if it did, and its output
+pub data Shown : Type 0 where
+  ShowsDone : (status : ℕ) → (output : List ℕ) → Shown
+  ShowsTrap : (code : ℕ) → (output : List ℕ) → Shown
+  ShowsUndefined : (at : ℕ) → (output : List ℕ) → Shown
+  ShowsMore : (output : List ℕ) → Shown
+  GoesOn : Shown
+
+abbrev pub shown_ending : Ending → Shown
+shown_ending (Done w status) = ShowsDone status w.outer.output
+shown_ending (Trap w code) = ShowsTrap code w.outer.output
+shown_ending (Undefined w at) = ShowsUndefined at w.outer.output
+shown_ending (More w) = ShowsMore w.outer.output
+
+abbrev pub shown : {S : Type 0} → Next S → Shown
+shown (Goes k) = GoesOn
+shown (Over e) = shown_ending e
+
+-- a run of functions, of which the first is `main`, in at most 30 steps
+abbrev pub run_functions : List FunctionCode → List DataObject → (input : List ℕ) → (turns : ℕ) → Shown
+run_functions functions globals input turns = shown (temp_run [] functions 0 (start_world globals input turns) 30)
+
+abbrev pub function : (sizes : List ℕ) → List (List TempInsn) → FunctionCode
+function sizes blocks = record { sizes = sizes; blocks = blocks }
+
+-- a run of one function without memory locals, and of one block
+abbrev pub run_blocks : List (List TempInsn) → (input : List ℕ) → (turns : ℕ) → Shown
+run_blocks blocks input turns = run_functions (function [] blocks ∷ []) [] input turns
+
+abbrev pub run_block : List TempInsn → (input : List ℕ) → (turns : ℕ) → Shown
+run_block block input turns = run_blocks (block ∷ []) input turns
+
+-- a temporary is a number, and another one of the same content; a temporary is returned
+abbrev pub set : (t n : ℕ) → TempInsn
+set t n = Address Lda t s.Zero (pos n)
+
+abbrev pub copy : (t u : ℕ) → TempInsn
+copy t u = Operate Bis t s.Zero (o.Temp u)
+
+abbrev pub return : (t : ℕ) → List TempInsn
+return t = ToFixed Value t ∷ Return true ∷ []
+
+-- an object of 8 bytes whose first two are 1 and 255
+abbrev pub object : DataObject
+object = record {
+  name = [];
+  size = 8;
+  align = 8;
+  offset = 0;
+  writable = true;
+  cells = cell.Byte 1 ∷ cell.Byte 255 ∷ [];
+}
+
+pub record ExamplesRun : Type 0 where
+  -- an address of 16 bits and one of its high half
+  pub constants : run_block (Address Ldah 0 s.Zero (pos 1) ∷ Address Lda 1 (s.Temp 0) (negsuc 65528) ∷ return 1) [] 0
+      ≡ ShowsDone 7 []
+  -- a sum that traps, and one that wraps
+  pub traps : run_block (Address Lda 0 s.Zero (negsuc 0) ∷ Operate AddqV 1 (s.Temp 0) (o.Literal 1)
+      ∷ Divide Divq ∷ []) [] 0 ≡ ShowsUndefined 2 []
+  pub wraps : run_block (Address Lda 0 s.Zero (negsuc 0) ∷ Operate Addl 1 (s.Temp 0) (o.Literal 5) ∷ return 1) [] 0
+      ≡ ShowsDone 4 []
+  -- a byte is put, which is a turn
+  pub puts : run_block (SetFixed Value (pos 2) ∷ SetFixed Argument0 (pos 65) ∷ Serve PutByte ∷ set 0 3 ∷ return 0) [] 1
+      ≡ ShowsDone 3 (65 ∷ [])
+  pub wants_turn : run_block (SetFixed Value (pos 2) ∷ SetFixed Argument0 (pos 65) ∷ Serve PutByte ∷ []) [] 0
+      ≡ ShowsMore []
+  -- a byte is taken, and the number of a service has to be its own
+  pub gets : run_block (SetFixed Value (pos 3) ∷ Serve GetByte ∷ FromFixed 0 Value ∷ return 0) (7 ∷ []) 1
+      ≡ ShowsDone 7 []
+  pub other_number : run_block (SetFixed Value (pos 2) ∷ Serve GetByte ∷ FromFixed 0 Value ∷ return 0) (7 ∷ []) 1
+      ≡ ShowsUndefined 1 []
+  pub ends : run_block (SetFixed Value (pos 1) ∷ SetFixed Argument0 (pos 300) ∷ Serve End ∷ []) [] 1 ≡ ShowsDone 44 []
+  pub aborts : run_block (SetFixed Argument0 (pos 2) ∷ Serve service.TheVariants.Trap ∷ []) [] 1 ≡ ShowsTrap 2 []
+  -- a quotient and a remainder, a division by zero, and a word that a routine of 32 bits does not take
+  pub divides : run_block (SetFixed Dividend (pos 17) ∷ SetFixed Divisor (pos 5) ∷ Divide Divq ∷ FromFixed 0 Answer
+      ∷ return 0) [] 0 ≡ ShowsDone 3 []
+  pub divides_by_zero : run_block (SetFixed Dividend (pos 17) ∷ SetFixed Divisor (pos 0) ∷ Divide Reml ∷ []) [] 0
+      ≡ ShowsTrap 1 []
+  pub not_held : run_block (Address Ldah 0 s.Zero (pos 32767) ∷ Operate Addq 1 (s.Temp 0) (o.Temp 0)
+      ∷ ToFixed Dividend 1 ∷ SetFixed Divisor (pos 5) ∷ Divide Reml ∷ []) [] 0 ≡ ShowsUndefined 4 []
+  -- a branch that is taken, one that is not, and a loop for ever, which takes a turn each time
+  pub branches : run_blocks ((set 0 4 ∷ Branch Bne 0 2 ∷ []) ∷ return 1 ∷ return 0 ∷ []) [] 0 ≡ ShowsDone 4 []
+  pub falls_through : run_blocks ((set 0 4 ∷ Branch Beq 0 2 ∷ []) ∷ return 0 ∷ return 1 ∷ []) [] 0 ≡ ShowsDone 4 []
+  pub loops : run_blocks ([] ∷ (Mark ∷ Jump 1 ∷ []) ∷ []) [] 3 ≡ ShowsMore []
+  -- nothing was written
+  pub unset : run_block (set 0 1 ∷ Operate Addq 1 (s.Temp 0) (o.Temp 2) ∷ return 1) [] 0 ≡ ShowsUndefined 1 []
+  -- a byte of an object of static storage with its sign, one past its end, and a pointer that leaves it
+  pub loads : run_functions (function [] ((ObjectAddress 0 (Global 0) 0 ∷ Load Ldbu 1 0 (pos 1) ∷ Extend Sextb 2 (o.Temp 1)
+      ∷ Operate Addq 3 (s.Temp 2) (o.Literal 10) ∷ return 3) ∷ []) ∷ []) (object ∷ []) [] 0 ≡ ShowsDone 9 []
+  pub loads_outside : run_functions (function [] ((ObjectAddress 0 (Global 0) 8 ∷ Load Ldbu 1 0 (pos 0) ∷ return 1)
+      ∷ []) ∷ []) (object ∷ []) [] 0 ≡ ShowsUndefined 1 []
+  pub leaves : run_functions (function [] ((ObjectAddress 0 (Global 0) 8 ∷ Operate Addq 1 (s.Temp 0) (o.Literal 1)
+      ∷ return 1) ∷ []) ∷ []) (object ∷ []) [] 0 ≡ ShowsUndefined 1 []
+  -- a pointer that is stored, loaded and compared, and one whose low half is moved as a bundle
+  pub stores_pointer : run_functions (function (8 ∷ []) ((ObjectAddress 0 (Global 0) 0 ∷ ObjectAddress 1 (Local 0) 0
+      ∷ Store Stq (s.Temp 0) 1 (pos 0) ∷ Load Ldq 2 1 (pos 0) ∷ Operate Cmpeq 3 (s.Temp 2) (o.Temp 0) ∷ return 3) ∷ [])
+      ∷ []) (object ∷ []) [] 0 ≡ ShowsDone 1 []
+  pub moves_bundle : run_functions (function (8 ∷ 8 ∷ []) ((ObjectAddress 0 (Global 0) 0 ∷ ObjectAddress 1 (Local 0) 0
+      ∷ Store Stq (s.Temp 0) 1 (pos 0) ∷ ObjectAddress 2 (Local 1) 0 ∷ Load Ldl 3 1 (pos 0) ∷ copy 4 3
+      ∷ Store Stl (s.Temp 4) 2 (pos 0) ∷ Load Ldl 5 1 (pos 4) ∷ Store Stl (s.Temp 5) 2 (pos 4) ∷ Load Ldq 6 2 (pos 0)
+      ∷ Operate Cmpeq 7 (s.Temp 6) (o.Temp 0) ∷ return 7) ∷ []) ∷ []) (object ∷ []) [] 0 ≡ ShowsDone 1 []
+  pub adds_bundle : run_functions (function (8 ∷ []) ((ObjectAddress 1 (Local 0) 0 ∷ Load Ldl 3 1 (pos 0)
+      ∷ Operate Addq 4 (s.Temp 3) (o.Literal 1) ∷ return 4) ∷ []) ∷ []) [] [] 0 ≡ ShowsUndefined 2 []
+  -- seven arguments, of which the last stands in a place; one place more was not given
+  pub calls : run_functions (function [] ((set 0 5 ∷ set 1 9 ∷ ToFixed Argument0 0 ∷ SetFixed Argument1 (pos 0)
+      ∷ SetFixed Argument2 (pos 0) ∷ SetFixed Argument3 (pos 0) ∷ SetFixed Argument4 (pos 0) ∷ SetFixed Argument5 (pos 0)
+      ∷ WriteArgument 0 1 ∷ Call 1 7 ∷ FromFixed 2 Value ∷ return 2) ∷ [])
+      ∷ function [] ((FromFixed 0 Argument0 ∷ ReadArgument 1 0 ∷ Operate Mulq 2 (s.Temp 0) (o.Temp 1) ∷ return 2) ∷ [])
+      ∷ []) [] [] 1 ≡ ShowsDone 45 []
+  pub not_given : run_functions (function [] ((set 0 5 ∷ ToFixed Argument0 0 ∷ Call 1 1 ∷ []) ∷ [])
+      ∷ function [] ((ReadArgument 1 0 ∷ return 1) ∷ []) ∷ []) [] [] 1 ≡ ShowsUndefined 3 []
+  pub too_wide : run_functions (function [] ((set 0 5 ∷ WriteArgument 0 0 ∷ Call 1 6 ∷ []) ∷ []) ∷ []) [] [] 1
+      ≡ ShowsUndefined 1 []
+  -- a function that returns nothing
+  pub returns_nothing : run_functions (function [] ((Call 1 0 ∷ FromFixed 0 Value ∷ Operate Addq 1 (s.Temp 0) (o.Literal 1)
+      ∷ return 1) ∷ []) ∷ function [] ((Return false ∷ []) ∷ []) ∷ []) [] [] 1 ≡ ShowsUndefined 2 []

@@ -1,0 +1,9 @@
+pub mod Contents
+pub mod Effect
+pub mod Stores
+pub mod Temporaries
+pub mod Places
+pub mod Needs
+pub mod Faithful
+pub mod Laws
+pub mod Examples

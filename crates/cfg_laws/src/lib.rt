@@ -1,0 +1,4 @@
+//! What walks of functions say of runs.
+#![tactic(auto)]
+
+pub mod laws;

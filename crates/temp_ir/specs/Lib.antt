@@ -1,0 +1,6 @@
+pub mod Insns
+pub mod Fixed
+pub mod Operations
+pub mod Programs
+pub mod Text
+pub mod model

@@ -1,0 +1,15 @@
+use Rattle.std.proofs.Common.{arith}
+use Rattle.suifvm_ir.specs.Functions.{GoesToBlocks}
+use Rattle.suifvm_ir.specs.Insns.{targets_of}
+use Rattle.vm_checks.proofs.Alls.{all_more, all_done}
+use Rattle.vm_checks.proofs.blocks.go_to_blocks.Goals as goal
+
+pub loop-insn-preserved : goal.loop-insn-preserved
+loop-insn-preserved c =
+    all_more (GoesToBlocks targets_of c.args.blocks) c.args.insns.now c.loop-insn.insn-index c.insn-item.result
+    c.loop-insn-test.true c.insn-item.is c.loop-insn.invariant c.if-not-goes_to_blocks.ensures
+
+pub returns : goal.returns
+returns c =
+    all_done (GoesToBlocks targets_of c.args.blocks) c.args.insns.now c.loop-insn.insn-index (omega arith)
+    c.loop-insn.invariant

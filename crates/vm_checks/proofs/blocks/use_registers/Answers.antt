@@ -1,0 +1,15 @@
+use Rattle.std.proofs.Common.{arith}
+use Rattle.suifvm_ir.specs.Functions.{UsesRegisters}
+use Rattle.suifvm_ir.specs.Insns.{reads_of, writes_of}
+use Rattle.vm_checks.proofs.Alls.{all_more, all_done}
+use Rattle.vm_checks.proofs.blocks.use_registers.Goals as goal
+
+pub loop-insn-preserved : goal.loop-insn-preserved
+loop-insn-preserved c =
+    all_more (UsesRegisters reads_of writes_of c.args.registers) c.args.insns.now c.loop-insn.insn-index
+    c.insn-item.result c.loop-insn-test.true c.insn-item.is c.loop-insn.invariant c.if-not-uses_registers.ensures
+
+pub returns : goal.returns
+returns c =
+    all_done (UsesRegisters reads_of writes_of c.args.registers) c.args.insns.now c.loop-insn.insn-index (omega arith)
+    c.loop-insn.invariant

@@ -1,0 +1,7 @@
+use Rattle.std.proofs.Common.{◌≡◌, ℕ, ◌+◌, ◌<◌, slice_get, Some}
+use Rattle.data_object.specs.declared.Cell.TheVariants.{AddressPart}
+use Rattle.vm_checks.proofs.globals.stands_whole.Given as goal
+
+abbrev pub invariant-loop-part : goal.invariant-loop-part
+invariant-loop-part l =
+    (k : ℕ) → k < l.part → slice_get l.cells (l.first + k) ≡ Some (AddressPart l.address l.moved k)
