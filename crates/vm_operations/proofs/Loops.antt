@@ -41,11 +41,11 @@ cells_all m new object at cells past a = subst (λ xs. Adds m new object 0 (held
 
 -- ---- the zeros behind them
 
-pub zeros_more : (m mid new : Memory) (object first at : ℕ) → first ≤ at → Adds m mid object first (replicate (at - first) (cell.Byte 0)) → Adds mid new object at (cell.Byte 0 ∷ []) → Adds m new object first (replicate (at + 1 - first) (cell.Byte 0))
-zeros_more m mid new object first at past before one =
-    adds_more m mid new object first (replicate (at - first) (cell.Byte 0)) (cell.Byte 0 ∷ []) (replicate (at + 1 - first) (cell.Byte 0)) before
-    (subst (λ n. Adds mid new object n (cell.Byte 0 ∷ [])) (sym place) one)
-    (replicate-append-replicate (at - first) 1 (cell.Byte 0) ∙ ap (λ n. replicate n (cell.Byte 0)) count)
+pub zeros_more : (m mid new : Memory) (object first at count : ℕ) → first ≤ at → Adds m mid object first (replicate (at - first) (cell.Byte 0)) → Adds mid new object at (replicate count (cell.Byte 0)) → Adds m new object first (replicate (at + count - first) (cell.Byte 0))
+zeros_more m mid new object first at count past before some =
+    adds_more m mid new object first (replicate (at - first) (cell.Byte 0)) (replicate count (cell.Byte 0)) (replicate (at + count - first) (cell.Byte 0)) before
+    (subst (λ n. Adds mid new object n (replicate count (cell.Byte 0))) (sym place) some)
+    (replicate-append-replicate (at - first) count (cell.Byte 0) ∙ ap (λ n. replicate n (cell.Byte 0)) sum)
   where
     len : length (replicate (at - first) (cell.Byte 0)) ≡ at - first
     len = length-replicate (at - first) (cell.Byte 0)
@@ -53,8 +53,14 @@ zeros_more m mid new object first at past before one =
     place : first + length (replicate (at - first) (cell.Byte 0)) ≡ at
     place = ap (λ n. first + n) len ∙ omega (arith, past)
 
-    count : at - first + 1 ≡ at + 1 - first
-    count = omega (arith, past)
+    sum : at - first + count ≡ at + count - first
+    sum = omega (arith, past)
+
+pub zeros_all : (m new : Memory) (object first at end : ℕ) → at ≤ end → end ≤ at → Adds m new object first (replicate (at - first) (cell.Byte 0)) → Adds m new object first (replicate (end - first) (cell.Byte 0))
+zeros_all m new object first at end within past a = subst (λ n. Adds m new object first (replicate (n - first) (cell.Byte 0))) same a
+  where
+    same : at ≡ end
+    same = omega (arith, within, past)
 
 pub zeros_none : (m : Memory) (object first : ℕ) → IsTidy m → Adds m m object first (replicate (first - first) (cell.Byte 0))
 zeros_none m object first tidy = subst (λ n. Adds m m object first (replicate n (cell.Byte 0))) none (adds_nothing m object first tidy)

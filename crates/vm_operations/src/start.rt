@@ -14,6 +14,9 @@ use mem_model::memory::Mem;
 use mem_model::value::{Ptr, Value};
 use std::alloc::{AllocError, Global};
 
+/// How many zero bytes are put at once.
+const ZEROS: usize = 64;
+
 /// Puts a byte into an object. Where it has no place there, it is as for want of memory.
 fn put_byte(memory: &mut Mem, object: u64, at: u64, byte: u8) -> Result<(), AllocError>
     requires { IsTidy memory.old }
@@ -145,15 +148,34 @@ fn put_cells(memory: &mut Mem, object: u64, cells: &[Cell]) -> Result<(), AllocE
     Ok(())
 }
 
+/// Puts some zero bytes into an object, in the same way as one byte.
+fn put_zero_row(memory: &mut Mem, object: u64, at: u64, count: usize) -> Result<(), AllocError>
+    requires tidy { IsTidy memory.old }
+    requires few { count ≤ ZEROS }
+    ensures { OnOk result (Adds memory.old memory.new object at (replicate count (cell.Byte 0))) }
+{
+    let Ok(offset) = i64::try_from(at) else {
+        return Err(AllocError);
+    };
+    let zeros = [Value::Word(0); ZEROS];
+    match memory.init(Ptr { object, offset }, &zeros[..count]) {
+        Ok(()) => Ok(()),
+        Err(_) => Err(AllocError),
+    }
+}
+
 /// Puts zero bytes into an object, from a place up to an end.
-#[tactic(auto, using(crate::proofs::Loops::zeros_none))]
+#[tactic(auto, using(crate::proofs::Loops::zeros_none, crate::proofs::Loops::zeros_all))]
 fn put_zeros(memory: &mut Mem, object: u64, first: u64, end: u64) -> Result<(), AllocError>
     requires tidy { IsTidy memory.old }
     requires order { first ≤ end }
     ensures { OnOk result (Adds memory.old memory.new object first (replicate (end - first) (cell.Byte 0))) }
 {
-    for at in first..end {
-        put_byte(memory, object, at, 0)?;
+    let mut at = first;
+    while at < end {
+        let count = (end - at).min(ZEROS as u64);
+        put_zero_row(memory, object, at, count as usize)?;
+        at = at + count;
     }
     Ok(())
 }
