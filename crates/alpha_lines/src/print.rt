@@ -113,7 +113,8 @@ fn push_insn(line: &mut Vec<u8>, insn: &Insn32) -> Result<(), AllocError>
     }
 }
 
-/// Appends the line of an item, without a line feed. It fails only where memory is short.
+/// Appends the line of an item, without a line feed. It fails only where memory is short; then a front of it is
+/// appended.
 pub fn push_item(line: &mut Vec<u8>, item: &AsmItem) -> Result<(), AllocError>
     ensures { OnOk result (line.new.items ≡ line.old.items ++ lines.item_line item.now) }
 {
@@ -143,7 +144,8 @@ pub fn push_item(line: &mut Vec<u8>, item: &AsmItem) -> Result<(), AllocError>
     }
 }
 
-/// Appends the line that says how many bytes the data has, without a line feed.
+/// Appends the line that says how many bytes the data has, without a line feed. Where memory is short a front of it
+/// is appended.
 pub fn push_data(line: &mut Vec<u8>, n: u64) -> Result<(), AllocError>
     ensures { OnOk result (line.new.items ≡ line.old.items ++ lines.data_line n) }
 {
@@ -151,7 +153,7 @@ pub fn push_data(line: &mut Vec<u8>, n: u64) -> Result<(), AllocError>
     push_number(line, n)
 }
 
-/// Appends the line of a fix, without a line feed.
+/// Appends the line of a fix, without a line feed. Where memory is short a front of it is appended.
 pub fn push_fix(line: &mut Vec<u8>, fix: &Fix) -> Result<(), AllocError>
     ensures { OnOk result (line.new.items ≡ line.old.items ++ lines.fix_line fix.now) }
 {
@@ -169,7 +171,7 @@ fn hex_digit(d: u8) -> u8
     if d < 10 { b'0' + d } else { b'a' - 10 + d }
 }
 
-/// Appends the line of bytes of the data, without a line feed.
+/// Appends the line of bytes of the data, without a line feed. Where memory is short a front of it is appended.
 pub fn push_hex(line: &mut Vec<u8>, bytes: &[u8]) -> Result<(), AllocError>
     ensures { OnOk result (line.new.items ≡ line.old.items ++ lines.hex_line bytes.now) }
 {

@@ -1,12 +1,13 @@
 -- The parts of a text, one after another, are the text.
-use Rattle.std.proofs.Common.{◌≡◌, ℕ, List, [], Result, Ok, Err, length, sym, ◌∙◌, subst}
+use Rattle.std.proofs.Common.{◌≡◌, ℕ, ◌+◌, Option, None, List, [], Result, Ok, Err, length, sym, ◌∙◌, subst}
 use Rattle.std.specs.Prelude.{IfErr, IsErrAnd, MatchResult}
 use Rattle.alpha_items.specs.declared.item.AsmItem.{AsmItem}
 use Rattle.alpha_items.specs.declared.item.Fix.{Fix}
 use Rattle.alpha_text.specs.declared.fault.TextFault.{TextFault}
 use Rattle.alpha_text.specs.declared.fault.TextFault.TheVariants as fault
-use Rattle.alpha_text.specs.Wrong.{lines_of, is_ended, Standing, Nothing, Text, Data, WellFrom, NoneWrong}
+use Rattle.alpha_text.specs.Wrong.{lines_of, is_ended, Standing, Nothing, Text, Data, WrongFrom, WellFrom, NoneWrong}
 use Rattle.alpha_text.specs.Read.{IsFault}
+use Rattle.alpha_text.specs.model.Faults.{IsFaultOf}
 use Rattle.alpha_text.specs.model.Reaches.{Reaches, IsFaultFrom}
 use Rattle.alpha_text.proofs.Steps.{reaches_here, reaches_join}
 
@@ -14,6 +15,13 @@ pub fault_from : (text : List ℕ) (st : Standing) (p : List ℕ × ℕ) (f : Te
 fault_from text st p (fault.Line n) r h = r.wrong n h
 fault_from text st p (fault.Data n) r h = absurd h
 fault_from text st p fault.NoMemory r h = tt
+
+-- the fault of a line that was judged
+pub said_fault : {T E : Type 0} (all : List (List ℕ)) (st : Standing) (start : List ℕ × ℕ) (found : Result (Option T) E) (line : ℕ) (f : TextFault) → IsFaultOf found line f
+    → (found ≡ Ok None → WrongFrom all st (start.1 + 1) (lines_of start.0) (is_ended start.0) line) → IsFaultFrom all st start f
+said_fault all st start found line (fault.Line n) h wrong = subst (λ k. WrongFrom all st (start.1 + 1) (lines_of start.0) (is_ended start.0) k) (sym h.1) (wrong h.0)
+said_fault all st start found line (fault.Data n) h wrong = absurd h
+said_fault all st start found line fault.NoMemory h wrong = tt
 
 pub raised : {A : Type 0} (P : TextFault → Type 0) (r : Result A TextFault) (f : TextFault) → P f → IsErrAnd r (λ e. e ≡ f) → IfErr r P
 raised P (Ok a) f h e = tt

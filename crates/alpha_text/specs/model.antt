@@ -3,3 +3,4 @@ pub mod Survey
 pub mod Reaches
 pub mod Said
 pub mod Judged
+pub mod Faults

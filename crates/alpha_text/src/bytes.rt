@@ -1,6 +1,6 @@
 //! The lines of the data are judged.
 
-ghost use Rattle.std.specs.Prelude.{◌≡◌, ◌<◌, ◌≤◌, ◌+◌, ◌^◌, ◌↔◌, ℕ, List, [], IfOk, IfErr, IsTrue, option_map, length};
+ghost use Rattle.std.specs.Prelude.{◌≡◌, ◌<◌, ◌≤◌, ◌+◌, ◌^◌, ◌↔◌, ℕ, List, [], IfOk, IfErr, IsTrue, None, option_map, length};
 ghost use Rattle.alpha_items.specs.declared.item.AsmItem.{AsmItem as Item};
 ghost use Rattle.alpha_items.specs.Assembly.{IsFix};
 ghost use Rattle.alpha_text.specs.Wrong.{Data, lines_of, is_ended, IsBehind, WellFrom};
@@ -8,7 +8,7 @@ ghost use Rattle.alpha_text.specs.model.Reaches.{Reaches, IsFaultFrom};
 ghost use Rattle.alpha_text.specs.model.Judged as model;
 
 use crate::cursor::Cursor;
-use crate::fault::TextFault;
+use crate::fault::{TextFault, said_or_fault};
 use alpha_items::item::Fix;
 use alpha_lines::data::{read_fix, read_hex};
 use std::alloc::{AllocError, Global};
@@ -50,20 +50,9 @@ pub(crate) fn read_bytes(
 {
     let mut bytes: Vec<u8> = Vec::new(alloc);
     'rows: while (bytes.len() as u64) < count {
-        let Some(line) = lines.next_line() else {
-            return Err(TextFault::Line {
-                line: lines.next_number(),
-            });
-        };
-        let row = match next_row(alloc, line, bytes.len(), count) {
-            Ok(Some(row)) => row,
-            Ok(None) => {
-                return Err(TextFault::Line {
-                    line: lines.count(),
-                });
-            }
-            Err(_) => return Err(TextFault::NoMemory),
-        };
+        let line = lines.due_line()?;
+        let found = next_row(alloc, line, bytes.len(), count);
+        let row = said_or_fault(found, lines.count())?;
         if bytes.extend_from_slice(row.as_slice()).is_err() {
             return Err(TextFault::NoMemory);
         }
@@ -107,6 +96,17 @@ fn next_fix(line: &[u8], fixes: &[Fix], count: u64) -> Option<Fix>
     }
 }
 
+/// The fix of the line with this number, which has to be one that may stand behind the others.
+fn due_fix(line: &[u8], fixes: &[Fix], count: u64, number: u64) -> Result<Fix, TextFault>
+    ensures fix { IfOk result (λ fix. model.HasFix line.now fixes.now count fix) }
+    ensures none { IfErr result (λ fault. (fault ≡ TextFault.Line number) × model.IsFixLine line.now fixes.now count None) }
+{
+    match next_fix(line, fixes, count) {
+        Some(fix) => Ok(fix),
+        None => Err(TextFault::Line { line: number }),
+    }
+}
+
 /// Reads the lines of fixes, up to the end of the text.
 pub(crate) fn read_fixes(
     alloc: Global,
@@ -122,19 +122,11 @@ pub(crate) fn read_fixes(
 {
     let mut fixes = Vec::new(alloc);
     while let Some(line) = lines.next_line() {
-        let Some(fix) = next_fix(line, fixes.as_slice(), count) else {
-            return Err(TextFault::Line {
-                line: lines.count(),
-            });
-        };
+        let fix = due_fix(line, fixes.as_slice(), count, lines.count())?;
         if fixes.push(fix).is_err() {
             return Err(TextFault::NoMemory);
         }
     }
-    if !lines.is_at_end() {
-        return Err(TextFault::Line {
-            line: lines.next_number(),
-        });
-    }
+    lines.expect_end()?;
     Ok(fixes)
 }

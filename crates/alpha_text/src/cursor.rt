@@ -3,6 +3,7 @@
 ghost use Rattle.std.specs.Prelude.{◌≡◌, ◌+◌, ◌∷◌, ◌<◌, length, [], MatchOption};
 ghost use Rattle.alpha_text.specs.Wrong.{lines_of, is_ended};
 
+use crate::fault::TextFault;
 use std::marker::Model;
 
 /// The bytes that are still to be read, and how many lines stood before them.
@@ -23,7 +24,7 @@ impl<'a> Model for Cursor<'a> {
 }
 
 impl<'a> Cursor<'a> {
-    ghost use Rattle.std.specs.Prelude.{◌≡◌, ◌+◌, ◌∷◌, [], ◌<◌, length, MatchOption, OnSome, IsTrue, ◌↔◌};
+    ghost use Rattle.std.specs.Prelude.{◌≡◌, ◌≢◌, ◌+◌, ◌∷◌, [], ◌<◌, length, MatchOption, OnSome, OnOk, IfOk, IfErr, IsTrue, ◌↔◌};
     ghost use Rattle.alpha_text.specs.Wrong.{lines_of, is_ended};
 
     /// A cursor at the beginning of a text.
@@ -50,6 +51,35 @@ impl<'a> Cursor<'a> {
                 self.count += 1;
                 Some(line)
             }
+        }
+    }
+
+    /// The next line, which has to be there.
+    pub(crate) fn due_line(&mut self) -> Result<&'a [u8], TextFault>
+        ensures shorter { OnOk result (length self.new.0 < length self.old.0) }
+        ensures line { IfOk result (λ line. (lines_of self.old.0 ≡ line.now ∷ lines_of self.new.0)
+            × (is_ended self.old.0 ≡ is_ended self.new.0) × (self.new.1 ≡ self.old.1 + 1)) }
+        ensures none { IfErr result (λ fault. (fault ≡ TextFault.Line (self.old.1 + 1)) × (lines_of self.old.0 ≡ [])) }
+    {
+        match self.next_line() {
+            Some(line) => Ok(line),
+            None => Err(TextFault::Line {
+                line: self.next_number(),
+            }),
+        }
+    }
+
+    /// Refuses bytes behind the last line.
+    pub(crate) fn expect_end(&self) -> Result<(), TextFault>
+        ensures end { OnOk result (self.now.0 ≡ []) }
+        ensures rest { IfErr result (λ fault. (fault ≡ TextFault.Line (self.now.1 + 1)) × (self.now.0 ≢ [])) }
+    {
+        if self.is_at_end() {
+            Ok(())
+        } else {
+            Err(TextFault::Line {
+                line: self.next_number(),
+            })
         }
     }
 

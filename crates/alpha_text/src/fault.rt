@@ -1,5 +1,9 @@
 //! Why a text was not read.
 
+ghost use Rattle.std.specs.Prelude.{◌≡◌, IfOk, IfErr, Ok, Some};
+ghost use Rattle.alpha_text.specs.model.Faults.{IsFaultOf};
+
+use std::alloc::AllocError;
 use thiserror::Error;
 
 /// Why a text was not read as an assembly.
@@ -15,4 +19,20 @@ pub enum TextFault {
     /// There was no memory.
     #[error("there was no memory")]
     NoMemory,
+}
+
+/// What a line says. Where it says nothing that may stand there, the fault is its number, and else the want of
+/// memory that was met.
+pub(crate) fn said_or_fault<T>(
+    found: Result<Option<T>, AllocError>,
+    line: u64,
+) -> Result<T, TextFault>
+    ensures said { IfOk result (λ t. found ≡ Ok (Some t)) }
+    ensures fault { IfErr result (λ fault. IsFaultOf found line fault) }
+{
+    match found {
+        Ok(Some(said)) => Ok(said),
+        Ok(None) => Err(TextFault::Line { line }),
+        Err(_) => Err(TextFault::NoMemory),
+    }
 }

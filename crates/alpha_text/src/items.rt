@@ -13,7 +13,7 @@ ghost use Rattle.alpha_text.specs.model.Reaches.{Reaches, IsFaultFrom};
 ghost use Rattle.alpha_text.specs.model.Said as model;
 
 use crate::cursor::Cursor;
-use crate::fault::TextFault;
+use crate::fault::{TextFault, said_or_fault};
 use crate::survey::{Survey, add_named};
 use alpha_items::item::AsmItem;
 use alpha_lines::data::read_data;
@@ -162,16 +162,10 @@ pub(crate) fn read_items(
 {
     let mut items = Vec::new(alloc);
     let mut seen = HashSet::new(alloc);
-    while let Some(line) = lines.next_line() {
-        let said = match next_said(alloc, items.as_slice(), &seen, survey, line) {
-            Ok(Some(said)) => said,
-            Ok(None) => {
-                return Err(TextFault::Line {
-                    line: lines.count(),
-                });
-            }
-            Err(_) => return Err(TextFault::NoMemory),
-        };
+    'reading: loop {
+        let line = lines.due_line()?;
+        let found = next_said(alloc, items.as_slice(), &seen, survey, line);
+        let said = said_or_fault(found, lines.count())?;
         match said {
             Said::Count(n) => return Ok((items, n)),
             Said::Item(item) => {
@@ -184,7 +178,4 @@ pub(crate) fn read_items(
             }
         }
     }
-    Err(TextFault::Line {
-        line: lines.next_number(),
-    })
 }

@@ -1,6 +1,7 @@
 //! Texts are read.
 
-ghost use Rattle.std.specs.Prelude.{◌≡◌, ◌<◌, ℕ, List, IfOk, IfErr, MatchResult, [], OnOk};
+ghost use Rattle.std.specs.Prelude.{◌≡◌, ◌≢◌, ◌≤◌, ◌<◌, ℕ, List, IfOk, IfErr, MatchResult, [], OnOk};
+ghost use Rattle.alpha_isa.specs.Program.{most_bytes};
 ghost use Rattle.alpha_items.specs.Assembly.{Assembly, IsWhole};
 ghost use Rattle.alpha_text.specs.declared.fault.TextFault.TheVariants.{NoMemory};
 ghost use Rattle.alpha_text.specs.Texts.{Texts, HasText};
@@ -34,6 +35,7 @@ struct Parts {
 fn read_head(lines: &mut Cursor<'_>) -> Result<(), TextFault>
     ensures read { OnOk result ((all : List (List ℕ)) → Reaches all Nothing lines.old (Text []) lines.new) }
     ensures fault { IfErr result (λ e. (all : List (List ℕ)) → IsFaultFrom all Nothing lines.old e) }
+    ensures memory { IfErr result (λ e. e ≢ TextFault.NoMemory) }
 {
     match lines.next_line() {
         None => Err(TextFault::Line {
@@ -67,6 +69,18 @@ fn read_parts(alloc: Global, text: &[u8]) -> Result<Parts, TextFault>
     })
 }
 
+/// Refuses too many bytes of data.
+fn within_limit(counted: u64) -> Result<(), TextFault>
+    ensures within { OnOk result (counted ≤ most_bytes) }
+    ensures beyond { IfErr result (λ fault. (fault ≡ TextFault.Data counted) × (most_bytes < counted)) }
+{
+    if counted > MOST_BYTES {
+        Err(TextFault::Data { counted })
+    } else {
+        Ok(())
+    }
+}
+
 /// The assembly whose text this is. `Line` comes exactly where a line is in no form where it stands, with the
 /// first such line, and `Data` exactly where there is none and the data has more than 67,108,864 bytes, with
 /// their number. What `print_asm` makes of an assembly is read as that assembly, unless memory is short.
@@ -78,10 +92,6 @@ pub fn read_asm(alloc: Global, text: &[u8]) -> Result<Asm, TextFault>
         (λ found. found ≡ asm) (λ fault. fault ≡ NoMemory) }
 {
     let parts = read_parts(alloc, text)?;
-    if parts.count > MOST_BYTES {
-        return Err(TextFault::Data {
-            counted: parts.count,
-        });
-    }
+    within_limit(parts.count)?;
     Ok(Asm::new(parts.items, parts.bytes, parts.fixes))
 }

@@ -6,8 +6,8 @@ use Rattle.alpha_text.specs.model.Labels.{IsIndex}
 use Rattle.alpha_text.specs.model.Reaches.{Reaches}
 use Rattle.alpha_text.proofs.items.read_items.Given as goal
 
-abbrev pub invariant-loop-line : goal.invariant-loop-line
-invariant-loop-line l = IsIndex l.seen (labels l.items.items) × Reaches (lines_of l.survey.text.now) (Text []) l.fn.lines (Text l.items.items) l.lines
+abbrev pub invariant-reading : goal.invariant-reading
+invariant-reading l = IsIndex l.seen (labels l.items.items) × Reaches (lines_of l.survey.text.now) (Text []) l.fn.lines (Text l.items.items) l.lines
 
-abbrev pub decreases-loop-line : goal.decreases-loop-line
-decreases-loop-line l = length l.lines.0
+abbrev pub decreases-reading : goal.decreases-reading
+decreases-reading l = length l.lines.0

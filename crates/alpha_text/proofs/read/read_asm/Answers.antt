@@ -1,5 +1,5 @@
 -- What stands at the end of a text with no wrong line is whole, and it is the only one.
-use Rattle.std.proofs.Common.{◌≡◌, ◌<◌, ◌≤◌, sym, ◌∙◌, subst, arith}
+use Rattle.std.proofs.Common.{◌≡◌, ◌≤◌, sym, ◌∙◌, subst}
 use Rattle.alpha_isa.specs.Program.{most_bytes}
 use Rattle.alpha_text.specs.declared.fault.TextFault.TheVariants as fault
 use Rattle.alpha_text.specs.Texts.{Texts}
@@ -16,21 +16,17 @@ pub returns-in_err-parts-clause-only : goal.returns-in_err-parts-clause-only
 returns-in_err-parts-clause-only c asm whole has e =
     raised_only (λ found. found ≡ asm) c.from_residual.result c.in_err-parts.field-0.0 fault.NoMemory (fault_again c.args.text.now c.in_err-parts.field-0.0 asm c.in_err-parts.ensures.fault whole has e) c.from_residual.ensures.1
 
-pub returns-then-parts-gt-MOST_BYTES-clause-fault : goal.returns-then-parts-gt-MOST_BYTES-clause-fault
-returns-then-parts-gt-MOST_BYTES-clause-fault c =
+pub returns-in_err-within_limit-clause-only : goal.returns-in_err-within_limit-clause-only
+returns-in_err-within_limit-clause-only c asm whole has e =
     let p = c.in_ok-parts.parts in
-    ((p.items.items, p.bytes.items, p.fixes.items, c.in_ok-parts.ensures.read), omega (arith, c.if-parts-gt-MOST_BYTES.true))
-
-pub returns-then-parts-gt-MOST_BYTES-clause-only : goal.returns-then-parts-gt-MOST_BYTES-clause-only
-returns-then-parts-gt-MOST_BYTES-clause-only c asm whole has e =
-    let p = c.in_ok-parts.parts in
-    let high : most_bytes < p.count = omega (arith, c.if-parts-gt-MOST_BYTES.true) in
-    fault_again c.args.text.now (fault.Data p.count) asm ((p.items.items, p.bytes.items, p.fixes.items, c.in_ok-parts.ensures.read), high) whole has e
+    let beyond = c.in_err-within_limit.ensures.beyond in
+    raised_only (λ found. found ≡ asm) c.from_residual-in_err-within_limit.result c.in_err-within_limit.field-0.0 fault.NoMemory
+    (beyond.0 ∙ fault_again c.args.text.now (fault.Data p.count) asm ((p.items.items, p.bytes.items, p.fixes.items, c.in_ok-parts.ensures.read), beyond.1) whole has e) c.from_residual-in_err-within_limit.ensures.1
 
 pub new-requires : goal.new-requires
 new-requires c =
     let p = c.in_ok-parts.parts in
-    let low : p.count ≤ most_bytes = omega (arith, c.if-parts-gt-MOST_BYTES.false) in
+    let low : p.count ≤ most_bytes = c.in_ok-within_limit.ensures.within in
     read_whole c.args.text.now p.items.items p.count p.bytes.items p.fixes.items c.in_ok-parts.ensures.read low
 
 pub returns-clause-text : goal.returns-clause-text
