@@ -6,8 +6,8 @@ use Rattle.std.proofs.lemmas.Option.{slice_get-map, slice_get_within}
 use Rattle.mem_model.specs.World.{World, Rooms}
 use Rattle.mem_model.specs.Ending.{Ending}
 use Rattle.machine_model.specs.Code.{Site, Point, next_point, block_point, entry_point, Code}
-use Rattle.machine_model.specs.Machine.{Over}
-use Rattle.machine_model.proofs.Simulation.{SameSite, SameSites, KeepStep, runs_end}
+use Rattle.machine_model.specs.Machine.{Next, Goes, Over, start}
+use Rattle.machine_model.proofs.Simulation.{SameSite, SameSites, SameNext, KeepStep, runs, runs_end}
 use Rattle.suifvm_ir.specs.Functions.{insn_at, insn_in}
 use Rattle.temp_ir.specs.declared.insn.TempInsn.{TempInsn}
 use Rattle.temp_ir.specs.declared.program.TempProgram.{TempProgram}
@@ -170,13 +170,38 @@ module _ (rooms : Rooms) (plans : List Plan) (all : AllFaithful plans) where
     status = λ cs. refl;
   }
 
+module _ (rooms : Rooms) (plans : List Plan) (all : AllFaithful plans) where
+  abbrev Same : Next Temps → Next Places → Type 0
+  Same x y = SameNext Content Temps Places rooms (temp_code (functions_of plans)) (placed_code plans) (Related rooms plans all) x y
+
+  -- what the run over places ends with, that over temporaries ends with
+  back : (x : Next Temps) (y : Next Places) (e : Ending) → Same x y → y ≡ Over e → x ≡ Over e
+  back x (Goes l) e r is = absurd (cc)
+  back (Goes k) (Over j) e r is = absurd r
+  back (Over h) (Over j) e r is = let same : j ≡ e = cc in ap (λ x. Over x) (r ∙ same)
+
+  same_runs : (main : ℕ) (w : World) (n : ℕ) → Same (temp_run rooms (functions_of plans) main w n) (placed_run rooms plans main w n)
+  same_runs main w n =
+      runs Content Temps Places rooms (temp_code (functions_of plans)) (placed_code plans) (Related rooms plans all) (keep_step rooms plans all) n
+      (start Content Temps rooms (temp_code (functions_of plans)) main w) (start Content Places rooms (placed_code plans) main w)
+      (record { here = (refl, entry_agrees (slice_get plans main) _ _ (entry_homes (entry_holders 0) []), refl); callers = tt; world = refl })
+
 pub runs_kept : AllocationKeepsRuns
-runs_kept rooms plans all main w n e is =
-    runs_end Content Temps Places rooms (temp_code (functions_of plans)) (placed_code plans) (Related rooms plans all) (keep_step rooms plans all) n main w e is
+runs_kept rooms plans all main w n e = (
+  λ is. runs_end Content Temps Places rooms (temp_code (functions_of plans)) (placed_code plans) (Related rooms plans all) (keep_step rooms plans all) n main w e is,
+  λ is. back rooms plans all (temp_run rooms (functions_of plans) main w n) (placed_run rooms plans main w n) e (same_runs rooms plans all main w n) is,
+)
 
 pub programs_kept : AllocationKeeps
-programs_kept rooms program allocations same all input turns e x = record {
-  steps = x.steps;
-  over = runs_kept rooms (map plan_of allocations) all (main_of program.functions) (start_world program.globals input turns) x.steps e
-      (subst (λ fs. temp_run rooms fs (main_of program.functions) (start_world program.globals input turns) x.steps ≡ Over e) same x.over);
-}
+programs_kept rooms program allocations same all input turns e = (
+  λ x. record {
+    steps = x.steps;
+    over = (runs_kept rooms (map plan_of allocations) all (main_of program.functions) (start_world program.globals input turns) x.steps e).0
+        (subst (λ fs. temp_run rooms fs (main_of program.functions) (start_world program.globals input turns) x.steps ≡ Over e) same x.over);
+  },
+  λ x. record {
+    steps = x.steps;
+    over = subst (λ fs. temp_run rooms fs (main_of program.functions) (start_world program.globals input turns) x.steps ≡ Over e) (sym same)
+        ((runs_kept rooms (map plan_of allocations) all (main_of program.functions) (start_world program.globals input turns) x.steps e).1 x.over);
+  },
+)

@@ -3,3 +3,5 @@ mod Output
 mod Traps
 mod Replay
 mod Keeps
+mod Lifetimes
+mod Small

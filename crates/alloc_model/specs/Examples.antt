@@ -1,5 +1,5 @@
 -- Small programs over temporaries, to show what the meaning gives of them.
-use Rattle.std.specs.Prelude.{◌≡◌, ℕ, ◌-◌, ◌^◌, pos, negsuc, true, false, List, [], ◌∷◌, Option, Some, None}
+use Rattle.std.specs.Prelude.{◌≡◌, ℕ, ◌-◌, ◌^◌, pos, negsuc, true, false, List, [], ◌∷◌, map, Option, Some, None}
 use Rattle.mem_model.specs.Ending.{Ending, Done, Trap, Undefined, More}
 use Rattle.machine_model.specs.Machine.{Next, Goes, Over}
 use Rattle.data_object.specs.declared.DataObject.{DataObject}
@@ -19,7 +19,11 @@ use Rattle.temp_ir.specs.declared.insn.Source.TheVariants as s
 use Rattle.temp_ir.specs.declared.insn.Operand.TheVariants as o
 use Rattle.temp_ir.specs.declared.insn.TempInsn.{TempInsn}
 use Rattle.temp_ir.specs.declared.insn.TempInsn.TheVariants.{Address, ObjectAddress, Load, Store, Operate, Extend, ToFixed, FromFixed, SetFixed, WriteArgument, ReadArgument, Branch, Jump, Call, Divide, Serve, Return, Mark}
+use Rattle.alloc_model.specs.declared.allocation.EdgeCode.{EdgeCode}
+use Rattle.alloc_model.specs.declared.allocation.Transfer.{Transfer}
+use Rattle.alloc_model.specs.declared.allocation.Transfer.TheVariants as x
 use Rattle.alloc_model.specs.Temporaries.{FunctionCode, Temps, temp_run, start_world}
+use Rattle.alloc_model.specs.Places.{Plan, placed_run}
 
 -- what is seen of a run: how it ended, if it did, and its output
 pub data Shown : Type 0 where
@@ -138,3 +142,73 @@ pub record ExamplesRun : Type 0 where
   -- a function that returns nothing
   pub returns_nothing : run_functions (function [] ((Call 1 0 ∷ FromFixed 0 Value ∷ Operate Addq 1 (s.Temp 0) (o.Literal 1)
       ∷ return 1) ∷ []) ∷ function [] ((Return false ∷ []) ∷ []) ∷ []) [] [] 1 ≡ ShowsUndefined 2 []
+
+-- ---- over registers and slots
+
+-- a run of functions with their allocations, of which the first is `main`
+abbrev pub run_plans : List Plan → (turns : ℕ) → Shown
+run_plans plans turns = shown (placed_run [] plans 0 (start_world [] [] turns) 30)
+
+abbrev pub plan : List (List TempInsn) → List (List Transfer) → List (List ℕ) → List EdgeCode → Plan
+plan blocks at regs edges = record {
+  function = function [] blocks;
+  params = 0;
+  temps = 4;
+  top = map (λ block. []) blocks;
+  bottom = map (λ block. []) blocks;
+  at = at;
+  regs = regs;
+  edges = edges;
+}
+
+abbrev pub edge : (from to : ℕ) → List Transfer → EdgeCode
+edge from to code = record { from = from; to = to; code = code }
+
+-- 5 + 7, which is 12
+abbrev pub sum : List (List TempInsn)
+sum = (set 0 5 ∷ set 1 7 ∷ Operate Addq 2 (s.Temp 0) (o.Temp 1) ∷ return 2) ∷ []
+
+-- each temporary in a register of its own
+abbrev pub sum_in_registers : Plan
+sum_in_registers =
+    plan sum ([] ∷ [] ∷ [] ∷ [] ∷ [] ∷ []) ((1 ∷ []) ∷ (2 ∷ []) ∷ (1 ∷ 2 ∷ 3 ∷ []) ∷ (3 ∷ []) ∷ [] ∷ []) []
+
+abbrev pub run_sum : List (List Transfer) → List (List ℕ) → Shown
+run_sum at regs = run_plans (plan sum at regs [] ∷ []) 0
+
+-- a function that calls another one, which returns nothing, while 5 stands in a register
+abbrev pub calling : List (List TempInsn)
+calling = (set 0 5 ∷ Call 1 0 ∷ return 0) ∷ []
+
+abbrev pub run_calling : (register : ℕ) → Shown
+run_calling register =
+    run_plans (plan calling [] ((register ∷ []) ∷ [] ∷ (register ∷ []) ∷ [] ∷ []) []
+    ∷ plan ((Return false ∷ []) ∷ []) [] [] [] ∷ []) 1
+
+-- two temporaries, whose difference is taken in the next block, where each stands in the other's register
+abbrev pub swapped : List (List TempInsn)
+swapped = (set 0 9 ∷ set 1 4 ∷ Jump 1 ∷ []) ∷ (Operate Subq 2 (s.Temp 0) (o.Temp 1) ∷ return 2) ∷ []
+
+abbrev pub run_swapped : List Transfer → Shown
+run_swapped code =
+    run_plans (plan swapped [] ((1 ∷ []) ∷ (2 ∷ []) ∷ [] ∷ (2 ∷ 1 ∷ 3 ∷ []) ∷ (3 ∷ []) ∷ [] ∷ []) (edge 0 1 code ∷ [])
+    ∷ []) 0
+
+pub record PlacementsRun : Type 0 where
+  -- each temporary in a register of its own, and each in its slot between the instructions
+  pub registers : run_plans (sum_in_registers ∷ []) 0 ≡ ShowsDone 12 []
+  pub slots : run_sum ([] ∷ (x.Store 0 1 ∷ []) ∷ (x.Store 1 1 ∷ x.Load 0 1 ∷ x.Load 1 2 ∷ []) ∷ (x.Store 2 1 ∷ x.Load 2 1
+      ∷ []) ∷ []) ((1 ∷ []) ∷ (1 ∷ []) ∷ (1 ∷ 2 ∷ 1 ∷ []) ∷ (1 ∷ []) ∷ [] ∷ []) ≡ ShowsDone 12 []
+  -- a store is forgotten; a load stands before the store; a register is taken while its temporary is wanted
+  pub no_store : run_sum ([] ∷ (x.Store 0 1 ∷ []) ∷ (x.Load 0 1 ∷ x.Load 1 2 ∷ []) ∷ []) ((1 ∷ []) ∷ (1 ∷ [])
+      ∷ (1 ∷ 2 ∷ 1 ∷ []) ∷ (1 ∷ []) ∷ [] ∷ []) ≡ ShowsUndefined 2 []
+  pub load_first : run_sum ([] ∷ (x.Store 0 1 ∷ []) ∷ (x.Load 1 2 ∷ x.Store 1 1 ∷ x.Load 0 1 ∷ []) ∷ []) ((1 ∷ [])
+      ∷ (1 ∷ []) ∷ (1 ∷ 2 ∷ 1 ∷ []) ∷ (1 ∷ []) ∷ [] ∷ []) ≡ ShowsUndefined 2 []
+  pub taken : run_sum [] ((1 ∷ []) ∷ (1 ∷ []) ∷ (1 ∷ 1 ∷ 1 ∷ []) ∷ (1 ∷ []) ∷ [] ∷ []) ≡ ShowsDone 14 []
+  -- a call keeps register 9, and ends register 1
+  pub kept : run_calling 9 ≡ ShowsDone 5 []
+  pub ended : run_calling 1 ≡ ShowsUndefined 3 []
+  -- the transfers of an edge, in an order that swaps two registers and in one that does not, and none
+  pub in_order : run_swapped (x.Shift 0 1 28 ∷ x.Shift 1 2 1 ∷ x.Shift 0 28 2 ∷ []) ≡ ShowsDone 5 []
+  pub out_of_order : run_swapped (x.Shift 0 1 2 ∷ x.Shift 1 2 1 ∷ []) ≡ ShowsDone 0 []
+  pub no_transfers : run_swapped [] ≡ ShowsDone 251 []

@@ -1,5 +1,5 @@
 -- The laws of runs over temporaries, and over registers and slots.
-use Rattle.std.specs.Prelude.{◌≡◌, ℕ, ◌+◌, ◌≤◌, true, List, map, slice_get, Some}
+use Rattle.std.specs.Prelude.{◌≡◌, ℕ, ◌+◌, ◌≤◌, ◌↔◌, true, List, map, slice_get, Some}
 use Rattle.mem_model.specs.World.{Outer, World, Rooms}
 use Rattle.mem_model.specs.Ending.{Ending, ending_output}
 use Rattle.machine_model.specs.Code.{Stops, Traps}
@@ -58,19 +58,20 @@ OnlyTheseTrap =
     (widest : ℕ) (x : TempInsn) (own : ℕ) (cs : List Content) (o p : Outer) (code : ℕ) →
     does widest x own cs o ≡ Stops (Traps code) p → may_trap_of x ≡ true
 
--- a program whose functions have faithful allocations ends over registers and slots just as over temporaries, in the same
--- number of steps, with the same world and ending; each function may have an allocation of its own
+-- each function of a program has a faithful allocation
 pub record AllFaithful (plans : List Plan) : Type 0 where
   pub each : (k : ℕ) (a : Plan) → slice_get plans k ≡ Some a → Faithful a
 
+-- Then its runs end over registers and slots just as over temporaries, in the same number of steps, with the same world
+-- and ending; and a program has the endings over registers and slots that it has over temporaries
 abbrev pub AllocationKeepsRuns : Type 0
 AllocationKeepsRuns =
     (rooms : Rooms) (plans : List Plan) → AllFaithful plans → (main : ℕ) (w : World) (steps : ℕ) (e : Ending) →
-    temp_run rooms (functions_of plans) main w steps ≡ Over e → placed_run rooms plans main w steps ≡ Over e
+    (temp_run rooms (functions_of plans) main w steps ≡ Over e) ↔ (placed_run rooms plans main w steps ≡ Over e)
 
 abbrev pub AllocationKeeps : Type 0
 AllocationKeeps =
     (rooms : Rooms) (program : TempProgram) (allocations : List Allocation) →
     map code_of program.functions ≡ functions_of (map plan_of allocations) → AllFaithful (map plan_of allocations) →
-    (input : List ℕ) (turns : ℕ) (e : Ending) → TempsEnd rooms program input turns e →
-    PlacesEnd rooms program allocations input turns e
+    (input : List ℕ) (turns : ℕ) (e : Ending) →
+    TempsEnd rooms program input turns e ↔ PlacesEnd rooms program allocations input turns e

@@ -3,6 +3,7 @@ pub mod Effect
 pub mod Stores
 pub mod Temporaries
 pub mod Places
+pub mod Lifetimes
 pub mod Needs
 pub mod Faithful
 pub mod Laws

@@ -1,6 +1,8 @@
 //! Laws of the meaning, each the contract of a function that does nothing.
 
-ghost use Rattle.alloc_model.specs.Examples.{ExamplesRun};
+ghost use Rattle.alloc_model.specs.Examples.{ExamplesRun, PlacementsRun, sum_in_registers};
+ghost use Rattle.alloc_model.specs.Faithful.{Faithful};
+ghost use Rattle.alloc_model.specs.Lifetimes.{LifetimesAreUnique};
 ghost use Rattle.alloc_model.specs.Laws.{OneEnding, MoreTurnsKeepEnding, MoreTurnsExtendOutput, PeaksRise, InstructionsKeepOutput, OnlyTheseTrap, AllocationKeepsRuns, AllocationKeeps};
 
 /// A run has one ending at most, over temporaries and over registers and slots.
@@ -35,4 +37,19 @@ pub fn faithful_keeps_the_meaning()
 /// Small programs end as they should.
 pub fn examples_run()
     ensures { ExamplesRun }
+{}
+
+/// Small programs with allocations, right ones and wrong ones, end as they should.
+pub fn placements_run()
+    ensures { PlacementsRun }
+{}
+
+/// One of these allocations is faithful.
+pub fn a_small_allocation_is_faithful()
+    ensures { Faithful sum_in_registers }
+{}
+
+/// A temporary has one lifetime at most, and two of its parts are apart or the same.
+pub fn lifetimes_are_unique()
+    ensures { LifetimesAreUnique }
 {}
