@@ -81,8 +81,8 @@ pub fn constant(e: &TExpr) -> Option<u64>
     evaluate(e).value
 }
 
-/// Whether it is the integer constant 0.
-fn is_null_constant(e: &TExpr) -> bool
+/// Whether it is the integer constant 0. It takes no memory.
+pub fn is_null_constant(e: &TExpr) -> bool
     ensures { result ≡ constants.is_null_constant (expr_view e.now) }
 {
     match constant(e) {
@@ -128,9 +128,9 @@ fn is_null_cast(ty: &CType, e: &TExpr) -> bool
     false
 }
 
-/// Whether it is the integer constant 0 cast to `void *`.
+/// Whether it is the integer constant 0 cast to `void *`. It takes no memory.
 #[tactic(auto, unfolding(c_typed_tree::specs::model::View::opens))]
-fn is_null_void(e: &TExpr) -> bool
+pub fn is_null_void(e: &TExpr) -> bool
     ensures { result ≡ null.is_null_void (expr_view e.now) }
 {
     match e {

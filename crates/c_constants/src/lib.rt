@@ -5,4 +5,4 @@ mod evaluate;
 mod evaluation;
 mod operators;
 
-pub use evaluate::{constant, is_null_pointer_constant};
+pub use evaluate::{constant, is_null_constant, is_null_pointer_constant, is_null_void};

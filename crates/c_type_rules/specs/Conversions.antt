@@ -1,11 +1,9 @@
 -- Conversions of values, and the operators at which pointers meet (C99 6.3.2, 6.5.4, 6.5.9, 6.5.15, 6.5.16.1). Of each
 -- operand that may be a null pointer constant it is given whether it is one.
 use Rattle.std.specs.Prelude.{ℕ, Bool, true, false, ◌||◌, if◌then◌else◌, Option, Some, None, Ok}
-use denote.Hole.Carrier as Carrier
 use Rattle.c_arithmetic.specs.declared.integer_type.IntegerType.{IntegerType}
 use Rattle.c_tree.specs.declared.expressions.BinaryOp.{BinaryOp}
 use Rattle.c_typed_tree.specs.declared.types.CType as t
-use Rattle.c_typed_tree.specs.declared.types.CType.TheBlock as tb
 use Rattle.c_typed_tree.specs.declared.expressions.TExpr as x
 use Rattle.c_typed_tree.specs.View.{type_view}
 use Rattle.c_type_faults.specs.declared.faults.Kind.TheVariants.{BadOperand, BadConversion}
@@ -132,8 +130,3 @@ choice_of at c a b na nb None u = choice_apart at c a b na nb
 
 abbrev pub choice : ℕ → x.TExpr → (holds fails : Typed) → (null_left null_right : Bool) → Ruling Typed
 choice at c a b na nb = choice_of at c a b na nb (integer a) (integer b)
-
--- opens what looks into a type
-unfoldable pub opens : Unit {0}
-unfolding element tb.hidden-the_row-CType-0 Carrier.hidden
-opens = tt

@@ -4,6 +4,4 @@ pub mod Values
 pub mod Arithmetic
 pub mod Comparisons
 pub mod Conversions
-pub mod Places
-pub mod Assignments
-pub mod Members
+pub mod model

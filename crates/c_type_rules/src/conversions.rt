@@ -18,7 +18,7 @@ use c_typed_tree::{CType, TExpr};
 use std::alloc::{AllocError, Global};
 
 /// The type of the elements of an array.
-#[tactic(auto, unfolding(crate::specs::Conversions::opens))]
+#[tactic(auto, unfolding(crate::specs::model::Opens::opens))]
 fn element(alloc: Global, ty: &CType) -> Result<Option<CType>, AllocError>
     ensures { IfOk result (λ r. r ≡ spec.element ty.now) }
 {

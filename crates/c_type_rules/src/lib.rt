@@ -5,15 +5,12 @@
 #![tactic(auto)]
 
 pub mod arithmetic;
-pub mod assignments;
 pub mod comparisons;
 pub mod conversions;
-pub mod members;
-pub mod places;
 mod refusal;
-mod trees;
+pub mod trees;
 mod typed;
 pub mod types;
 
-pub use refusal::Refusal;
-pub use typed::{Place, Typed};
+pub use refusal::{Refusal, refused};
+pub use typed::{Place, Typed, value};

@@ -11,11 +11,7 @@ use c_typed_tree::{CType, TExpr};
 use std::alloc::{AllocError, Global};
 
 /// A conversion of a tree to a type.
-pub(crate) fn convert(
-    alloc: Global,
-    to: &CType,
-    operand: Box<TExpr>,
-) -> Result<Box<TExpr>, AllocError>
+pub fn convert(alloc: Global, to: &CType, operand: Box<TExpr>) -> Result<Box<TExpr>, AllocError>
     ensures { IfOk result (λ r. r ≡ x.Convert to.now operand) }
 {
     let ty = to.copy(alloc)?;
@@ -23,7 +19,7 @@ pub(crate) fn convert(
 }
 
 /// The tree of a value, converted where its type is another.
-pub(crate) fn converted(alloc: Global, to: &CType, a: Typed) -> Result<Box<TExpr>, AllocError>
+pub fn converted(alloc: Global, to: &CType, a: Typed) -> Result<Box<TExpr>, AllocError>
     ensures { IfOk result (λ r. r ≡ spec.converted to.now a) }
 {
     if is_same(to, &a.ty) {
@@ -33,7 +29,7 @@ pub(crate) fn converted(alloc: Global, to: &CType, a: Typed) -> Result<Box<TExpr
 }
 
 /// An operator in front of an operand.
-pub(crate) fn unary(
+pub fn unary(
     alloc: Global,
     at: u32,
     of: CType,
@@ -48,7 +44,7 @@ pub(crate) fn unary(
 }
 
 /// An operator between two operands.
-pub(crate) fn binary(
+pub fn binary(
     alloc: Global,
     at: u32,
     of: CType,
@@ -72,7 +68,7 @@ pub(crate) fn binary(
 }
 
 /// An operator between two operands that are both converted to a type.
-pub(crate) fn binary_in(
+pub fn binary_in(
     alloc: Global,
     at: u32,
     ty: CType,

@@ -29,7 +29,7 @@ pub struct Typed {
 }
 
 /// A value.
-pub(crate) fn value(at: u32, ty: CType, tree: Box<TExpr>) -> Typed
+pub fn value(at: u32, ty: CType, tree: Box<TExpr>) -> Typed
     ensures { result ≡ spec.value at ty tree }
 {
     Typed {

@@ -1,18 +1,17 @@
 //! Assignments (C99 6.5.16).
 
 ghost use Rattle.std.specs.Prelude.{◌≡◌, IfOk};
-ghost use Rattle.c_type_rules.specs.Assignments as spec;
+ghost use Rattle.c_place_rules.specs.Assignments as spec;
 ghost use Rattle.c_type_rules.specs.Rulings.{Gives};
 
-use crate::conversions::wanted;
 use crate::places::is_assignable;
-use crate::refusal::{Refusal, refused};
-use crate::trees::converted;
-use crate::typed::{Typed, value};
-use crate::types::{integer_type, points_to_object};
 use c_arithmetic::integer_type::IntegerType;
 use c_tree::{AssignOp, Box};
 use c_type_faults::Kind;
+use c_type_rules::conversions::wanted;
+use c_type_rules::trees::converted;
+use c_type_rules::types::{integer_type, points_to_object};
+use c_type_rules::{Refusal, Typed, refused, value};
 use c_typed_tree::layout::integer_of;
 use c_typed_tree::{CType, StructDef, TExpr};
 use std::alloc::{AllocError, Global};

@@ -1,20 +1,19 @@
 //! Places: what pointers lead to, addresses, and steps (C99 6.5.2.1, 6.5.2.4, 6.5.3.1, 6.5.3.2).
 
 ghost use Rattle.std.specs.Prelude.{◌≡◌, IfOk};
-ghost use Rattle.c_type_rules.specs.Places as spec;
+ghost use Rattle.c_place_rules.specs.Places as spec;
 ghost use Rattle.c_type_rules.specs.Rulings.{Gives};
 
-use crate::refusal::{Refusal, refused};
-use crate::trees::unary;
-use crate::typed::{Place, Typed, value};
-use crate::types::{is_integer, is_scalar, is_struct, points_to_object};
 use c_tree::{Box, StepOp, UnaryOp};
 use c_type_faults::Kind;
+use c_type_rules::trees::unary;
+use c_type_rules::types::{is_integer, is_scalar, is_struct, points_to_object};
+use c_type_rules::{Place, Refusal, Typed, refused, value};
 use c_typed_tree::{CType, StructDef, TExpr};
 use std::alloc::{AllocError, Global};
 
 /// The type that a pointer type points to.
-#[tactic(auto, unfolding(crate::specs::Places::opens))]
+#[tactic(auto, unfolding(crate::specs::model::Opens::opens))]
 fn target(alloc: Global, ty: &CType) -> Result<Option<CType>, AllocError>
     ensures { IfOk result (λ r. r ≡ spec.target ty.now) }
 {

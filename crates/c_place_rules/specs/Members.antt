@@ -9,7 +9,7 @@ use Rattle.c_typed_tree.specs.declared.expressions.TExpr as x
 use Rattle.c_typed_tree.specs.Layout.{size_of, is_object}
 use Rattle.c_typed_tree.specs.View.{type_view}
 use Rattle.c_type_faults.specs.declared.faults.Kind.TheVariants.{BadOperand, NoMember}
-use Rattle.c_type_rules.specs.declared.members.FoundMember.{FoundMember}
+use Rattle.c_place_rules.specs.declared.members.FoundMember.{FoundMember}
 use Rattle.c_type_rules.specs.declared.typed.Place.{Place}
 use Rattle.c_type_rules.specs.declared.typed.Place.TheVariants as p
 use Rattle.c_type_rules.specs.declared.typed.Typed.{Typed}
@@ -17,7 +17,7 @@ use Rattle.c_type_rules.specs.Rulings.{Ruling, fault}
 use Rattle.c_typed_tree.specs.Typing.{is_struct}
 use Rattle.c_type_rules.specs.Types.{points_to_struct}
 use Rattle.c_type_rules.specs.Values.{integer_type, value}
-use Rattle.c_type_rules.specs.Places.{is_somewhere, led_to}
+use Rattle.c_place_rules.specs.Places.{is_somewhere, led_to}
 
 -- ---- `.` of a place of struct type: the member of a local is that local's, as one takes its address
 

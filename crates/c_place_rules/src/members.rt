@@ -2,16 +2,15 @@
 
 ghost use Rattle.std.specs.Prelude.{◌≡◌, IfOk};
 ghost use Rattle.c_typed_tree.specs.declared.expressions.TExpr as x;
-ghost use Rattle.c_type_rules.specs.Members as spec;
+ghost use Rattle.c_place_rules.specs.Members as spec;
 ghost use Rattle.c_type_rules.specs.Rulings.{Gives};
 
 use crate::places::{is_somewhere, led_to};
-use crate::refusal::{Refusal, refused};
-use crate::typed::{Place, Typed, value};
-use crate::types::{integer_type, is_object, is_struct, points_to_struct};
 use c_arithmetic::integer_type::IntegerType;
 use c_tree::Box;
 use c_type_faults::Kind;
+use c_type_rules::types::{integer_type, is_object, is_struct, points_to_struct};
+use c_type_rules::{Place, Refusal, Typed, refused, value};
 use c_typed_tree::layout::size_of;
 use c_typed_tree::{CType, StructDef, TExpr};
 use std::alloc::{AllocError, Global};

@@ -14,7 +14,7 @@ use Rattle.c_typed_tree.specs.Typing.{points_to_object}
 use Rattle.c_type_rules.specs.Values.{integer, value, converted}
 use Rattle.c_type_rules.specs.Arithmetic.{promoted_type, common_type}
 use Rattle.c_type_rules.specs.Conversions.{wanted}
-use Rattle.c_type_rules.specs.Places.{is_assignable}
+use Rattle.c_place_rules.specs.Places.{is_assignable}
 
 abbrev pub assigned : ℕ → AssignOp → Typed → (right : x.TExpr) → Typed
 assigned at op a right = value at a.ty (x.Assign a.ty op a.tree right)

@@ -1,11 +1,9 @@
 -- Places: what pointers lead to, addresses, and steps (C99 6.5.2.1, 6.5.2.4, 6.5.3.1, 6.5.3.2).
 use Rattle.std.specs.Prelude.{ℕ, Bool, true, false, ◌||◌, if◌then◌else◌, List, Option, Some, None, Ok}
-use denote.Hole.Carrier as Carrier
 use Rattle.c_tree.specs.declared.expressions.UnaryOp.{UnaryOp}
 use Rattle.c_tree.specs.declared.expressions.UnaryOp.TheVariants.{Address, Dereference}
 use Rattle.c_tree.specs.declared.expressions.StepOp.{StepOp}
 use Rattle.c_typed_tree.specs.declared.types.CType as t
-use Rattle.c_typed_tree.specs.declared.types.CType.TheBlock as tb
 use Rattle.c_typed_tree.specs.declared.types.StructDef.{StructDef}
 use Rattle.c_typed_tree.specs.declared.expressions.TExpr as x
 use Rattle.c_typed_tree.specs.View.{type_view}
@@ -92,8 +90,3 @@ step_behind ds at op a =
     if is_assignable a then
     (if is_steppable ds a then Ok (postfix at a.ty op a.tree) else fault at BadOperand)
     else fault a.at NotAssignable
-
--- opens what looks into a type
-unfoldable pub opens : Unit {0}
-unfolding target tb.hidden-the_row-CType-0 Carrier.hidden
-opens = tt

@@ -1,0 +1,162 @@
+//! Calls (C99 6.5.2.2).
+
+ghost use Rattle.std.specs.Prelude.{◌≡◌, Some, [], IfOk};
+ghost use Rattle.std.specs.Option.{option_copied};
+ghost use Rattle.c_checks.specs.Checks.{Answers, each};
+ghost use Rattle.c_judgements.specs.Calls as spec;
+
+use crate::names::{faulty, used};
+use c_checks::{Meaning, Notes, grown, noted};
+use c_operators::taken;
+use c_primary_rules::calls::{call, counted};
+use c_tree::{Box, Seq};
+use c_type_faults::Kind;
+use c_type_rules::Typed;
+use c_typed_tree::{CType, Callee, TExpr};
+use std::alloc::{AllocError, Global};
+
+fn unboxed(part: Option<Box<TExpr>>) -> Option<TExpr>
+    ensures { result ≡ part }
+{
+    match part {
+        None => None,
+        Some(part) => Some(Box::into_inner(part)),
+    }
+}
+
+/// An argument, converted to the type of its parameter.
+fn argument(
+    alloc: Global,
+    notes: &mut Notes<'_>,
+    parameter: &CType,
+    a: Typed,
+) -> Result<Option<TExpr>, AllocError>
+    ensures { Answers (spec.argument parameter.now a notes.old) result notes.new }
+{
+    let ruling = taken(alloc, parameter, a);
+    let part = noted(notes, ruling)?;
+    Ok(unboxed(part))
+}
+
+/// The arguments, converted to the types of the parameters.
+fn passed(
+    alloc: Global,
+    notes: &mut Notes<'_>,
+    parameters: &[CType],
+    arguments: Seq<Typed>,
+) -> Result<Option<Seq<TExpr>>, AllocError>
+    ensures { Answers (spec.passed parameters.now arguments (Some []) notes.old) result notes.new }
+{
+    let mut found = Some(Seq::new(alloc));
+    let mut rest = Seq::into_vec(arguments).into_iter();
+    for parameter in parameters {
+        match rest.next() {
+            None => return Ok(found),
+            Some(a) => {
+                let part = argument(alloc, notes, parameter, a)?;
+                found = grown(found, part)?;
+            }
+        }
+    }
+    Ok(found)
+}
+
+/// A call with arguments that were converted.
+fn call_with(
+    alloc: Global,
+    at: u32,
+    callee: Callee,
+    of: &CType,
+    arguments: Option<Seq<TExpr>>,
+) -> Result<Option<Typed>, AllocError>
+    ensures { IfOk result (λ r. r ≡ spec.call_with at callee of.now arguments) }
+{
+    match arguments {
+        None => Ok(None),
+        Some(arguments) => Ok(Some(call(alloc, at, callee, of, arguments)?)),
+    }
+}
+
+/// A call with as many arguments as parameters.
+fn call_passing(
+    alloc: Global,
+    notes: &mut Notes<'_>,
+    at: u32,
+    callee: Callee,
+    of: &CType,
+    parameters: &[CType],
+    arguments: Seq<Typed>,
+) -> Result<Option<Typed>, AllocError>
+    ensures { Answers (spec.call_passing at callee of.now parameters.now arguments notes.old) result notes.new }
+{
+    let found = passed(alloc, notes, parameters, arguments)?;
+    call_with(alloc, at, callee, of, found)
+}
+
+/// A call of a function.
+fn call_of(
+    alloc: Global,
+    notes: &mut Notes<'_>,
+    at: u32,
+    callee: Callee,
+    of: &CType,
+    parameters: &[CType],
+    arguments: Seq<Typed>,
+) -> Result<Option<Typed>, AllocError>
+    ensures { Answers (spec.call_of at callee of.now parameters.now arguments notes.old) result notes.new }
+{
+    let ruling = counted(at, parameters, arguments);
+    match noted(notes, ruling)? {
+        None => Ok(None),
+        Some(arguments) => call_passing(alloc, notes, at, callee, of, parameters, arguments),
+    }
+}
+
+/// A call of a function, where its arguments are without fault.
+fn call_where(
+    alloc: Global,
+    notes: &mut Notes<'_>,
+    at: u32,
+    callee: Callee,
+    of: &CType,
+    parameters: &[CType],
+    arguments: Option<Seq<Typed>>,
+) -> Result<Option<Typed>, AllocError>
+    ensures { Answers (each arguments (spec.call_of at callee of.now parameters.now) notes.old) result notes.new }
+{
+    match arguments {
+        None => Ok(None),
+        Some(arguments) => call_of(alloc, notes, at, callee, of, parameters, arguments),
+    }
+}
+
+/// A call of what a name means.
+pub fn called(
+    alloc: Global,
+    notes: &mut Notes<'_>,
+    at: u32,
+    meaning: Option<&Meaning>,
+    arguments: Option<Seq<Typed>>,
+) -> Result<Option<Typed>, AllocError>
+    ensures { Answers (spec.called at (option_copied meaning.entry) arguments notes.old) result notes.new }
+{
+    match meaning {
+        None => faulty(notes, at, Kind::UnknownName),
+        Some(meaning) => match meaning {
+            Meaning::Faulty => Ok(None),
+            Meaning::Undefined(number) => used(notes, at, *number),
+            Meaning::Local { .. } => faulty(notes, at, Kind::NotFunction),
+            Meaning::Object { .. } => faulty(notes, at, Kind::NotFunction),
+            Meaning::Constant(_) => faulty(notes, at, Kind::NotFunction),
+            Meaning::Function {
+                callee,
+                result,
+                parameters,
+            } => {
+                let parameters = parameters.as_slice();
+                call_where(alloc, notes, at, *callee, result, parameters, arguments)
+            }
+            Meaning::Typedef(_) => faulty(notes, at, Kind::NotFunction),
+        },
+    }
+}

@@ -1,0 +1,262 @@
+//! Operators, by their operands.
+
+ghost use Rattle.std.specs.Prelude.{◌≡◌, OnOk, IfOk};
+ghost use Rattle.c_checks.specs.Checks.{Answers, each, both};
+ghost use Rattle.c_judgements.specs.Operators as spec;
+
+use c_checks::{Notes, noted, take_address};
+use c_declared_types::DeclaredType;
+use c_operators::{assigned, binary, cast_to, chosen, indexed, size_of_type, unary};
+use c_place_rules::members::size;
+use c_place_rules::places::step_behind;
+use c_primary_rules::commas::comma;
+use c_tree::{AssignOp, BinaryOp, Seq, StepOp, UnaryOp};
+use c_type_rules::{Place, Typed};
+use std::alloc::{AllocError, Global};
+
+/// `&` takes the address of its operand; no other operator does.
+fn take(notes: &mut Notes<'_>, op: UnaryOp, place: Place) -> Result<(), AllocError>
+    ensures { OnOk result (notes.new ≡ spec.taken_by op place notes.old) }
+{
+    match op {
+        UnaryOp::Address => take_address(notes, place),
+        UnaryOp::Increment => Ok(()),
+        UnaryOp::Decrement => Ok(()),
+        UnaryOp::Dereference => Ok(()),
+        UnaryOp::Plus => Ok(()),
+        UnaryOp::Minus => Ok(()),
+        UnaryOp::Invert => Ok(()),
+        UnaryOp::Not => Ok(()),
+    }
+}
+
+/// An operator in front of an operand without fault.
+fn applied(
+    alloc: Global,
+    notes: &mut Notes<'_>,
+    at: u32,
+    op: UnaryOp,
+    a: Typed,
+) -> Result<Option<Typed>, AllocError>
+    ensures { Answers (spec.applied at op a notes.old) result notes.new }
+{
+    let place = a.place;
+    let ruling = unary(alloc, notes.structs.as_slice(), at, op, a);
+    take(notes, op, place)?;
+    noted(notes, ruling)
+}
+
+/// An operator in front of an operand.
+pub fn in_front(
+    alloc: Global,
+    notes: &mut Notes<'_>,
+    at: u32,
+    op: UnaryOp,
+    a: Option<Typed>,
+) -> Result<Option<Typed>, AllocError>
+    ensures { Answers (each a (spec.applied at op) notes.old) result notes.new }
+{
+    match a {
+        None => Ok(None),
+        Some(a) => applied(alloc, notes, at, op, a),
+    }
+}
+
+/// An operator between two operands.
+pub fn between(
+    alloc: Global,
+    notes: &mut Notes<'_>,
+    at: u32,
+    op: BinaryOp,
+    a: Option<Typed>,
+    b: Option<Typed>,
+) -> Result<Option<Typed>, AllocError>
+    ensures { Answers (both a b (spec.between at op) notes.old) result notes.new }
+{
+    match a {
+        None => Ok(None),
+        Some(a) => match b {
+            None => Ok(None),
+            Some(b) => {
+                let ruling = binary(alloc, notes.structs.as_slice(), at, op, a, b);
+                noted(notes, ruling)
+            }
+        },
+    }
+}
+
+/// An assignment.
+pub fn assignment(
+    alloc: Global,
+    notes: &mut Notes<'_>,
+    at: u32,
+    op: AssignOp,
+    a: Option<Typed>,
+    b: Option<Typed>,
+) -> Result<Option<Typed>, AllocError>
+    ensures { Answers (both a b (spec.assignment at op) notes.old) result notes.new }
+{
+    match a {
+        None => Ok(None),
+        Some(a) => match b {
+            None => Ok(None),
+            Some(b) => {
+                let ruling = assigned(alloc, notes.structs.as_slice(), at, op, a, b);
+                noted(notes, ruling)
+            }
+        },
+    }
+}
+
+/// `a[b]`.
+pub fn element(
+    alloc: Global,
+    notes: &mut Notes<'_>,
+    at: u32,
+    a: Option<Typed>,
+    b: Option<Typed>,
+) -> Result<Option<Typed>, AllocError>
+    ensures { Answers (both a b (spec.element at) notes.old) result notes.new }
+{
+    match a {
+        None => Ok(None),
+        Some(a) => match b {
+            None => Ok(None),
+            Some(b) => {
+                let ruling = indexed(alloc, notes.structs.as_slice(), at, a, b);
+                noted(notes, ruling)
+            }
+        },
+    }
+}
+
+/// Both arms of a choice, where its condition is without fault.
+fn arms(
+    alloc: Global,
+    notes: &mut Notes<'_>,
+    at: u32,
+    c: Typed,
+    a: Option<Typed>,
+    b: Option<Typed>,
+) -> Result<Option<Typed>, AllocError>
+    ensures { Answers (both a b (spec.choice at c) notes.old) result notes.new }
+{
+    match a {
+        None => Ok(None),
+        Some(a) => match b {
+            None => Ok(None),
+            Some(b) => {
+                let ruling = chosen(alloc, at, c, a, b);
+                noted(notes, ruling)
+            }
+        },
+    }
+}
+
+/// `?:`.
+pub fn choice(
+    alloc: Global,
+    notes: &mut Notes<'_>,
+    at: u32,
+    c: Option<Typed>,
+    a: Option<Typed>,
+    b: Option<Typed>,
+) -> Result<Option<Typed>, AllocError>
+    ensures { Answers (spec.choice_of at c a b notes.old) result notes.new }
+{
+    match c {
+        None => Ok(None),
+        Some(c) => arms(alloc, notes, at, c, a, b),
+    }
+}
+
+/// A cast.
+pub fn cast(
+    alloc: Global,
+    notes: &mut Notes<'_>,
+    at: u32,
+    to: Option<DeclaredType>,
+    a: Option<Typed>,
+) -> Result<Option<Typed>, AllocError>
+    ensures { Answers (both to a (spec.cast at) notes.old) result notes.new }
+{
+    match to {
+        None => Ok(None),
+        Some(to) => match a {
+            None => Ok(None),
+            Some(a) => {
+                let ruling = cast_to(alloc, at, to, a);
+                noted(notes, ruling)
+            }
+        },
+    }
+}
+
+/// `sizeof` of an expression.
+pub fn size_of_value(
+    alloc: Global,
+    notes: &mut Notes<'_>,
+    at: u32,
+    a: Option<Typed>,
+) -> Result<Option<Typed>, AllocError>
+    ensures { Answers (each a (spec.size_of_value at) notes.old) result notes.new }
+{
+    match a {
+        None => Ok(None),
+        Some(a) => {
+            let ruling = size(alloc, notes.structs.as_slice(), at, &a.ty);
+            noted(notes, ruling)
+        }
+    }
+}
+
+/// `sizeof` of a type name.
+pub fn size_of_name(
+    alloc: Global,
+    notes: &mut Notes<'_>,
+    at: u32,
+    of: Option<DeclaredType>,
+) -> Result<Option<Typed>, AllocError>
+    ensures { Answers (each of (spec.size_of_name at) notes.old) result notes.new }
+{
+    match of {
+        None => Ok(None),
+        Some(of) => {
+            let ruling = size_of_type(alloc, notes.structs.as_slice(), at, &of);
+            noted(notes, ruling)
+        }
+    }
+}
+
+/// `++` or `--` behind an operand.
+pub fn behind(
+    alloc: Global,
+    notes: &mut Notes<'_>,
+    at: u32,
+    op: StepOp,
+    a: Option<Typed>,
+) -> Result<Option<Typed>, AllocError>
+    ensures { Answers (each a (spec.behind at op) notes.old) result notes.new }
+{
+    match a {
+        None => Ok(None),
+        Some(a) => {
+            let ruling = step_behind(alloc, notes.structs.as_slice(), at, op, a);
+            noted(notes, ruling)
+        }
+    }
+}
+
+/// Operands of commas.
+pub fn commas(
+    alloc: Global,
+    at: u32,
+    operands: Option<Seq<Typed>>,
+) -> Result<Option<Typed>, AllocError>
+    ensures { IfOk result (λ r. r ≡ spec.commas at operands) }
+{
+    match operands {
+        None => Ok(None),
+        Some(operands) => Ok(Some(comma(alloc, at, operands)?)),
+    }
+}

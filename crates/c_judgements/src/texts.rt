@@ -1,0 +1,66 @@
+//! Literals (C99 6.4.4, 6.4.5).
+
+ghost use Rattle.std.specs.Prelude.{◌≡◌, IfOk};
+ghost use Rattle.c_checks.specs.Checks.{Answers, noted};
+ghost use Rattle.c_primary_rules.specs.Primary as rules;
+ghost use Rattle.c_judgements.specs.Texts as spec;
+
+use c_checks::{Notes, note_text, noted};
+use c_literals::put_text;
+use c_primary_rules::primary::{character_constant, integer_constant, text};
+use c_tree::{Name, Seq};
+use c_type_rules::Typed;
+use std::alloc::{AllocError, Global};
+
+/// An integer constant.
+pub fn integer(
+    alloc: Global,
+    notes: &mut Notes<'_>,
+    at: u32,
+    spelling: &[u8],
+) -> Result<Option<Typed>, AllocError>
+    ensures { Answers (noted (rules.integer_constant at spelling.now) notes.old) result notes.new }
+{
+    let ruling = integer_constant(alloc, at, spelling);
+    noted(notes, ruling)
+}
+
+/// A character constant.
+pub fn character(
+    alloc: Global,
+    notes: &mut Notes<'_>,
+    at: u32,
+    spelling: &[u8],
+) -> Result<Option<Typed>, AllocError>
+    ensures { Answers (noted (rules.character_constant at spelling.now) notes.old) result notes.new }
+{
+    let ruling = character_constant(alloc, at, spelling);
+    noted(notes, ruling)
+}
+
+/// The bytes that string literals side by side stand for, with the zero at their end.
+fn bytes_of(alloc: Global, spellings: &[Name]) -> Result<Seq<u8>, AllocError>
+    ensures { IfOk result (λ r. r ≡ spec.bytes_of spellings.now) }
+{
+    let mut bytes = Vec::new(alloc);
+    for spelling in spellings {
+        put_text(&mut bytes, spelling.as_slice())?;
+    }
+    bytes.push(0)?;
+    Ok(Seq::from_vec(bytes))
+}
+
+/// A text, which is an object of its own.
+pub fn string(
+    alloc: Global,
+    notes: &mut Notes<'_>,
+    at: u32,
+    spellings: &[Name],
+) -> Result<Option<Typed>, AllocError>
+    ensures { Answers (spec.string at spellings.now notes.old) result notes.new }
+{
+    let bytes = bytes_of(alloc, spellings)?;
+    let length = bytes.len() as u64;
+    let number = note_text(notes, bytes)?;
+    Ok(Some(text(alloc, at, number, length)?))
+}

@@ -1,0 +1,29 @@
+-- Assignments (C99 6.5.16): the left side is a place, and the right one a value.
+use Rattle.std.specs.Prelude.{ℕ, List}
+use Rattle.c_tree.specs.declared.expressions.AssignOp.{AssignOp}
+use Rattle.c_tree.specs.declared.expressions.AssignOp.TheVariants as o
+use Rattle.c_typed_tree.specs.declared.types.StructDef.{StructDef}
+use Rattle.c_type_rules.specs.declared.typed.Typed.{Typed}
+use Rattle.c_type_rules.specs.Rulings.{Ruling}
+use Rattle.c_type_rules.specs.Conversions.{decayed}
+use Rattle.c_place_rules.specs.Assignments.{set, compound}
+use Rattle.c_operators.specs.Null.{is_null_for}
+
+abbrev pub set_to : ℕ → (left right : Typed) → Ruling Typed
+set_to at x y = set at x y (is_null_for x.ty y)
+
+abbrev pub with_value : List StructDef → ℕ → AssignOp → (left right : Typed) → Ruling Typed
+with_value ds at o.Set x y = set_to at x y
+with_value ds at o.Multiply x y = compound ds at o.Multiply x y
+with_value ds at o.Divide x y = compound ds at o.Divide x y
+with_value ds at o.Remainder x y = compound ds at o.Remainder x y
+with_value ds at o.Add x y = compound ds at o.Add x y
+with_value ds at o.Subtract x y = compound ds at o.Subtract x y
+with_value ds at o.ShiftLeft x y = compound ds at o.ShiftLeft x y
+with_value ds at o.ShiftRight x y = compound ds at o.ShiftRight x y
+with_value ds at o.And x y = compound ds at o.And x y
+with_value ds at o.Xor x y = compound ds at o.Xor x y
+with_value ds at o.Or x y = compound ds at o.Or x y
+
+abbrev pub assigned : List StructDef → ℕ → AssignOp → (left right : Typed) → Ruling Typed
+assigned ds at op x y = with_value ds at op x (decayed y)

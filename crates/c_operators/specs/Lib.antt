@@ -1,0 +1,5 @@
+pub mod Null
+pub mod Unary
+pub mod Binary
+pub mod Assigned
+pub mod Casts

@@ -1,0 +1,60 @@
+//! Assignments (C99 6.5.16).
+
+ghost use Rattle.c_operators.specs.Assigned as spec;
+ghost use Rattle.c_type_rules.specs.Rulings.{Gives};
+
+use crate::null::is_null_for;
+use c_place_rules::assignments::{compound, set};
+use c_tree::AssignOp;
+use c_type_rules::conversions::decayed;
+use c_type_rules::{Refusal, Typed};
+use c_typed_tree::StructDef;
+use std::alloc::Global;
+
+fn set_to(alloc: Global, at: u32, a: Typed, b: Typed) -> Result<Typed, Refusal>
+    ensures { Gives (spec.set_to at a b) result }
+{
+    let null = is_null_for(&a.ty, &b);
+    set(alloc, at, a, b, null)
+}
+
+/// An assignment of a value.
+fn with_value(
+    alloc: Global,
+    structs: &[StructDef],
+    at: u32,
+    op: AssignOp,
+    a: Typed,
+    b: Typed,
+) -> Result<Typed, Refusal>
+    ensures { Gives (spec.with_value structs.now at op a b) result }
+{
+    match op {
+        AssignOp::Set => set_to(alloc, at, a, b),
+        AssignOp::Multiply => compound(alloc, structs, at, AssignOp::Multiply, a, b),
+        AssignOp::Divide => compound(alloc, structs, at, AssignOp::Divide, a, b),
+        AssignOp::Remainder => compound(alloc, structs, at, AssignOp::Remainder, a, b),
+        AssignOp::Add => compound(alloc, structs, at, AssignOp::Add, a, b),
+        AssignOp::Subtract => compound(alloc, structs, at, AssignOp::Subtract, a, b),
+        AssignOp::ShiftLeft => compound(alloc, structs, at, AssignOp::ShiftLeft, a, b),
+        AssignOp::ShiftRight => compound(alloc, structs, at, AssignOp::ShiftRight, a, b),
+        AssignOp::And => compound(alloc, structs, at, AssignOp::And, a, b),
+        AssignOp::Xor => compound(alloc, structs, at, AssignOp::Xor, a, b),
+        AssignOp::Or => compound(alloc, structs, at, AssignOp::Or, a, b),
+    }
+}
+
+/// An assignment.
+pub fn assigned(
+    alloc: Global,
+    structs: &[StructDef],
+    at: u32,
+    op: AssignOp,
+    a: Typed,
+    b: Typed,
+) -> Result<Typed, Refusal>
+    ensures { Gives (spec.assigned structs.now at op a b) result }
+{
+    let value = decayed(alloc, b)?;
+    with_value(alloc, structs, at, op, a, value)
+}

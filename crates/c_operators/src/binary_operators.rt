@@ -1,0 +1,122 @@
+//! Operators between operands, elements and choices (C99 6.5.2.1, 6.5.5 to 6.5.15).
+
+ghost use Rattle.c_operators.specs.Binary as spec;
+ghost use Rattle.c_type_rules.specs.Rulings.{Gives};
+
+use crate::null::is_null_for;
+use c_place_rules::places::index;
+use c_tree::{BinaryOp, Box};
+use c_type_rules::arithmetic::{arithmetic, difference, shift, sum};
+use c_type_rules::comparisons::{comparison, condition, logical};
+use c_type_rules::conversions::{choice, decayed, equality};
+use c_type_rules::{Refusal, Typed};
+use c_typed_tree::{StructDef, TExpr};
+use std::alloc::Global;
+
+fn equal(alloc: Global, at: u32, op: BinaryOp, a: Typed, b: Typed) -> Result<Typed, Refusal>
+    ensures { Gives (spec.equal at op a b) result }
+{
+    let null_left = is_null_for(&b.ty, &a);
+    let null_right = is_null_for(&a.ty, &b);
+    equality(alloc, at, op, a, b, null_left, null_right)
+}
+
+/// An operator between two values.
+fn between(
+    alloc: Global,
+    structs: &[StructDef],
+    at: u32,
+    op: BinaryOp,
+    a: Typed,
+    b: Typed,
+) -> Result<Typed, Refusal>
+    ensures { Gives (spec.between structs.now at op a b) result }
+{
+    match op {
+        BinaryOp::LogicalOr => logical(alloc, at, BinaryOp::LogicalOr, a, b),
+        BinaryOp::LogicalAnd => logical(alloc, at, BinaryOp::LogicalAnd, a, b),
+        BinaryOp::Or => arithmetic(alloc, at, BinaryOp::Or, a, b),
+        BinaryOp::Xor => arithmetic(alloc, at, BinaryOp::Xor, a, b),
+        BinaryOp::And => arithmetic(alloc, at, BinaryOp::And, a, b),
+        BinaryOp::Equal => equal(alloc, at, BinaryOp::Equal, a, b),
+        BinaryOp::NotEqual => equal(alloc, at, BinaryOp::NotEqual, a, b),
+        BinaryOp::Less => comparison(alloc, at, BinaryOp::Less, a, b),
+        BinaryOp::Greater => comparison(alloc, at, BinaryOp::Greater, a, b),
+        BinaryOp::LessEqual => comparison(alloc, at, BinaryOp::LessEqual, a, b),
+        BinaryOp::GreaterEqual => comparison(alloc, at, BinaryOp::GreaterEqual, a, b),
+        BinaryOp::ShiftLeft => shift(alloc, at, BinaryOp::ShiftLeft, a, b),
+        BinaryOp::ShiftRight => shift(alloc, at, BinaryOp::ShiftRight, a, b),
+        BinaryOp::Add => sum(alloc, structs, at, a, b),
+        BinaryOp::Subtract => difference(alloc, structs, at, a, b),
+        BinaryOp::Multiply => arithmetic(alloc, at, BinaryOp::Multiply, a, b),
+        BinaryOp::Divide => arithmetic(alloc, at, BinaryOp::Divide, a, b),
+        BinaryOp::Remainder => arithmetic(alloc, at, BinaryOp::Remainder, a, b),
+    }
+}
+
+/// An operator between two operands.
+pub fn binary(
+    alloc: Global,
+    structs: &[StructDef],
+    at: u32,
+    op: BinaryOp,
+    a: Typed,
+    b: Typed,
+) -> Result<Typed, Refusal>
+    ensures { Gives (spec.binary structs.now at op a b) result }
+{
+    let left = decayed(alloc, a)?;
+    let right = decayed(alloc, b)?;
+    between(alloc, structs, at, op, left, right)
+}
+
+/// `a[b]`.
+pub fn indexed(
+    alloc: Global,
+    structs: &[StructDef],
+    at: u32,
+    a: Typed,
+    b: Typed,
+) -> Result<Typed, Refusal>
+    ensures { Gives (spec.indexed structs.now at a b) result }
+{
+    let left = decayed(alloc, a)?;
+    let right = decayed(alloc, b)?;
+    index(alloc, structs, at, left, right)
+}
+
+/// A condition.
+fn tested(alloc: Global, c: Typed) -> Result<Box<TExpr>, Refusal>
+    ensures { Gives (spec.tested c) result }
+{
+    let value = decayed(alloc, c)?;
+    condition(value)
+}
+
+/// Both arms of a choice, with its condition.
+fn between_arms(
+    alloc: Global,
+    at: u32,
+    condition: Box<TExpr>,
+    a: Typed,
+    b: Typed,
+) -> Result<Typed, Refusal>
+    ensures { Gives (spec.between_arms at condition a b) result }
+{
+    let holds = decayed(alloc, a)?;
+    let fails = decayed(alloc, b)?;
+    let null_left = is_null_for(&fails.ty, &holds);
+    let null_right = is_null_for(&holds.ty, &fails);
+    choice(alloc, at, condition, holds, fails, null_left, null_right)
+}
+
+/// `?:`. Its arms are judged where its condition is without fault.
+pub fn chosen(alloc: Global, at: u32, c: Typed, a: Typed, b: Typed) -> Result<Typed, Refusal>
+    ensures { Gives (spec.chosen at c a b) result }
+{
+    match tested(alloc, c) {
+        Ok(condition) => between_arms(alloc, at, condition, a, b),
+        Err(Refusal::Refused(fault)) => Err(Refusal::Refused(fault)),
+        Err(Refusal::NoMemory) => Err(Refusal::NoMemory),
+    }
+}

@@ -1,0 +1,18 @@
+//! Each form of expression by its operands: which rule it has, which operands are taken as values, and which may be
+//! null pointer constants (C99 6.5).
+//!
+//! A rule is given operands that are without fault, as they are judged before it. An array stands for a pointer to its
+//! first element here, but not under `&`, `++`, `--` and `sizeof`, left of an assignment, and before `.` (6.3.2.1).
+#![tactic(auto)]
+
+mod assignments;
+mod binary_operators;
+mod casts;
+mod null;
+mod unary_operators;
+
+pub use assignments::assigned;
+pub use binary_operators::{binary, chosen, indexed};
+pub use casts::{cast_to, size_of_type};
+pub use null::taken;
+pub use unary_operators::unary;

@@ -1,0 +1,41 @@
+//! Null pointer constants (C99 6.3.2.3), and values where one of a type is wanted.
+
+ghost use Rattle.std.specs.Prelude.{◌≡◌};
+ghost use Rattle.c_operators.specs.Null as spec;
+ghost use Rattle.c_type_rules.specs.Rulings.{Gives};
+
+use c_constants::{is_null_constant, is_null_void};
+use c_tree::Box;
+use c_type_rules::conversions::{decayed, wanted};
+use c_type_rules::types::{is_integer, is_pointer};
+use c_type_rules::{Refusal, Typed};
+use c_typed_tree::{CType, TExpr};
+use std::alloc::Global;
+
+fn is_null(a: &Typed) -> bool
+    ensures { result ≡ spec.is_null a.now }
+{
+    if is_integer(&a.ty) {
+        return is_null_constant(&a.tree);
+    }
+    is_null_void(&a.tree)
+}
+
+/// Whether it is a null pointer constant, asked where a type is a pointer's.
+pub(crate) fn is_null_for(to: &CType, a: &Typed) -> bool
+    ensures { result ≡ spec.is_null_for to.now a.now }
+{
+    if is_pointer(to) {
+        return is_null(a);
+    }
+    false
+}
+
+/// A value where one of a type is wanted: an argument, an initialiser, the operand of `return`.
+pub fn taken(alloc: Global, to: &CType, a: Typed) -> Result<Box<TExpr>, Refusal>
+    ensures { Gives (spec.taken to.now a) result }
+{
+    let value = decayed(alloc, a)?;
+    let null = is_null_for(to, &value);
+    wanted(alloc, to, value, null)
+}

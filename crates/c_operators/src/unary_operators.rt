@@ -1,0 +1,56 @@
+//! Operators in front of an operand (C99 6.5.3).
+
+ghost use Rattle.c_operators.specs.Unary as spec;
+ghost use Rattle.c_type_rules.specs.Rulings.{Gives};
+
+use c_place_rules::places::{address, dereference, step_before};
+use c_tree::UnaryOp;
+use c_type_rules::arithmetic::unary_arithmetic;
+use c_type_rules::comparisons::negation;
+use c_type_rules::conversions::decayed;
+use c_type_rules::{Refusal, Typed};
+use c_typed_tree::StructDef;
+use std::alloc::Global;
+
+fn led_to(alloc: Global, structs: &[StructDef], at: u32, a: Typed) -> Result<Typed, Refusal>
+    ensures { Gives (spec.led_to structs.now at a) result }
+{
+    let value = decayed(alloc, a)?;
+    dereference(alloc, structs, at, value)
+}
+
+fn promoted(alloc: Global, at: u32, op: UnaryOp, a: Typed) -> Result<Typed, Refusal>
+    ensures { Gives (spec.promoted at op a) result }
+{
+    let value = decayed(alloc, a)?;
+    unary_arithmetic(alloc, at, op, value)
+}
+
+fn negated(alloc: Global, at: u32, a: Typed) -> Result<Typed, Refusal>
+    ensures { Gives (spec.negated at a) result }
+{
+    let value = decayed(alloc, a)?;
+    negation(alloc, at, value)
+}
+
+/// An operator in front of an operand.
+pub fn unary(
+    alloc: Global,
+    structs: &[StructDef],
+    at: u32,
+    op: UnaryOp,
+    a: Typed,
+) -> Result<Typed, Refusal>
+    ensures { Gives (spec.unary structs.now at op a) result }
+{
+    match op {
+        UnaryOp::Increment => step_before(alloc, structs, at, UnaryOp::Increment, a),
+        UnaryOp::Decrement => step_before(alloc, structs, at, UnaryOp::Decrement, a),
+        UnaryOp::Address => address(alloc, at, a),
+        UnaryOp::Dereference => led_to(alloc, structs, at, a),
+        UnaryOp::Plus => promoted(alloc, at, UnaryOp::Plus, a),
+        UnaryOp::Minus => promoted(alloc, at, UnaryOp::Minus, a),
+        UnaryOp::Invert => promoted(alloc, at, UnaryOp::Invert, a),
+        UnaryOp::Not => negated(alloc, at, a),
+    }
+}

@@ -1,0 +1,4 @@
+pub mod Places
+pub mod Assignments
+pub mod Members
+pub mod model

@@ -1,0 +1,4 @@
+pub mod Primary
+pub mod Calls
+pub mod Commas
+pub mod Switches

@@ -1,0 +1,45 @@
+//! Calls (C99 6.5.2.2).
+
+ghost use Rattle.std.specs.Prelude.{◌≡◌, IfOk};
+ghost use Rattle.c_primary_rules.specs.Calls as spec;
+ghost use Rattle.c_type_rules.specs.Rulings.{Gives};
+
+use c_tree::{Box, Seq};
+use c_type_faults::Kind;
+use c_type_rules::{Refusal, Typed, refused, value};
+use c_typed_tree::{CType, Callee, TExpr};
+use std::alloc::{AllocError, Global};
+
+/// The arguments of a function with these parameters. Whether each is converted to the type of its parameter is not
+/// judged here.
+pub fn counted(at: u32, parameters: &[CType], arguments: Seq<Typed>) -> Result<Seq<Typed>, Refusal>
+    ensures { Gives (spec.counted at parameters.now arguments) result }
+{
+    if arguments.len() == parameters.len() {
+        return Ok(arguments);
+    }
+    Err(refused(at, Kind::BadCall))
+}
+
+/// A call with arguments that are converted to the types of the parameters.
+pub fn call(
+    alloc: Global,
+    at: u32,
+    callee: Callee,
+    of: &CType,
+    arguments: Seq<TExpr>,
+) -> Result<Typed, AllocError>
+    ensures { IfOk result (λ r. r ≡ spec.call at callee of.now arguments) }
+{
+    let ty = of.copy(alloc)?;
+    let tree = Box::new(
+        alloc,
+        TExpr::Call {
+            ty,
+            callee,
+            arguments,
+        },
+    )?;
+    let ty = of.copy(alloc)?;
+    Ok(value(at, ty, tree))
+}
