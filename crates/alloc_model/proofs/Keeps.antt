@@ -1,24 +1,21 @@
 -- A faithful allocation keeps the meaning: the two codes keep step.
-use Rattle.std.proofs.Common.{◌≡◌, ℕ, zero, suc, ◌+◌, ◌-◌, ◌≤◌, List, [], ◌∷◌, Option, Some, None, Bool, true, false, refl, sym, ap, ◌∙◌, subst, map, length, arith}
-use Rattle.std.specs.Prelude.{slice_get, ◌==◌, ◌&&◌, option_map, Contains}
+use Rattle.std.proofs.Common.{◌≡◌, ℕ, suc, List, [], ◌∷◌, Option, Some, None, Bool, true, false, refl, sym, ap, ◌∙◌, subst, map, length, arith}
+use Rattle.std.specs.Prelude.{slice_get, ◌==◌, ◌&&◌, option_map}
 use Rattle.std.proofs.lemmas.Bool.{eqb-true}
 use Rattle.std.proofs.lemmas.Option.{slice_get-map, slice_get_within}
 use Rattle.mem_model.specs.World.{World, Rooms}
 use Rattle.mem_model.specs.Ending.{Ending}
-use Rattle.machine_model.specs.Code.{Site, Point, next_point, block_point, entry_point, Code}
+use Rattle.machine_model.specs.Code.{Site, Point}
 use Rattle.machine_model.specs.Machine.{Next, Goes, Over, start}
-use Rattle.machine_model.proofs.Simulation.{SameSite, SameSites, SameNext, KeepStep, runs, runs_end}
+use Rattle.machine_model.proofs.Simulation.{SameSites, SameNext, KeepStep, runs, runs_end}
 use Rattle.suifvm_ir.specs.Functions.{insn_at, insn_in}
 use Rattle.temp_ir.specs.declared.insn.TempInsn.{TempInsn}
-use Rattle.temp_ir.specs.declared.program.TempProgram.{TempProgram}
-use Rattle.temp_ir.specs.Insns.{reads_of, targets_of}
-use Rattle.alloc_model.specs.declared.allocation.Allocation.{Allocation}
 use Rattle.alloc_model.specs.Contents.{Content}
-use Rattle.alloc_model.specs.Stores.{empty, without, put_all}
+use Rattle.alloc_model.specs.Stores.{without, put_all}
 use Rattle.alloc_model.specs.Effect.{Holder, Temp, Fixed, Incoming, Outgoing, holder_eq, entry_holders, holders_read, holders_written, is_emptied, widest_call}
-use Rattle.alloc_model.specs.Temporaries.{FunctionCode, Temps, blocks_in, sizes_in, temp_site, temp_site_at, temp_code, temp_run, next_site, next_if, is_left_at, site_or_next, site_in, flows_out, code_of, main_of, start_world, TempsEnd}
-use Rattle.alloc_model.specs.Places.{Place, place_eq, home_of, places_read_at, places_written_at, is_ended, Places, do_all, Plan, plan_of, functions_of, transfers_at, registers_at, edge_transfers, edge_in, placed_site, placed_site_at, placed_site_in, placed_code, placed_run, PlacesEnd}
-use Rattle.alloc_model.specs.Faithful.{Held, move_all, end_all, write_all, behind_insn, at_start, at_top, at_entry, before, KeepsEdge, Faithful}
+use Rattle.alloc_model.specs.Temporaries.{Temps, blocks_in, temp_site, temp_site_at, temp_code, temp_run, next_if, is_left_at, site_or_next, site_in, flows_out, main_of, start_world}
+use Rattle.alloc_model.specs.Places.{Place, place_eq, home_of, places_read_at, places_written_at, is_ended, Places, do_all, Plan, plan_of, functions_of, transfers_at, registers_at, edge_transfers, edge_in, placed_site, placed_site_in, placed_code, placed_run}
+use Rattle.alloc_model.specs.Faithful.{Held, move_all, end_all, behind_insn, at_start, at_entry, before, KeepsEdge, Faithful}
 use Rattle.alloc_model.specs.Laws.{AllFaithful, AllocationKeepsRuns, AllocationKeeps}
 use Rattle.alloc_model.proofs.Replay.{IsNamed, Holds, SameArguments, writes_hold, writes_keep, ends_hold, ends_keep, moves_hold, moves_keep, included, reads_same, written_parallel, entry_homes}
 

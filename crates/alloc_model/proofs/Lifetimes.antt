@@ -1,7 +1,6 @@
 -- Lifetimes and parts are unique.
-use Rattle.std.proofs.Common.{◌≡◌, ℕ, zero, suc, ◌+◌, ◌-◌, ◌<◌, ◌≤◌, Bool, true, false, nat_lt, refl, sym, arith}
-use Rattle.std.proofs.lemmas.Bool.{lt-ltb, ltb-false}
-use Rattle.alloc_model.specs.Lifetimes.{Blocks, IsPresent, IsLifetime, IsPart, LifetimesAreUnique}
+use Rattle.std.proofs.Common.{◌≡◌, ℕ, zero, suc, ◌-◌, ◌<◌, ◌≤◌, refl, arith}
+use Rattle.alloc_model.specs.Lifetimes.{Blocks, IsLifetime, IsPart, LifetimesAreUnique}
 
 module _ (blocks : Blocks) (t : ℕ) where
   one_lifetime : (a b c d : ℕ) → IsLifetime blocks t a b → IsLifetime blocks t c d → (a ≡ c) × (b ≡ d)

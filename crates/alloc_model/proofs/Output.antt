@@ -1,10 +1,10 @@
 -- No instruction takes back output.
-use Rattle.std.proofs.Common.{ℕ, ◌+◌, List, [], ◌∷◌, Option, Some, None, Bool, true, false, if◌then◌else◌, refl, sym, subst, append-nil}
+use Rattle.std.proofs.Common.{ℕ, ◌+◌, List, [], Option, Some, None, Bool, true, false, if◌then◌else◌, refl, sym, subst, append-nil}
 use Rattle.std.specs.Prelude.{slice_get, nat_lt}
 use Rattle.mem_model.specs.declared.value.Value.TheVariants.{Word, Address, Unset}
 use Rattle.mem_model.specs.Memory.{Memory}
 use Rattle.mem_model.specs.World.{Outer}
-use Rattle.machine_model.specs.Code.{Act, Writes, Jumps, Returns, Site, Point}
+use Rattle.machine_model.specs.Code.{Act, Writes, Site, Point}
 use Rattle.machine_model.specs.Laws.{IsPrefix, KeepsOutput, act_outer}
 use Rattle.temp_ir.specs.declared.operation.Service.{Service}
 use Rattle.temp_ir.specs.declared.operation.Service.TheVariants.{End, PutByte, GetByte, Trap}

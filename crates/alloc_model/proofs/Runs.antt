@@ -1,10 +1,8 @@
 -- Runs by their numbers of steps, over temporaries and over registers and slots.
-use Rattle.std.proofs.Common.{◌≡◌, ℕ, ◌+◌, ◌≤◌, List, max, map, arith}
-use Rattle.mem_model.specs.World.{World, Rooms}
-use Rattle.mem_model.specs.Ending.{Ending, ending_output}
+use Rattle.std.proofs.Common.{ℕ, ◌≤◌, List, max, map, arith}
+use Rattle.mem_model.specs.World.{Rooms}
 use Rattle.machine_model.specs.Code.{Code}
 use Rattle.machine_model.specs.Machine.{Config, start}
-use Rattle.machine_model.specs.Laws.{IsFinal, IsPrefix, ending_with_turns, next_world}
 use Rattle.machine_model.proofs.Runs as runs
 use Rattle.machine_model.proofs.Turns as turns
 use Rattle.machine_model.proofs.Peaks as peaks
@@ -12,8 +10,8 @@ use Rattle.machine_model.proofs.Outputs as outputs
 use Rattle.temp_ir.specs.declared.program.TempProgram.{TempProgram}
 use Rattle.alloc_model.specs.declared.allocation.Allocation.{Allocation}
 use Rattle.alloc_model.specs.Contents.{Content}
-use Rattle.alloc_model.specs.Temporaries.{FunctionCode, Temps, code_of, temp_code, temp_run, main_of, start_world, TempsEnd}
-use Rattle.alloc_model.specs.Places.{Places, plan_of, placed_code, placed_run, PlacesEnd}
+use Rattle.alloc_model.specs.Temporaries.{Temps, code_of, temp_code, main_of, start_world}
+use Rattle.alloc_model.specs.Places.{Places, plan_of, placed_code}
 use Rattle.alloc_model.specs.Laws.{OneEnding, MoreTurnsKeepEnding, MoreTurnsExtendOutput, PeaksRise, InstructionsKeepOutput}
 use Rattle.alloc_model.proofs.Output.{temps_keep, places_keep}
 

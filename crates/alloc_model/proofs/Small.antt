@@ -1,6 +1,6 @@
 -- A small allocation is faithful: `sum` with each temporary in a register of its own.
-use Rattle.std.proofs.Common.{◌≡◌, ◌≢◌, ℕ, zero, suc, ◌+◌, ◌<◌, List, [], ◌∷◌, Option, Some, None, Bool, true, false, refl, sym, ◌∙◌, inl, inr, subst, length, arith}
-use Rattle.std.specs.Prelude.{slice_get, All, Contains}
+use Rattle.std.proofs.Common.{◌≡◌, ◌≢◌, ℕ, zero, suc, ◌+◌, List, [], ◌∷◌, Some, None, true, false, refl, sym, ◌∙◌, inl, inr, subst, length, arith}
+use Rattle.std.specs.Prelude.{slice_get, All}
 use Rattle.std.proofs.lemmas.Option.{none-some, same_Some}
 use Rattle.suifvm_ir.specs.Functions.{insn_at}
 use Rattle.temp_ir.specs.declared.insn.TempInsn.{TempInsn}
@@ -8,8 +8,8 @@ use Rattle.temp_ir.specs.Insns.{reads_of, writes_of, targets_of}
 use Rattle.temp_ir.specs.Fixed.{fixed_reads_of}
 use Rattle.alloc_model.specs.Effect.{Holder, Temp, Fixed, Incoming, Outgoing}
 use Rattle.alloc_model.specs.Temporaries.{flows_out}
-use Rattle.alloc_model.specs.Places.{Place, Reg, Slot, registers_at, transfers_at}
-use Rattle.alloc_model.specs.Faithful.{Held, Includes, MovesAsk, ReadsAsk, FixedAsk, IsGiven, IsStanding, IsTransfer, IsGivenOrScratch, KeepsEdge, before, move_all, at_top, at_entry, at_bottom, Faithful, HasLists}
+use Rattle.alloc_model.specs.Places.{Place, Reg, registers_at, transfers_at}
+use Rattle.alloc_model.specs.Faithful.{Includes, MovesAsk, ReadsAsk, FixedAsk, IsGiven, IsStanding, IsTransfer, KeepsEdge, before, move_all, at_top, at_entry, at_bottom, Faithful, HasLists}
 use Rattle.alloc_model.specs.Examples.{sum, sum_in_registers}
 
 -- what is said of each instruction of the block

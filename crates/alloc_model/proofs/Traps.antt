@@ -1,11 +1,10 @@
 -- What traps is an instruction that may.
-use Rattle.std.proofs.Common.{◌≡◌, ℕ, ◌+◌, List, [], ◌∷◌, Option, Some, None, Bool, true, false, if◌then◌else◌, refl, subst}
+use Rattle.std.proofs.Common.{◌≡◌, ℕ, ◌+◌, List, Option, Some, None, Bool, true, false, if◌then◌else◌, refl, subst}
 use Rattle.std.specs.Prelude.{nat_lt}
 use Rattle.mem_model.specs.declared.value.Value.TheVariants.{Word, Address, Unset}
 use Rattle.mem_model.specs.Memory.{Memory}
 use Rattle.mem_model.specs.World.{Outer}
 use Rattle.machine_model.specs.Code.{Exits, Traps, HasNoMeaning, Act, Writes, Jumps, Calls, Returns, Stops}
-use Rattle.alpha_isa.specs.Arithmetic as isa
 use Rattle.alpha_isa.specs.Arithmetic.{operation_effect}
 use Rattle.temp_ir.specs.declared.operation.Operation.{Operation}
 use Rattle.temp_ir.specs.declared.operation.Operation.TheVariants.{Addl, Subl, Cmpult, Addq, S4addq, Subq, Cmpeq, S8addq, Cmpule, AddlV, SublV, Cmplt, AddqV, SubqV, Cmple, And, Bic, Bis, Ornot, Xor, Eqv, Zapnot, Srl, Sll, Sra, Mull, Mulq, Umulh, MullV, MulqV}

@@ -1,7 +1,7 @@
 -- What temporaries and registers hold over a memory of objects, and what the operations of the machine do with it. On
 -- words each operation is that of the machine's step; a pointer moves within its object, and two of one object compare,
 -- as in C (C99 6.5.6, 6.5.8, 6.5.9). What a load reads that is neither a number nor a pointer can be moved and stored.
-use Rattle.std.specs.Prelude.{ℕ, zero, suc, ◌+◌, ◌==◌, ◌-ℤ◌, ◌*ℤ◌, not, ℤ, pos, Bool, true, false, List, [], ◌∷◌, length, Option, Some, None, option_map, option_and_then, if◌then◌else◌}
+use Rattle.std.specs.Prelude.{ℕ, zero, ◌+◌, ◌==◌, ◌-ℤ◌, ◌*ℤ◌, not, ℤ, pos, Bool, true, false, List, length, Option, Some, None, option_map, option_and_then, if◌then◌else◌}
 use Rattle.std.specs.Int.{w32, w64}
 use Rattle.mem_model.specs.declared.value.Ptr.{Ptr}
 use Rattle.mem_model.specs.declared.value.Value.{Value}

@@ -1,9 +1,8 @@
 -- What each instruction does with what it reads, in order, wherever that stands: temporaries, then fixed registers, then
 -- argument places.
-use Rattle.std.specs.Prelude.{ℕ, zero, ◌+◌, ◌-◌, ◌%◌, ◌==◌, nat_lt, ◌&&◌, max, Option, Some, None, Bool, true, false, List, [], ◌∷◌, ◌++◌, map, pos, slice_index_or, if◌then◌else◌}
+use Rattle.std.specs.Prelude.{ℕ, ◌+◌, ◌-◌, ◌%◌, ◌==◌, nat_lt, ◌&&◌, max, Option, Some, None, Bool, true, false, List, [], ◌∷◌, ◌++◌, map, pos, slice_index_or, if◌then◌else◌}
 use Rattle.std.specs.List.{range_with_len}
 use Rattle.std.specs.Int.{w32}
-use Rattle.mem_model.specs.declared.value.Ptr.{Ptr}
 use Rattle.mem_model.specs.declared.value.Value.TheVariants.{Word, Address, Unset}
 use Rattle.mem_model.specs.Memory.{Memory}
 use Rattle.mem_model.specs.World.{Outer, outer_with_memory, take_byte, put_byte}

@@ -1,5 +1,5 @@
 -- Small programs over temporaries, to show what the meaning gives of them.
-use Rattle.std.specs.Prelude.{◌≡◌, ℕ, ◌-◌, ◌^◌, pos, negsuc, true, false, List, [], ◌∷◌, map, Option, Some, None}
+use Rattle.std.specs.Prelude.{◌≡◌, ℕ, pos, negsuc, true, false, List, [], ◌∷◌, map}
 use Rattle.mem_model.specs.Ending.{Ending, Done, Trap, Undefined, More}
 use Rattle.machine_model.specs.Machine.{Next, Goes, Over}
 use Rattle.data_object.specs.declared.DataObject.{DataObject}
@@ -7,9 +7,9 @@ use Rattle.data_object.specs.declared.Cell.TheVariants as cell
 use Rattle.suifvm_ir.specs.declared.insn.Place.TheVariants.{Global, Local}
 use Rattle.temp_ir.specs.declared.operation.AddressOp.TheVariants.{Lda, Ldah}
 use Rattle.temp_ir.specs.declared.operation.LoadOp.TheVariants.{Ldbu, Ldl, Ldq}
-use Rattle.temp_ir.specs.declared.operation.StoreOp.TheVariants.{Stb, Stl, Stq}
-use Rattle.temp_ir.specs.declared.operation.BranchOp.TheVariants.{Beq, Bne, Blt}
-use Rattle.temp_ir.specs.declared.operation.Operation.TheVariants.{Addl, Addq, AddqV, Subq, Cmpeq, Cmpult, Bis, Mulq}
+use Rattle.temp_ir.specs.declared.operation.StoreOp.TheVariants.{Stl, Stq}
+use Rattle.temp_ir.specs.declared.operation.BranchOp.TheVariants.{Beq, Bne}
+use Rattle.temp_ir.specs.declared.operation.Operation.TheVariants.{Addl, Addq, AddqV, Subq, Cmpeq, Bis, Mulq}
 use Rattle.temp_ir.specs.declared.operation.ExtendOp.TheVariants.{Sextb}
 use Rattle.temp_ir.specs.declared.operation.Routine.TheVariants.{Divq, Reml}
 use Rattle.temp_ir.specs.declared.operation.Service as service
@@ -22,7 +22,7 @@ use Rattle.temp_ir.specs.declared.insn.TempInsn.TheVariants.{Address, ObjectAddr
 use Rattle.alloc_model.specs.declared.allocation.EdgeCode.{EdgeCode}
 use Rattle.alloc_model.specs.declared.allocation.Transfer.{Transfer}
 use Rattle.alloc_model.specs.declared.allocation.Transfer.TheVariants as x
-use Rattle.alloc_model.specs.Temporaries.{FunctionCode, Temps, temp_run, start_world}
+use Rattle.alloc_model.specs.Temporaries.{FunctionCode, temp_run, start_world}
 use Rattle.alloc_model.specs.Places.{Plan, placed_run}
 
 -- what is seen of a run: how it ended, if it did, and its output

@@ -1,10 +1,9 @@
 -- When an allocation has each value where it is read: the replay of a finished allocation, which keeps the set of what
 -- stands where. A temporary or fixed register may stand at several places at once. A fixed register that was written
 -- counts as a temporary of its own.
-use Rattle.std.specs.Prelude.{◌≡◌, ◌≢◌, ℕ, zero, suc, ◌+◌, ◌<◌, ◌⊎◌, ◌==◌, nat_lt, Bool, true, false, List, [], ◌∷◌, ◌++◌, drop, map, length, find, filter, flat_map, slice_get, slice_index_or, Contains, All, Option, Some, None, if◌then◌else◌}
+use Rattle.std.specs.Prelude.{◌≡◌, ◌≢◌, ℕ, zero, suc, ◌+◌, ◌<◌, ◌⊎◌, nat_lt, Bool, true, false, List, [], ◌∷◌, ◌++◌, map, length, slice_get, slice_index_or, Contains, All, Option, Some, None, if◌then◌else◌}
 use Rattle.std.specs.List.{range_with_len}
 use Rattle.suifvm_ir.specs.Functions.{count_of, insn_at, successors_of}
-use Rattle.suifvm_ir.specs.Live.{Live}
 use Rattle.temp_ir.specs.declared.insn.TempInsn.{TempInsn}
 use Rattle.temp_ir.specs.Insns.{reads_of, writes_of, targets_of, flows_on_of}
 use Rattle.temp_ir.specs.Fixed.{argument_registers, fixed_reads_of}
@@ -15,7 +14,7 @@ use Rattle.alloc_model.specs.declared.allocation.Transfer.{Transfer}
 use Rattle.alloc_model.specs.declared.allocation.Transfer.TheVariants.{Store, Load, Shift}
 use Rattle.alloc_model.specs.Effect.{Holder, Temp, Fixed, holders_written}
 use Rattle.alloc_model.specs.Temporaries.{flows_out}
-use Rattle.alloc_model.specs.Places.{Place, Reg, Slot, home_of, places_written_at, is_ended, source_of, target_of, moved_temp, Plan, transfers_at, registers_at, edge_transfers}
+use Rattle.alloc_model.specs.Places.{Place, Reg, Slot, places_written_at, is_ended, source_of, target_of, moved_temp, Plan, transfers_at, registers_at, edge_transfers}
 use Rattle.alloc_model.specs.Needs.{is_live_at, place_of, place_at_top, IsNeeded}
 
 -- ---- the set

@@ -1,7 +1,6 @@
 -- Which slots a block relies on at its top: it leaves a temporary there, or loads it from there, without a store or a
 -- write of its own before. The blocks before it have to see to it that the slot has the value.
-use Rattle.std.specs.Prelude.{◌≡◌, ◌≢◌, ℕ, suc, ◌<◌, ◌⊎◌, ◌==◌, Bool, true, false, List, [], ◌∷◌, length, find, slice_get, slice_index_or, Contains, Option, Some, None, IsTrue}
-use Rattle.std.specs.List.{list_any}
+use Rattle.std.specs.Prelude.{◌≡◌, ◌≢◌, ℕ, suc, ◌⊎◌, ◌==◌, true, List, [], ◌∷◌, find, slice_get, slice_index_or, Contains, Option, Some, None}
 use Rattle.suifvm_ir.specs.Functions.{insn_at, successors_of}
 use Rattle.suifvm_ir.specs.Live.{Live}
 use Rattle.temp_ir.specs.declared.insn.TempInsn.{TempInsn}
@@ -11,7 +10,7 @@ use Rattle.alloc_model.specs.declared.allocation.Loc.TheVariants as loc
 use Rattle.alloc_model.specs.declared.allocation.Standing.{Standing}
 use Rattle.alloc_model.specs.declared.allocation.Transfer.{Transfer}
 use Rattle.alloc_model.specs.declared.allocation.Transfer.TheVariants.{Store, Load, Shift}
-use Rattle.alloc_model.specs.Places.{Place, Reg, Slot, place_eq, places_written_at, is_ended, target_of, moved_temp, Plan, transfers_at, registers_at}
+use Rattle.alloc_model.specs.Places.{Place, Reg, Slot, places_written_at, is_ended, target_of, moved_temp, Plan, transfers_at, registers_at}
 
 -- a temporary is live at a place of a block
 abbrev pub is_live_at : Plan → (t block at : ℕ) → Type 0

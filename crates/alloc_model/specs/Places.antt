@@ -1,6 +1,6 @@
 -- How programs run over registers and slots: the same instructions, with the registers that an allocation states for
 -- their temporaries, the transfers before each of them, and those of each edge.
-use Rattle.std.specs.Prelude.{◌≡◌, ℕ, ◌+◌, ◌==◌, ◌&&◌, Bool, true, false, List, [], ◌∷◌, ◌++◌, take, drop, map, length, find, slice_get, slice_index_or, Option, Some, None}
+use Rattle.std.specs.Prelude.{◌≡◌, ℕ, ◌+◌, ◌==◌, ◌&&◌, Bool, false, List, [], ◌∷◌, ◌++◌, take, drop, map, length, find, slice_get, slice_index_or, Option, Some, None}
 use Rattle.mem_model.specs.World.{World, Rooms}
 use Rattle.mem_model.specs.Ending.{Ending}
 use Rattle.machine_model.specs.Code.{Site, Point, Code}
@@ -19,7 +19,7 @@ use Rattle.alloc_model.specs.Contents.{Content}
 use Rattle.alloc_model.specs.Stores as stores
 use Rattle.alloc_model.specs.Stores.{empty, without, put, put_all}
 use Rattle.alloc_model.specs.Effect.{Holder, Temp, Fixed, Incoming, Outgoing, entry_holders, others_read, others_written, is_call, widest_call, does, takes_turn}
-use Rattle.alloc_model.specs.Temporaries.{FunctionCode, blocks_in, sizes_in, number_of, status_of, site_in, start_world, main_of, code_of}
+use Rattle.alloc_model.specs.Temporaries.{FunctionCode, sizes_in, number_of, status_of, site_in, start_world, main_of, code_of}
 
 -- ---- places
 
