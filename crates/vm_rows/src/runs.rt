@@ -1,0 +1,84 @@
+//! Runs of programs over virtual registers.
+
+use crate::reader::Reader;
+use anyhow::Result;
+use bk_io::memory::{MemSink, MemSource};
+use row_sheets::Table;
+use row_sheets::escape::unescape;
+use row_sheets::number::{number, numbers};
+use std::alloc::Global;
+use suifvm_run::run_vm;
+
+/// The most bytes that a run may write.
+const ROOM: u64 = 65_536;
+
+/// The table of runs.
+#[derive(Drop)]
+pub struct Runs;
+
+/// What a row says of a run besides its program.
+#[derive(Drop)]
+struct Outside {
+    input: Vec<u8>,
+    failing_inputs: Vec<u64>,
+    failing_puts: Vec<u64>,
+    turns: u64,
+}
+
+impl Outside {
+    /// Reads a line. Answers whether it is one of these.
+    fn take(&mut self, alloc: Global, word: &str, rest: &str) -> Result<bool> {
+        match word {
+            "input" => self.input = unescape(alloc, rest)?,
+            "failing-inputs" => self.failing_inputs = numbers(alloc, rest)?,
+            "failing-puts" => self.failing_puts = numbers(alloc, rest)?,
+            "turns" => self.turns = number(rest)?,
+            _ => return Ok(false),
+        }
+        Ok(true)
+    }
+}
+
+/// The names of the functions of a program.
+fn names_of(alloc: Global, given: &str) -> Result<Vec<String>> {
+    let mut names = Vec::new(alloc);
+    for line in given.lines() {
+        if let Some(name) = line.strip_prefix("func ") {
+            names.push(name.to_string(alloc)?)?;
+        }
+    }
+    Ok(names)
+}
+
+impl Table for Runs {
+    fn file(&self) -> &'static str {
+        "vm_runs.rows"
+    }
+
+    fn answer(&mut self, alloc: Global, given: &str) -> Result<Vec<u8>> {
+        let mut outside = Outside {
+            input: Vec::new(alloc),
+            failing_inputs: Vec::new(alloc),
+            failing_puts: Vec::new(alloc),
+            turns: 1000,
+        };
+        let mut reader = Reader::new(alloc, names_of(alloc, given)?);
+        for line in given.lines() {
+            let (word, rest) = line.split_once(' ').unwrap_or((line, ""));
+            if !outside.take(alloc, word, rest)? {
+                reader.take(line)?;
+            }
+        }
+        let program = reader.program()?;
+        let mut input = MemSource::new(outside.input, outside.failing_inputs);
+        let mut out = MemSink::new(alloc, ROOM, outside.failing_puts)?;
+        let ending = run_vm(alloc, &program, &mut input, &mut out, outside.turns);
+        let mut shown = format!(in alloc; "{ending:?}\n")?.into_bytes();
+        if !out.taken().is_empty() {
+            shown.extend_from_slice(b"out ")?;
+            shown.extend_from_slice(out.taken())?;
+            shown.push(b'\n')?;
+        }
+        Ok(shown)
+    }
+}
