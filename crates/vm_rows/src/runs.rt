@@ -1,12 +1,13 @@
 //! Runs of programs over virtual registers.
 
 use crate::reader::Reader;
-use anyhow::Result;
+use anyhow::{Result, ensure};
 use bk_io::memory::{MemSink, MemSource};
 use row_sheets::Table;
 use row_sheets::escape::unescape;
 use row_sheets::number::{number, numbers};
 use std::alloc::Global;
+use suifvm_ir::vm_text;
 use suifvm_run::run_vm;
 
 /// The most bytes that a run may write.
@@ -50,6 +51,24 @@ fn names_of(alloc: Global, given: &str) -> Result<Vec<String>> {
     Ok(names)
 }
 
+/// The lines of a row that the text of its program has: functions, blocks and instructions.
+fn lines_of_text(alloc: Global, given: &str) -> Result<Vec<u8>> {
+    let mut text = Vec::new(alloc);
+    for line in given.lines() {
+        let word = line.split(' ').next().unwrap_or(line);
+        let is_shown = match word {
+            "global" | "params" | "registers" | "object" => false,
+            "input" | "failing-inputs" | "failing-puts" | "turns" => false,
+            _ => true,
+        };
+        if is_shown {
+            text.extend_from_slice(line.as_bytes())?;
+            text.push(b'\n')?;
+        }
+    }
+    Ok(text)
+}
+
 impl Table for Runs {
     fn file(&self) -> &'static str {
         "vm_runs.rows"
@@ -70,6 +89,11 @@ impl Table for Runs {
             }
         }
         let program = reader.program()?;
+        let text = vm_text(alloc, &program)?;
+        ensure!(
+            text.as_slice() == lines_of_text(alloc, given)?.as_slice(),
+            "the program's text is another one"
+        );
         let mut input = MemSource::new(outside.input, outside.failing_inputs);
         let mut out = MemSink::new(alloc, ROOM, outside.failing_puts)?;
         let ending = run_vm(alloc, &program, &mut input, &mut out, outside.turns);
