@@ -9,11 +9,11 @@ mod reader;
 mod runs;
 mod words;
 
-use crate::runs::Runs;
+use crate::runs::RunTable;
 use anyhow::Result;
 use row_sheets::check_tables;
 
 /// Checks the file that the words name, or the one in this folder where there are no words.
 fn main(rt: HostRuntime) -> Result<()> {
-    check_tables(&rt, &mut [Runs])
+    check_tables(&rt, &mut [RunTable])
 }

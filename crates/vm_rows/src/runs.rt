@@ -15,7 +15,7 @@ const ROOM: u64 = 65_536;
 
 /// The table of runs.
 #[derive(Drop)]
-pub struct Runs;
+pub struct RunTable;
 
 /// What a row says of a run besides its program.
 #[derive(Drop)]
@@ -69,7 +69,7 @@ fn lines_of_text(alloc: Global, given: &str) -> Result<Vec<u8>> {
     Ok(text)
 }
 
-impl Table for Runs {
+impl Table for RunTable {
     fn file(&self) -> &'static str {
         "vm_runs.rows"
     }
