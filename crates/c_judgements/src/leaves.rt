@@ -112,7 +112,7 @@ fn int_type() -> Option<DeclaredType>
 }
 
 /// An enum with a tag, at the tag.
-fn tagged_enum<'a>(
+pub fn tagged_enum<'a>(
     notes: &mut Notes<'a>,
     at: u32,
     name: &'a [u8],
@@ -144,7 +144,7 @@ fn enum_type<'a>(
 }
 
 /// A struct whose members are not known.
-fn incomplete(alloc: Global, name: &[u8]) -> Result<StructDef, AllocError>
+pub fn incomplete(alloc: Global, name: &[u8]) -> Result<StructDef, AllocError>
     ensures { IfOk result (λ r. r ≡ spec.incomplete name.now) }
 {
     Ok(StructDef {
@@ -172,7 +172,7 @@ fn new_struct<'a>(
 }
 
 /// A struct with a tag, at the tag.
-fn tagged_struct<'a>(
+pub fn tagged_struct<'a>(
     alloc: Global,
     notes: &mut Notes<'a>,
     at: u32,

@@ -27,7 +27,7 @@ pub enum MemberMeaning {
 
 /// The number of a struct type.
 #[tactic(auto, unfolding(c_typed_tree::specs::model::View::opens))]
-fn struct_number(ty: &CType) -> Option<u32>
+pub fn struct_number(ty: &CType) -> Option<u32>
     ensures { result ≡ spec.struct_number (type_view ty.now) }
 {
     match ty {

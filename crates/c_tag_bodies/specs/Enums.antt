@@ -1,0 +1,50 @@
+-- Enumeration constants (C99 6.7.2.2). The scope of each begins behind its expression (6.2.1).
+use Rattle.std.specs.Prelude.{ℕ, if◌then◌else◌, List, Option, Some, None}
+use Rattle.c_scopes.specs.Names.{find}
+use Rattle.c_tree.specs.declared.expressions.Expr.TheBlock as k
+use Rattle.c_type_faults.specs.declared.faults.Kind.TheVariants.{Redeclared}
+use Rattle.c_type_rules.specs.declared.typed.Typed.{Typed}
+use Rattle.c_constant_rules.specs.Values.{given_value, next_value}
+use Rattle.c_checks.specs.declared.meanings.Meaning.{Meaning}
+use Rattle.c_checks.specs.declared.meanings.Meaning.TheVariants as m
+use Rattle.c_checks.specs.Checks.{Check, and_then, each, noted}
+use Rattle.c_checks.specs.Notes.{with_fault}
+use Rattle.c_checks.specs.Scopes.{with_name, stands_here}
+use Rattle.c_judgements.specs.Types.{State, within}
+use Rattle.c_expressions.specs.Expressions.{judge}
+
+abbrev pub given : Typed → Check (Option ℕ)
+given a n = noted (given_value a) n
+
+abbrev pub next : ℕ → (before : ℕ) → Check (Option ℕ)
+next at before n = noted (next_value at before) n
+
+-- without an expression the first is 0, and each other one is 1 above the one before it, if that has no fault
+abbrev pub value_behind : ℕ → (before : Option (Option ℕ)) → Check (Option ℕ)
+value_behind at None n = (Some 0, n)
+value_behind at (Some before) n = each before (next at) n
+
+abbrev pub value_held : ℕ → k.Held-Constant-value → (before : Option (Option ℕ)) → State → Option ℕ × State
+value_held at k.Constant-value-None' before s = within s.0 (value_behind at before s.1)
+value_held at (k.Constant-value-Some' x) before s =
+    and_then (judge x s) (λ a u. within u.0 (each a given u.1))
+
+abbrev pub constant_meaning : Option ℕ → Meaning
+constant_meaning None = m.Faulty
+constant_meaning (Some word) = m.Constant word
+
+-- a name that stands in the scope keeps its meaning
+abbrev pub constant_declared : ℕ → List ℕ → Option ℕ → State → State
+constant_declared at name value s =
+    if stands_here s.0 (find name s.0.names) then (s.0, with_fault at Redeclared s.1)
+    else (with_name name (constant_meaning value) s.0, s.1)
+
+-- what follows a part of a list
+abbrev pub behind : {A S T : Type 0} → A × S → (A → S → T) → T
+behind x rest = rest x.0 x.1
+
+-- the constants of a body in their order
+unfoldable pub constant_row : {m : _} → k.Row_of-Constant m → (before : Option (Option ℕ)) → State → State
+constant_row k.end_of-Constant before s = s
+constant_row (k.more_of-Constant at name value rest) before s =
+    behind (value_held at value before s) (λ v u. constant_row rest (Some v) (constant_declared at name v u))

@@ -1,0 +1,110 @@
+-- The struct or enum of a body (C99 6.7.2.1 to 6.7.2.3).
+use Rattle.std.specs.Prelude.{ℕ, if◌then◌else◌, Bool, true, false, List, [], ◌∷◌, Option, Some, None, is_some, slice_set}
+use Rattle.std.specs.List.{list_all}
+use Rattle.c_scopes.specs.Names.{Entry, find}
+use Rattle.c_declared_types.specs.declared.declared.DeclaredType.{DeclaredType}
+use Rattle.c_declared_types.specs.declared.declared.DeclaredType.TheVariants as d
+use Rattle.c_struct_layout.specs.declared.fields.Field.{Field}
+use Rattle.c_struct_layout.specs.StructLayout.{struct_of}
+use Rattle.c_typed_tree.specs.declared.types.StructDef.{StructDef}
+use Rattle.c_typed_tree.specs.View.{type_view}
+use Rattle.c_type_faults.specs.declared.faults.Kind.TheVariants.{Redeclared, BadType}
+use Rattle.c_checks.specs.declared.notes.Notes.{Notes}
+use Rattle.c_checks.specs.Checks.{Check, pure, and_then, fault}
+use Rattle.c_checks.specs.Notes.{with_fault, new_struct}
+use Rattle.c_judgements.specs.Leaves.{incomplete, tagged_struct, tagged_enum}
+use Rattle.c_judgements.specs.Members.{struct_number}
+use Rattle.c_tag_bodies.specs.declared.members.Members.{Members}
+use Rattle.c_tag_bodies.specs.Members.{is_member}
+
+-- the tags that have a body, from its beginning on: there is one at most for each (6.7.2.3)
+abbrev pub Defined : Type 0
+Defined = List (Entry (Unit {0}))
+
+abbrev pub with_body : (tag : Option (List ℕ)) → Defined → Defined
+with_body None ts = ts
+with_body (Some name) ts = record { name = name; value = tt } ∷ ts
+
+-- ---- where a body begins: its tag is in scope there (6.2.1)
+
+abbrev pub tagged_body : Defined → ℕ → List ℕ → Notes → Notes
+tagged_body ts at name n =
+    if is_some (find name ts) then with_fault at Redeclared n else (tagged_enum at name n).1
+
+abbrev pub enum_begun : Defined → ℕ → (tag : Option (List ℕ)) → Notes → Notes
+enum_begun ts at None n = n
+enum_begun ts at (Some name) n = tagged_body ts at name n
+
+abbrev pub number_of : Option DeclaredType → Option ℕ
+number_of None = None
+number_of (Some (d.Value ty)) = struct_number (type_view ty)
+number_of (Some (d.Unsized element)) = None
+number_of (Some (d.Function of parameters)) = None
+
+abbrev pub unnamed : Check (Option ℕ)
+unnamed n = and_then (new_struct (incomplete []) n) (λ number. pure (Some number))
+
+abbrev pub numbered : ℕ → List ℕ → Check (Option ℕ)
+numbered at name n = and_then (tagged_struct at name n) (λ ty. pure (number_of ty))
+
+abbrev pub no_body : ℕ → Check (Option ℕ)
+no_body at = fault at Redeclared
+
+-- the number of the struct that the body is of, unless this is no body of its tag
+abbrev pub struct_begun : Defined → ℕ → (tag : Option (List ℕ)) → Check (Option ℕ)
+struct_begun ts at None n = unnamed n
+struct_begun ts at (Some name) n = if is_some (find name ts) then no_body at n else numbered at name n
+
+-- ---- where the body of a struct ends
+
+-- the struct of these members, where objects have their types, as they did where the members stand; None where it is
+-- larger than the data may be
+abbrev pub struct_where : List StructDef → (tag : List ℕ) → List Field → Option StructDef
+struct_where ds tag fs = if list_all (λ f. is_member ds f.ty) fs then struct_of ds tag fs else None
+
+abbrev pub tag_name : Option (List ℕ) → List ℕ
+tag_name None = []
+tag_name (Some name) = name
+
+abbrev pub with_struct : (number : ℕ) → StructDef → List (Entry (Option ℕ)) → Notes → Notes
+with_struct number structure names n = record {
+  faults = n.faults;
+  addressed = n.addressed;
+  texts = n.texts;
+  first_text = n.first_text;
+  uses = n.uses;
+  structs = slice_set n.structs number structure;
+  members = slice_set n.members number names;
+  tags = n.tags;
+  untagged = n.untagged;
+}
+
+-- a struct without a tag is that of the declarators that follow
+abbrev pub with_untagged : ℕ → (tag : Option (List ℕ)) → (number : ℕ) → Notes → Notes
+with_untagged at None number n = record {
+  faults = n.faults;
+  addressed = n.addressed;
+  texts = n.texts;
+  first_text = n.first_text;
+  uses = n.uses;
+  structs = n.structs;
+  members = n.members;
+  tags = n.tags;
+  untagged = Some (record { at = at; number = number });
+}
+with_untagged at (Some name) number n = n
+
+-- the size is judged where no member has a fault
+abbrev pub too_large : ℕ → (faulty : Bool) → Notes → Notes
+too_large at true n = n
+too_large at false n = with_fault at BadType n
+
+-- a struct has the members that are without a fault
+abbrev pub completed : ℕ → (number : ℕ) → Members → Option StructDef → Notes → Notes
+completed at number m None n = too_large at m.faulty n
+completed at number m (Some structure) n = with_struct number structure m.names n
+
+abbrev pub struct_ended : ℕ → (tag : Option (List ℕ)) → (number : Option ℕ) → Members → Notes → Notes
+struct_ended at tag None m n = n
+struct_ended at tag (Some number) m n =
+    with_untagged at tag number (completed at number m (struct_where n.structs (tag_name tag) m.fields) n)
