@@ -1,0 +1,9 @@
+mod Sets
+mod Registers
+mod Lists
+mod EdgeCodes
+mod Walk
+mod Given
+mod Faithfulness
+mod Counts
+mod Loops

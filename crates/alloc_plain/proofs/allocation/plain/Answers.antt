@@ -1,0 +1,10 @@
+use Rattle.std.proofs.lemmas.Result.{IfOk-weaker}
+use Rattle.alloc_plain.proofs.Faithfulness.{faithful_by_plan, slots_by_plan}
+use Rattle.alloc_plain.proofs.allocation.plain.Goals as goal
+
+pub returns-clause-faithful : goal.returns-clause-faithful
+returns-clause-faithful c =
+    IfOk-weaker c.plain_lists.result _ _ (faithful_by_plan c.args.f.now c.requires) c.plain_lists.ensures.plan
+
+pub returns-clause-slots : goal.returns-clause-slots
+returns-clause-slots c = IfOk-weaker c.plain_lists.result _ _ (slots_by_plan c.args.f.now) c.plain_lists.ensures.plan
