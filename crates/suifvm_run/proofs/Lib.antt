@@ -7,6 +7,7 @@ pub mod Entries
 pub mod Returns
 pub mod Effects
 pub mod Instructions
+pub mod AtOnce
 pub mod Progress
 pub mod Begins
 pub mod Wholes

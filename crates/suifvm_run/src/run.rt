@@ -52,8 +52,9 @@ fn word_of(byte: Option<u8>) -> u64
 }
 
 impl<'c, 'p> Machine<'c, 'p> {
-    /// One step, with what it asks of the outside. It answers how a run that had so many turns stops, where it does.
-    fn turn<I: Source, O: Sink>(
+    /// One step, whatever it is, with what it asks of the outside.
+    #[inline(never)]
+    fn whole_turn<I: Source, O: Sink>(
         &mut self,
         turns: u64,
         input: &mut I,
@@ -90,6 +91,37 @@ impl<'c, 'p> Machine<'c, 'p> {
                 },
             },
             Turn::NoMemory => Some(VmEnding::NoMemory),
+        }
+    }
+
+    /// One step, with what it asks of the outside. It answers how a run that had so many turns stops, where it does.
+    #[inline(always)]
+    fn turn<I: Source, O: Sink>(
+        &mut self,
+        turns: u64,
+        input: &mut I,
+        out: &mut O,
+    ) -> Option<VmEnding>
+        requires sound { config.IsSound self.old }
+        requires marked { AreMarked (config.program_of self.old) }
+        ensures sound { IfNone result (config.IsSound self.new) }
+        ensures program { IfNone result (self.new.program.now ≡ self.old.program.now) }
+        // fewer steps are left that it can take
+        ensures falls { IfNone result (machine_left self.new < machine_left self.old) }
+        ensures run { (rooms : Rooms) (start : Config Registers) (told : Traffic) →
+            progress.StandsAt rooms self.old.program.now start told
+            (record { left = I.left input.old; made = I.made input.old; taken = O.taken out.old }) self.old →
+            progress.TurnEnds rooms self.old.program.now start turns told
+            (record { left = I.left input.new; made = I.made input.new; taken = O.taken out.new }) self.new result }
+        ensures input_count { I.faults input.new
+            ≡ input_faults_after (unwrap_or result VmEnding.NoMemory) (I.faults input.old) }
+        ensures output_count { O.faults out.new
+            ≡ output_faults_after (unwrap_or result VmEnding.NoMemory) (O.faults out.old) }
+    {
+        if self.quick_step() {
+            None
+        } else {
+            self.whole_turn(turns, input, out)
         }
     }
 

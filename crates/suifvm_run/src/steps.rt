@@ -21,7 +21,7 @@ use vm_meaning::answer::Answer;
 use vm_operations::objects::{copy, store};
 
 /// Whether a branch is taken where its test gives this.
-fn is_taken(op: BranchOp, test: bool) -> bool
+pub(crate) fn is_taken(op: BranchOp, test: bool) -> bool
     ensures { result ≡ effect.is_taken op test }
 {
     match op {

@@ -4,6 +4,7 @@
 //! a run what `specs/Tidy.antt` says.
 #![tactic(auto)]
 
+pub mod given;
 pub mod numbers;
 pub mod objects;
 pub mod operators;

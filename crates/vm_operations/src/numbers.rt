@@ -61,6 +61,7 @@ pub fn is_value_of(ty: VmType, value: Value) -> bool
 }
 
 /// The value as it is, where it may be read.
+#[inline(always)]
 pub fn when_value(ty: VmType, value: Value) -> Answer
     ensures { result ≡ operations.when_value ty value }
 {
@@ -72,6 +73,7 @@ pub fn when_value(ty: VmType, value: Value) -> Answer
 }
 
 /// What an operation on integers comes to.
+#[inline(always)]
 fn of_outcome(outcome: ArithmeticOutcome) -> Answer
     ensures { result ≡ operations.outcome_answer outcome }
 {
@@ -83,6 +85,7 @@ fn of_outcome(outcome: ArithmeticOutcome) -> Answer
 }
 
 /// An operation on one number.
+#[inline(always)]
 fn unary_number(op: UnaryOp, t: IntegerType, word: u64) -> Answer
     ensures { result ≡ operations.unary_number op t word }
 {
@@ -94,6 +97,7 @@ fn unary_number(op: UnaryOp, t: IntegerType, word: u64) -> Answer
 }
 
 /// An operation on the value of a register of numbers.
+#[inline(always)]
 fn unary_in(op: UnaryOp, t: IntegerType, value: Value) -> Answer
     ensures { result ≡ operations.on_number (Some t) value (operations.unary_number op) }
 {
@@ -109,6 +113,7 @@ fn unary_in(op: UnaryOp, t: IntegerType, value: Value) -> Answer
 }
 
 /// An operation on the value of a register of pointers.
+#[inline(always)]
 fn unary_pointer(op: UnaryOp, value: Value) -> Answer
     ensures { result ≡ operations.unary_pointer op value }
 {
@@ -120,6 +125,7 @@ fn unary_pointer(op: UnaryOp, value: Value) -> Answer
 }
 
 /// `mov`, `neg`, `not`.
+#[inline(always)]
 pub fn unary(op: UnaryOp, ty: VmType, value: Value) -> Answer
     ensures { result ≡ operations.unary_answer op ty value }
 {
@@ -133,6 +139,7 @@ pub fn unary(op: UnaryOp, ty: VmType, value: Value) -> Answer
 }
 
 /// A conversion between integer types.
+#[inline(always)]
 fn converted(from: Option<IntegerType>, to: Option<IntegerType>, value: Value) -> Answer
     ensures { result ≡ operations.converted from to value }
 {
@@ -150,6 +157,7 @@ fn converted(from: Option<IntegerType>, to: Option<IntegerType>, value: Value) -
 }
 
 /// `cvt`.
+#[inline(always)]
 pub fn convert(from: MemoryType, to: VmType, value: Value) -> Answer
     ensures { result ≡ operations.convert_answer from to value }
 {
@@ -157,6 +165,7 @@ pub fn convert(from: MemoryType, to: VmType, value: Value) -> Answer
 }
 
 /// An operation on two numbers.
+#[inline(always)]
 fn binary_number(op: BinaryOp, t: IntegerType, a: u64, b: u64) -> Answer
     ensures { result ≡ operations.binary_number op t a b }
 {
@@ -173,6 +182,7 @@ fn binary_number(op: BinaryOp, t: IntegerType, a: u64, b: u64) -> Answer
 }
 
 /// The word of a value, where a register of these numbers may be read.
+#[inline(always)]
 fn word_in(t: IntegerType, value: Value) -> Option<u64>
     ensures { result ≡ words.word_in t value }
 {
@@ -184,6 +194,7 @@ fn word_in(t: IntegerType, value: Value) -> Option<u64>
 }
 
 /// An operation on two registers of numbers.
+#[inline(always)]
 #[tactic(auto, using(crate::proofs::Words::on_two, crate::proofs::Words::on_first, crate::proofs::Words::on_second))]
 pub(crate) fn binary_in(op: BinaryOp, t: IntegerType, a: Value, b: Value) -> Answer
     ensures { result ≡ operations.on_numbers (Some t) a b (operations.binary_number op) }
@@ -220,6 +231,7 @@ fn without_sign(t: IntegerType) -> IntegerType
 }
 
 /// A shift of a number.
+#[inline(always)]
 fn shift_number(op: ShiftOp, t: IntegerType, word: u64, count: u64) -> Answer
     ensures { result ≡ operations.shift_number op t word count }
 {
@@ -232,6 +244,7 @@ fn shift_number(op: ShiftOp, t: IntegerType, word: u64, count: u64) -> Answer
 }
 
 /// A comparison of two numbers.
+#[inline(always)]
 fn compare_number(op: CompareOp, t: IntegerType, a: u64, b: u64) -> bool
     ensures { result ≡ operations.compare_number op t a b }
 {
@@ -244,6 +257,7 @@ fn compare_number(op: CompareOp, t: IntegerType, a: u64, b: u64) -> bool
 }
 
 /// A shift of a register of numbers by the word of another register.
+#[inline(always)]
 #[tactic(auto, using(crate::proofs::Words::on_shift, crate::proofs::Words::on_none, crate::proofs::Words::on_no_count))]
 fn shift_in(op: ShiftOp, t: IntegerType, value: Value, count: Value) -> Answer
     ensures { result ≡ operations.on_number (Some t) value (operations.shift_by op count) }
@@ -258,6 +272,7 @@ fn shift_in(op: ShiftOp, t: IntegerType, value: Value, count: Value) -> Answer
 }
 
 /// `asr`, `lsl`, `lsr`.
+#[inline(always)]
 pub fn shift(op: ShiftOp, ty: VmType, value: Value, count: Value) -> Answer
     ensures { result ≡ operations.shift_answer op ty value count }
 {
@@ -271,6 +286,7 @@ pub fn shift(op: ShiftOp, ty: VmType, value: Value, count: Value) -> Answer
 }
 
 /// A comparison of two registers of numbers.
+#[inline(always)]
 #[tactic(auto, using(crate::proofs::Words::on_two, crate::proofs::Words::on_first, crate::proofs::Words::on_second))]
 pub(crate) fn compare_in(op: CompareOp, t: IntegerType, a: Value, b: Value) -> Answer
     ensures { result ≡ operations.on_numbers (Some t) a b (operations.compared op) }
