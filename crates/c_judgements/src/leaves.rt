@@ -48,7 +48,8 @@ pub(crate) fn no_type(
     Ok(None)
 }
 
-fn copy_types(alloc: Global, list: &[CType]) -> Result<Seq<CType>, AllocError>
+/// Equal types.
+pub fn copy_types(alloc: Global, list: &[CType]) -> Result<Seq<CType>, AllocError>
     ensures { IfOk result (λ r. r ≡ list.now) }
 {
     let mut copies = Seq::new(alloc);
@@ -58,7 +59,8 @@ fn copy_types(alloc: Global, list: &[CType]) -> Result<Seq<CType>, AllocError>
     Ok(copies)
 }
 
-fn copy_declared(alloc: Global, ty: &DeclaredType) -> Result<DeclaredType, AllocError>
+/// An equal type.
+pub fn copy_declared(alloc: Global, ty: &DeclaredType) -> Result<DeclaredType, AllocError>
     ensures { IfOk result (λ r. r ≡ ty.now) }
 {
     match ty {
