@@ -1,5 +1,5 @@
 -- Instructions on words that are done at once.
-use Rattle.std.proofs.Common.{◌≡◌, ℕ, [], ◌∷◌, ◌+◌, Bool, true, false, Option, Some, None, refl, sym, ap, ◌∙◌}
+use Rattle.std.proofs.Common.{◌≡◌, ℕ, [], ◌∷◌, ◌+◌, Bool, true, false, Option, Some, None, refl, sym, ap, ◌∙◌, subst}
 use Rattle.std.specs.Prelude.{slice_get}
 use Rattle.std.specs.Bool.{OnTrue}
 use Rattle.mem_model.specs.declared.value.Value.{Value}
@@ -30,9 +30,19 @@ module _ (m new : Machine) (done : Bool) where
   abbrev pub Gave : (d : ℕ) → Answer → Type 0
   Gave d answer = (i : VmInsn) → writes_of i ≡ d ∷ [] → TurnIs m new turn.Goes (λ rooms h. act_there rooms m h i (writes answer (world_in m h).outer))
 
+  pub gave_value : (answer : Answer) (d : ℕ) (v : Value) → answer ≡ Gives v → OnTrue done (Wrote m new (d ∷ []) v) → OnTrue done (Gave d answer)
+  gave_value answer d v is w =
+      where_done done (Wrote m new (d ∷ []) v) (Gave d answer) (λ w i written. give_value m new d v answer i is w written) w
+
   pub gave_constant : (answer : Answer) (d n : ℕ) → answer ≡ Gives (Word n) → OnTrue done (Wrote m new (d ∷ []) (Word n)) → OnTrue done (Gave d answer)
-  gave_constant answer d n is w =
-      where_done done (Wrote m new (d ∷ []) (Word n)) (Gave d answer) (λ w i written. give_value m new d (Word n) answer i is w written) w
+  gave_constant answer d n is w = gave_value answer d (Word n) is w
+
+  -- an answer that is known otherwise
+  pub gave_as : (f : Value → Answer) (d : ℕ) (answer : Answer) (v x : Value) → answer ≡ f v → v ≡ x → OnTrue done (Gave d answer) → OnTrue done (Gave d (f x))
+  gave_as f d answer v x is first t = subst (λ a. OnTrue done (Gave d a)) (is ∙ ap f first) t
+
+  pub gave_both_as : (f : Value → Value → Answer) (d : ℕ) (answer : Answer) (v x w y : Value) → answer ≡ f v w → v ≡ x → w ≡ y → OnTrue done (Gave d answer) → OnTrue done (Gave d (f x y))
+  gave_both_as f d answer v x w y is first second t = subst (λ a. OnTrue done (Gave d a)) (is ∙ ap (λ z. f z w) first ∙ ap (f x) second) t
 
   -- an answer from one value, which is known, or from two
   pub gave_one : (f : Value → Answer) (d n : ℕ) (v x : Value) → v ≡ x → f v ≡ Gives (Word n) → OnTrue done (Wrote m new (d ∷ []) (Word n)) → OnTrue done (Gave d (f x))

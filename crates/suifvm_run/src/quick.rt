@@ -1,5 +1,6 @@
-//! Instructions on words that come to a word, a jump or nothing. Most of a run is made of them, and they are done here
-//! at once; whatever else an instruction comes to is left to a whole step.
+//! Instructions that come to a value, a jump or nothing. Most of a run is made of them, and they are done here at once;
+//! whatever else an instruction comes to is left to a whole step. Those on words alone are inlined into the run's loop,
+//! those that touch pointers or memory are called from it.
 
 ghost use Rattle.std.specs.Prelude.{◌≡◌, ◌<◌, ◌≤◌, ◌∷◌, [], take, drop, length, slice_get, Some, IfSome};
 ghost use Rattle.std.specs.Bool.{OnTrue, OnFalse};
@@ -13,12 +14,16 @@ ghost use Rattle.vm_meaning.specs.Effect as effect;
 ghost use Rattle.vm_meaning.specs.Operations as operations;
 
 use crate::machine::{Call, Machine, Turn, block_at};
+use crate::step::address_of;
 use crate::steps::is_taken;
 use mem_model::value::Value;
-use suifvm_ir::insn::{BinaryOp, BranchOp, CompareOp, ShiftOp, UnaryOp, VmInsn};
+use suifvm_ir::insn::{BinaryOp, BranchOp, CompareOp, Place, ShiftOp, UnaryOp, VmInsn};
 use suifvm_ir::types::{MemoryType, VmType};
+use vm_meaning::answer::Answer;
 use vm_operations::given::{binary_word, compare_word, given_word, word_holds};
 use vm_operations::numbers::{convert, shift, unary, when_value};
+use vm_operations::objects::{load, store};
+use vm_operations::operators::binary;
 
 /// The word of a register, if it holds one, where the registers begin at a base of the stack.
 #[inline(always)]
@@ -36,14 +41,14 @@ fn word_in(stack: &[Value], base: usize, register: u32) -> Option<u64>
     }
 }
 
-/// Writes a word into a register that is in a stack, where the registers begin at a base of it.
+/// Writes a value into a register that is in a stack, where the registers begin at a base of it.
 #[inline(always)]
 #[tactic(auto, using(crate::proofs::Windows::set_window_at, crate::proofs::Windows::set_below, crate::proofs::Windows::set_within))]
-fn set_word_in(stack: &mut Vec<Value>, base: usize, register: u32, word: u64) -> bool
+fn set_in(stack: &mut Vec<Value>, base: usize, register: u32, value: Value) -> bool
     requires { base ≤ length stack.old.items }
     ensures window { OnTrue result
         (registers_of (drop base stack.new.items)
-        ≡ set_register register (Value.Word word) (registers_of (drop base stack.old.items))) }
+        ≡ set_register register value (registers_of (drop base stack.old.items))) }
     ensures below { OnTrue result (take base stack.new.items ≡ take base stack.old.items) }
     ensures within { OnTrue result (base ≤ length stack.new.items) }
     ensures kept { OnFalse result (stack.new ≡ stack.old) }
@@ -54,7 +59,7 @@ fn set_word_in(stack: &mut Vec<Value>, base: usize, register: u32, word: u64) ->
     if place >= stack.len() {
         return false;
     }
-    stack[place] = Value::Word(word);
+    stack[place] = value;
     true
 }
 
@@ -69,21 +74,32 @@ impl<'c, 'p> Machine<'c, 'p> {
         word_in(self.stack.as_slice(), self.here.base, register)
     }
 
-    /// Writes a word into a register that is there, and goes on with the next instruction.
+    /// Writes a value into a register that is there, and goes on with the next instruction.
     #[inline(always)]
     #[tactic(auto, using(crate::proofs::Turns::wrote_some))]
+    fn put(&mut self, destination: u32, value: Value) -> bool
+        requires sound { config.IsSound self.old }
+        requires within { self.old.here.at < length self.old.here.row.now.insns.items }
+        ensures done { OnTrue result (config.Wrote self.old self.new (destination ∷ []) value) }
+        ensures kept { OnFalse result (self.new ≡ self.old) }
+    {
+        let base = self.here.base;
+        if !set_in(&mut self.stack, base, destination, value) {
+            return false;
+        }
+        self.here.at += 1;
+        true
+    }
+
+    /// Writes a word into a register that is there, and goes on with the next instruction.
+    #[inline(always)]
     fn put_word(&mut self, destination: u32, word: u64) -> bool
         requires sound { config.IsSound self.old }
         requires within { self.old.here.at < length self.old.here.row.now.insns.items }
         ensures done { OnTrue result (config.Wrote self.old self.new (destination ∷ []) (Value.Word word)) }
         ensures kept { OnFalse result (self.new ≡ self.old) }
     {
-        let base = self.here.base;
-        if !set_word_in(&mut self.stack, base, destination, word) {
-            return false;
-        }
-        self.here.at += 1;
-        true
+        self.put(destination, Value::Word(word))
     }
 
     /// An operation on two numbers.
@@ -235,6 +251,128 @@ impl<'c, 'p> Machine<'c, 'p> {
         self.put_word(destination, word)
     }
 
+    /// Writes what an operation gives, if it gives a value.
+    #[inline(always)]
+    fn put_answer(&mut self, destination: u32, answer: Answer) -> bool
+        requires sound { config.IsSound self.old }
+        requires within { self.old.here.at < length self.old.here.row.now.insns.items }
+        ensures done { OnTrue result ((i : Insn) → insns.writes_of i ≡ destination ∷ [] →
+            config.TurnIs self.old self.new Turn.Goes (λ rooms h. config.act_there rooms self.old h i
+            (effect.writes answer (config.world_in self.old h).outer))) }
+        ensures kept { OnFalse result (self.new ≡ self.old) }
+    {
+        match answer {
+            Answer::Gives(value) => self.put(destination, value),
+            Answer::TrapsWith(_) => false,
+            Answer::Fails => false,
+        }
+    }
+
+    /// A load.
+    #[inline(never)]
+    fn quick_load(&mut self, ty: MemoryType, destination: u32, pointer: u32, plus: i64) -> bool
+        requires sound { config.IsSound self.old }
+        requires within { self.old.here.at < length self.old.here.row.now.insns.items }
+        ensures done { OnTrue result ((i : Insn) → insns.writes_of i ≡ destination ∷ [] →
+            config.TurnIs self.old self.new Turn.Goes (λ rooms h. config.act_there rooms self.old h i
+            (effect.writes (operations.loaded_answer self.old.memory ty
+            (registers_of (drop self.old.here.base self.old.stack.items) pointer) plus)
+            (config.world_in self.old h).outer))) }
+        ensures kept { OnFalse result (self.new ≡ self.old) }
+    {
+        let answer = load(&self.memory, ty, self.get(pointer), plus);
+        self.put_answer(destination, answer)
+    }
+
+    /// The address of an object.
+    #[inline(never)]
+    fn quick_address(&mut self, destination: u32, place: Place, plus: u64) -> bool
+        requires sound { config.IsSound self.old }
+        requires within { self.old.here.at < length self.old.here.row.now.insns.items }
+        ensures done { OnTrue result ((i : Insn) → insns.writes_of i ≡ destination ∷ [] →
+            config.TurnIs self.old self.new Turn.Goes (λ rooms h. config.act_there rooms self.old h i
+            (effect.writes (Answer.Gives (operations.place_address self.old.here.own place plus))
+            (config.world_in self.old h).outer))) }
+        ensures kept { OnFalse result (self.new ≡ self.old) }
+    {
+        match address_of(self.here.own, place, plus) {
+            None => false,
+            Some(value) => self.put(destination, value),
+        }
+    }
+
+    /// A sum or a difference of pointers, or another operation on any two values.
+    #[inline(never)]
+    fn quick_pointer(
+        &mut self,
+        op: BinaryOp,
+        ty: VmType,
+        destination: u32,
+        left: u32,
+        right: u32,
+    ) -> bool
+        requires sound { config.IsSound self.old }
+        requires within { self.old.here.at < length self.old.here.row.now.insns.items }
+        ensures done { OnTrue result ((i : Insn) → insns.writes_of i ≡ destination ∷ [] →
+            config.TurnIs self.old self.new Turn.Goes (λ rooms h. config.act_there rooms self.old h i
+            (effect.writes (operations.binary_answer self.old.memory op ty
+            (registers_of (drop self.old.here.base self.old.stack.items) left)
+            (registers_of (drop self.old.here.base self.old.stack.items) right)) (config.world_in self.old h).outer))) }
+        ensures kept { OnFalse result (self.new ≡ self.old) }
+    {
+        let answer = binary(&self.memory, op, ty, self.get(left), self.get(right));
+        self.put_answer(destination, answer)
+    }
+
+    /// An operation on two registers.
+    #[inline(always)]
+    fn quick_two(
+        &mut self,
+        op: BinaryOp,
+        ty: VmType,
+        destination: u32,
+        left: u32,
+        right: u32,
+    ) -> bool
+        requires sound { config.IsSound self.old }
+        requires within { self.old.here.at < length self.old.here.row.now.insns.items }
+        ensures done { OnTrue result ((i : Insn) → insns.writes_of i ≡ destination ∷ [] →
+            config.TurnIs self.old self.new Turn.Goes (λ rooms h. config.act_there rooms self.old h i
+            (effect.writes (operations.binary_answer self.old.memory op ty
+            (registers_of (drop self.old.here.base self.old.stack.items) left)
+            (registers_of (drop self.old.here.base self.old.stack.items) right)) (config.world_in self.old h).outer))) }
+        ensures kept { OnFalse result (self.new ≡ self.old) }
+    {
+        match ty {
+            VmType::P64 => self.quick_pointer(op, ty, destination, left, right),
+            _ => self.quick_binary(op, ty, destination, left, right),
+        }
+    }
+
+    /// A store.
+    #[inline(never)]
+    #[tactic(auto, using(crate::proofs::Turns::changed_turn))]
+    fn quick_store(&mut self, ty: MemoryType, pointer: u32, plus: i64, value: u32) -> bool
+        requires sound { config.IsSound self.old }
+        requires within { self.old.here.at < length self.old.here.row.now.insns.items }
+        ensures done { OnTrue result ((i : Insn) → insns.writes_of i ≡ [] →
+            config.TurnIs self.old self.new Turn.Goes (λ rooms h. config.act_there rooms self.old h i
+            (effect.changes (operations.stored_memory self.old.memory ty
+            (registers_of (drop self.old.here.base self.old.stack.items) pointer) plus
+            (registers_of (drop self.old.here.base self.old.stack.items) value))
+            (config.world_in self.old h).outer))) }
+        ensures kept { OnFalse result (self.new ≡ self.old) }
+    {
+        let to = self.get(pointer);
+        let value = self.get(value);
+        if store(&mut self.memory, ty, to, plus, value) {
+            self.here.at += 1;
+            true
+        } else {
+            false
+        }
+    }
+
     /// Goes on with a block that is there.
     #[inline(always)]
     fn quick_jump(&mut self, block: usize) -> bool
@@ -334,7 +472,7 @@ impl<'c, 'p> Machine<'c, 'p> {
                 destination,
                 left,
                 right,
-            } => self.quick_binary(*op, *ty, *destination, *left, *right),
+            } => self.quick_two(*op, *ty, *destination, *left, *right),
             VmInsn::Compare {
                 op,
                 ty,
@@ -374,6 +512,23 @@ impl<'c, 'p> Machine<'c, 'p> {
                 source,
                 count,
             } => self.quick_shift(*op, *ty, *destination, *source, *count),
+            VmInsn::Load {
+                ty,
+                destination,
+                pointer,
+                plus,
+            } => self.quick_load(*ty, *destination, *pointer, *plus),
+            VmInsn::Store {
+                ty,
+                pointer,
+                plus,
+                value,
+            } => self.quick_store(*ty, *pointer, *plus, *value),
+            VmInsn::LoadAddress {
+                destination,
+                place,
+                plus,
+            } => self.quick_address(*destination, *place, *plus),
             _ => false,
         }
     }

@@ -29,7 +29,7 @@ fn takes_turn(insn: &VmInsn) -> bool
 
 /// The address of an object, moved by so many bytes, where the number of the call's first object is given. `None`
 /// where no object has so many bytes.
-fn address_of(own: u64, place: Place, plus: u64) -> Option<Value>
+pub(crate) fn address_of(own: u64, place: Place, plus: u64) -> Option<Value>
     requires { own ≤ 2 ^ 63 }
     ensures { IfSome result (λ value. value ≡ operations.place_address own place plus) }
 {

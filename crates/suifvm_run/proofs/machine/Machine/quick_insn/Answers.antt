@@ -1,14 +1,18 @@
 -- Each of these instructions does its case of the meaning.
 use Rattle.std.proofs.Common.{refl, ap}
-use Rattle.suifvm_ir.specs.declared.insn.VmInsn.TheVariants.{LoadConstant, Unary, Binary, Shift, Convert, Compare, Branch}
+use Rattle.std.proofs.Common.{rules}
+use Rattle.std.specs.Int.{w64}
+use Rattle.std.specs.Int.RustNames.{FitsSigned}
+use Rattle.std.proofs.lemmas.Int.{to_z-of_z}
+use Rattle.suifvm_ir.specs.declared.insn.VmInsn.TheVariants.{LoadConstant, LoadAddress, Load, Store, Unary, Binary, Shift, Convert, Compare, Branch}
 use Rattle.vm_meaning.specs.Effect.{takes_turn}
 use Rattle.suifvm_run.specs.declared.machine.Turn.TheVariants as turn
 use Rattle.suifvm_run.proofs.AtOnce.{stepped, stepped_jump, stepped_mark}
-use Rattle.suifvm_run.proofs.Instructions.{constant_done, unary_done, binary_done, shift_done, convert_done, compare_done, branch_done}
+use Rattle.suifvm_run.proofs.Instructions.{constant_done, address_done, load_done, store_done, unary_done, binary_done, shift_done, convert_done, compare_done, branch_done}
 use Rattle.suifvm_run.proofs.machine.Machine.quick_insn.Goals as goal
 
 pub returns-in-Binary-clause-done : goal.returns-in-Binary-clause-done
-returns-in-Binary-clause-done c = stepped c.args.self.now c.quick_binary.new.self c.quick_binary.result _ c.args.insn.now c.requires.sound (ap takes_turn c.in-Binary.is) (λ t. binary_done c.args.self.now c.quick_binary.new.self turn.Goes c.args.insn.now _ _ _ _ _ _ _ _ c.in-Binary.is refl refl refl (t (Binary c.in-Binary.op c.in-Binary.ty c.in-Binary.destination c.in-Binary.left c.in-Binary.right) refl)) c.quick_binary.ensures.done
+returns-in-Binary-clause-done c = stepped c.args.self.now c.quick_two.new.self c.quick_two.result _ c.args.insn.now c.requires.sound (ap takes_turn c.in-Binary.is) (λ t. binary_done c.args.self.now c.quick_two.new.self turn.Goes c.args.insn.now _ _ _ _ _ _ _ _ c.in-Binary.is refl refl refl (t (Binary c.in-Binary.op c.in-Binary.ty c.in-Binary.destination c.in-Binary.left c.in-Binary.right) refl)) c.quick_two.ensures.done
 
 pub returns-in-Compare-clause-done : goal.returns-in-Compare-clause-done
 returns-in-Compare-clause-done c = stepped c.args.self.now c.quick_compare.new.self c.quick_compare.result _ c.args.insn.now c.requires.sound (ap takes_turn c.in-Compare.is) (λ t. compare_done c.args.self.now c.quick_compare.new.self turn.Goes c.args.insn.now _ _ _ _ _ _ _ _ c.in-Compare.is refl refl refl (t (Compare c.in-Compare.op c.in-Compare.ty c.in-Compare.destination c.in-Compare.left c.in-Compare.right) refl)) c.quick_compare.ensures.done
@@ -33,3 +37,16 @@ returns-in-Jump-clause-done c = stepped_jump c.args.self.now c.quick_jump.new.se
 
 pub returns-in-Mark-clause-done : goal.returns-in-Mark-clause-done
 returns-in-Mark-clause-done c = stepped_mark c.args.self.now c.quick_mark.new.self c.quick_mark.result c.args.insn.now c.in-Mark.is c.quick_mark.ensures.done
+
+pub returns-in-Load-clause-done : goal.returns-in-Load-clause-done
+returns-in-Load-clause-done c =
+    let fits : FitsSigned w64 c.in-Load.plus = search rules in
+    stepped c.args.self.now c.quick_load.new.self c.quick_load.result _ c.args.insn.now c.requires.sound (ap takes_turn c.in-Load.is) (λ t. load_done c.args.self.now c.quick_load.new.self turn.Goes c.args.insn.now _ _ _ _ _ _ _ c.in-Load.is refl (to_z-of_z w64 c.in-Load.plus fits) refl (t (Load c.in-Load.ty c.in-Load.destination c.in-Load.pointer c.in-Load.plus) refl)) c.quick_load.ensures.done
+
+pub returns-in-Store-clause-done : goal.returns-in-Store-clause-done
+returns-in-Store-clause-done c =
+    let fits : FitsSigned w64 c.in-Store.plus = search rules in
+    stepped c.args.self.now c.quick_store.new.self c.quick_store.result _ c.args.insn.now c.requires.sound (ap takes_turn c.in-Store.is) (λ t. store_done c.args.self.now c.quick_store.new.self turn.Goes c.args.insn.now _ _ _ _ _ c.in-Store.is (to_z-of_z w64 c.in-Store.plus fits) (t (Store c.in-Store.ty c.in-Store.pointer c.in-Store.plus c.in-Store.value) refl)) c.quick_store.ensures.done
+
+pub returns-in-LoadAddress-clause-done : goal.returns-in-LoadAddress-clause-done
+returns-in-LoadAddress-clause-done c = stepped c.args.self.now c.quick_address.new.self c.quick_address.result _ c.args.insn.now c.requires.sound (ap takes_turn c.in-LoadAddress.is) (λ t. address_done c.args.self.now c.quick_address.new.self turn.Goes c.args.insn.now _ _ _ _ c.in-LoadAddress.is refl (t (LoadAddress c.in-LoadAddress.destination c.in-LoadAddress.place c.in-LoadAddress.plus) refl)) c.quick_address.ensures.done
