@@ -39,7 +39,7 @@ pub fn character(
 }
 
 /// The bytes that string literals side by side stand for, with the zero at their end.
-fn bytes_of(alloc: Global, spellings: &[Name]) -> Result<Seq<u8>, AllocError>
+pub fn bytes_of(alloc: Global, spellings: &[Name]) -> Result<Seq<u8>, AllocError>
     ensures { IfOk result (λ r. r ≡ spec.bytes_of spellings.now) }
 {
     let mut bytes = Vec::new(alloc);

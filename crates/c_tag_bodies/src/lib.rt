@@ -10,5 +10,5 @@ mod members;
 mod structs;
 mod walk;
 
-pub use members::Members;
+pub use members::{Members, is_member};
 pub use walk::{bodies, declared_type};
