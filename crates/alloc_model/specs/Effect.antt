@@ -152,7 +152,7 @@ is_long _ = false
 abbrev pub takes : Routine → ℕ → Bool
 takes r n = if is_long r then sign_extension w32 n == n else true
 
-abbrev pub outcome_answer : rt.Outcome → Answer
+abbrev pub outcome_answer : rt.RoutineEnding → Answer
 outcome_answer (rt.Answers n) = word_answer n
 outcome_answer (rt.Traps code) = TrapsWith code
 

@@ -14,7 +14,7 @@ use Rattle.std.proofs.lemmas.Str.{IsUtf8-from_ascii}
 use Rattle.std.proofs.lemmas.Fmt.{decimal_nonempty, decimal_is_IsNumeral, IsAscii-decimal, IsAscii-signed, parse-decimal, parse-signed_decimal}
 use Rattle.std.proofs.lemmas.Str.Parse.{digit_from_value}
 use Rattle.alpha_isa.specs.Lawful.{IsDisplacement}
-use Rattle.alpha_lines.specs.model.Numbers.{number_of, negated, displacement_of}
+use Rattle.alpha_lines.specs.model.Numbers.{number_of, negate, displacement_of}
 
 abbrev checked : {X : Type 0} → Bool → Bool → X → Option X
 checked a b x = if a && b then Some x else None
@@ -105,7 +105,7 @@ negative_read s n z found false is e =
     let same : suc (n - 1) ≡ n = omega arith in
     rw value (omega (arith, h.0), rw same (ap (λ t. 45 ∷ t) h.1))
 
-minus_read : (s : List ℕ) (z : ℤ) (r : Option ℕ) → number_of (2 ^ 15) s ≡ r → negated r ≡ Some z → IsDisplacement z × (45 ∷ s ≡ signed_decimal z)
+minus_read : (s : List ℕ) (z : ℤ) (r : Option ℕ) → number_of (2 ^ 15) s ≡ r → negate r ≡ Some z → IsDisplacement z × (45 ∷ s ≡ signed_decimal z)
 minus_read s z None found e = absurd (cc)
 minus_read s z (Some n) found e = negative_read s n z found (eqb n 0) refl e
 
@@ -116,7 +116,7 @@ plus_read s z (Some n) found e =
     let value : z ≡ pos n = cc in
     rw value (omega (arith, h.0), h.1)
 
-sign_read : (b : ℕ) (s : List ℕ) (z : ℤ) (t : Bool) → eqb b 45 ≡ t → (if t then negated (number_of (2 ^ 15) s) else option_map pos (number_of (2 ^ 15 - 1) (b ∷ s))) ≡ Some z → IsDisplacement z × (b ∷ s ≡ signed_decimal z)
+sign_read : (b : ℕ) (s : List ℕ) (z : ℤ) (t : Bool) → eqb b 45 ≡ t → (if t then negate (number_of (2 ^ 15) s) else option_map pos (number_of (2 ^ 15 - 1) (b ∷ s))) ≡ Some z → IsDisplacement z × (b ∷ s ≡ signed_decimal z)
 sign_read b s z true is e =
     let same : b ≡ 45 = eqb-true b 45 is in
     rw same (minus_read s z (number_of (2 ^ 15) s) refl e)

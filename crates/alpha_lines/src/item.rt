@@ -197,7 +197,11 @@ fn text_address(rest: &[u8]) -> Option<AsmItem>
 
 /// What a line says that begins with the mnemonic, by what stands behind it.
 #[tactic(auto, unfolding(crate::specs::model::Readers::said_by))]
-fn said(alloc: Global, mnemonic: Mnemonic, rest: &[u8]) -> Result<Option<AsmItem>, AllocError>
+fn item_by_mnemonic(
+    alloc: Global,
+    mnemonic: Mnemonic,
+    rest: &[u8],
+) -> Result<Option<AsmItem>, AllocError>
     ensures { IfOk result (λ found. found ≡ readers.said_by mnemonic rest.now) }
 {
     match mnemonic {
@@ -230,7 +234,7 @@ fn item_said(alloc: Global, line: &[u8]) -> Result<Option<AsmItem>, AllocError>
         None => Ok(label_line(line)),
         Some((word, rest)) => match read_mnemonic(word) {
             None => Ok(None),
-            Some(mnemonic) => said(alloc, mnemonic, rest),
+            Some(mnemonic) => item_by_mnemonic(alloc, mnemonic, rest),
         },
     }
 }

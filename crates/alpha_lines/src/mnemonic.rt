@@ -177,7 +177,7 @@ pub(crate) fn operate_word(op: OperateOp) -> &'static [u8]
 }
 
 /// How a mnemonic is spelled.
-fn spelled(mnemonic: Mnemonic) -> &'static [u8]
+fn spelling_of(mnemonic: Mnemonic) -> &'static [u8]
     ensures { result.now ≡ spelling mnemonic }
 {
     match mnemonic {
@@ -200,5 +200,5 @@ pub(crate) fn read_mnemonic(word: &[u8]) -> Option<Mnemonic>
     MNEMONICS
         .iter()
         .copied()
-        .find(|mnemonic| word == spelled(*mnemonic))
+        .find(|mnemonic| word == spelling_of(*mnemonic))
 }

@@ -4,7 +4,7 @@ use Rattle.alpha_isa.specs.Words.{word_of}
 use Rattle.alpha_isa.specs.Program.{Program, IsLawful, data_start, stack_start, word_address, instruction_at}
 use Rattle.alpha_isa.specs.State.{State, register, with_part}
 use Rattle.alpha_isa.specs.Step.{Goes, Over, Trap, exec}
-use Rattle.alpha_rt.specs.Routine.{Routine, Outcome, Answers, Traps, IsOperand, outcome}
+use Rattle.alpha_rt.specs.Routine.{Routine, RoutineEnding, Answers, Traps, IsOperand, outcome}
 use Rattle.alpha_rt.specs.Code.{entry, code}
 
 -- the routines stand in the text from a word on
@@ -64,7 +64,7 @@ pub record TrapsWith (p : Program) (s : State) (code : ℕ) : Type 0 where
   pub input : last.input ≡ s.input
   pub output : last.output ≡ s.output
 
-abbrev pub Does : Program → State → Outcome → Type 0
+abbrev pub Does : Program → State → RoutineEnding → Type 0
 Does p s (Answers word) = Returns p s word
 Does p s (Traps code) = TrapsWith p s code
 

@@ -18,12 +18,12 @@ pub data Routine : Type 0 where
   Remlu : Routine
 
 -- a routine answers a word, or it traps with a code
-pub data Outcome : Type 0 where
-  Answers : (word : ℕ) → Outcome
-  Traps : (code : ℕ) → Outcome
+pub data RoutineEnding : Type 0 where
+  Answers : (word : ℕ) → RoutineEnding
+  Traps : (code : ℕ) → RoutineEnding
 
 -- division by zero is the trap 1
-abbrev pub by : ℕ → Outcome → Outcome
+abbrev pub by : ℕ → RoutineEnding → RoutineEnding
 by divisor outcome = if divisor == 0 then Traps 1 else outcome
 
 -- the least signed number of a width and -1, whose quotient is no number of the width
@@ -31,20 +31,20 @@ abbrev pub is_least_by_minus_one : Width → ℕ → ℕ → Bool
 is_least_by_minus_one w a b = (a == 2 ^ 64 - 2 ^ hbits w) && (b == 2 ^ 64 - 1)
 
 -- on signed numbers division rounds toward zero, so the remainder has the dividend's sign
-abbrev pub signed_outcome : Width → (ℤ → ℤ → ℤ) → ℕ → ℕ → Outcome
+abbrev pub signed_outcome : Width → (ℤ → ℤ → ℤ) → ℕ → ℕ → RoutineEnding
 signed_outcome w operation a b =
     by b (if is_least_by_minus_one w a b then Traps 3
     else Answers (word_from (operation (signed_value w a) (signed_value w b))))
 
-abbrev pub unsigned_outcome : (ℕ → ℕ → ℕ) → ℕ → ℕ → Outcome
+abbrev pub unsigned_outcome : (ℕ → ℕ → ℕ) → ℕ → ℕ → RoutineEnding
 unsigned_outcome operation a b = by b (Answers (operation a b))
 
 -- an unsigned number of 32 bits is answered with its sign bit in all bits above
-abbrev pub long_outcome : (ℕ → ℕ → ℕ) → ℕ → ℕ → Outcome
+abbrev pub long_outcome : (ℕ → ℕ → ℕ) → ℕ → ℕ → RoutineEnding
 long_outcome operation a b = by b (Answers (sign_extension w32 (operation (a % 2 ^ 32) (b % 2 ^ 32))))
 
 -- what a routine makes of the dividend's word and the divisor's
-abbrev pub outcome : Routine → ℕ → ℕ → Outcome
+abbrev pub outcome : Routine → ℕ → ℕ → RoutineEnding
 outcome Divq a b = signed_outcome w64 int_div a b
 outcome Remq a b = signed_outcome w64 int_rem a b
 outcome Divqu a b = unsigned_outcome ◌/◌ a b

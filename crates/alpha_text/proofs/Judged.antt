@@ -7,10 +7,10 @@ use Rattle.alpha_items.specs.declared.item.AsmItem.{AsmItem}
 use Rattle.alpha_items.specs.declared.item.Fix.{Fix}
 use Rattle.alpha_items.specs.Items.{names, gives_word}
 use Rattle.alpha_items.specs.Assembly.{label_index}
-use Rattle.alpha_text.specs.declared.items.Said.{Said}
-use Rattle.alpha_text.specs.declared.items.Said.TheVariants as said
+use Rattle.alpha_text.specs.declared.items.LineMeaning.{LineMeaning}
+use Rattle.alpha_text.specs.declared.items.LineMeaning.TheVariants as said
 use Rattle.alpha_text.specs.Wrong.{Text, Data, Form, Head, Item, Count, Row, Place, HasEntry, Says}
-use Rattle.alpha_text.specs.model.Said.{IsSpelled, StandsBehind}
+use Rattle.alpha_text.specs.model.LineMeaning.{IsSpelled, StandsBehind}
 use Rattle.alpha_text.specs.model.Judged.{HasRow, HasFix}
 use Rattle.std.proofs.lemmas.List.{take_all, length-append, length-drop}
 use Rattle.std.proofs.Math.ListN.{drop_of_length-le}
@@ -33,14 +33,14 @@ no_row all items n bytes fixes line room none (Count m) says = says.stands
 no_row all items n bytes fixes line room none (Row row) says = none row (says.fields, says.spelled, says.stands.1)
 no_row all items n bytes fixes line room none (Place fix) says = let h = says.stands.0 in omega (arith, h)
 
-pub no_said : (all : List (List ℕ)) (items : List AsmItem) (line : List ℕ) → ((t : Said) → ¬ (IsSpelled line t)) → (form : Form) → ¬ (Says all (Text items) line form)
+pub no_said : (all : List (List ℕ)) (items : List AsmItem) (line : List ℕ) → ((t : LineMeaning) → ¬ (IsSpelled line t)) → (form : Form) → ¬ (Says all (Text items) line form)
 no_said all items line none Head says = says.stands
 no_said all items line none (Item i) says = none (said.Item i) (says.fields, says.spelled)
 no_said all items line none (Count n) says = none (said.Count n) (says.fields, says.spelled)
 no_said all items line none (Row row) says = says.stands
 no_said all items line none (Place fix) says = says.stands
 
-pub not_said : (all : List (List ℕ)) (items : List AsmItem) (line : List ℕ) (s : Said) → ((t : Said) → IsSpelled line t → s ≡ t) → (StandsBehind all items s → ⊥) → (form : Form) → ¬ (Says all (Text items) line form)
+pub not_said : (all : List (List ℕ)) (items : List AsmItem) (line : List ℕ) (s : LineMeaning) → ((t : LineMeaning) → IsSpelled line t → s ≡ t) → (StandsBehind all items s → ⊥) → (form : Form) → ¬ (Says all (Text items) line form)
 not_said all items line s only none Head says = says.stands
 not_said all items line s only none (Item i) says = none (subst (StandsBehind all items) (sym (only (said.Item i) (says.fields, says.spelled))) says.stands)
 not_said all items line s only none (Count n) says = none (subst (StandsBehind all items) (sym (only (said.Count n) (says.fields, says.spelled))) says.stands)

@@ -1,6 +1,6 @@
 pub mod Labels
 pub mod Survey
 pub mod Reaches
-pub mod Said
+pub mod LineMeaning
 pub mod Judged
 pub mod Faults

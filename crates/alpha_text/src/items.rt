@@ -10,7 +10,7 @@ ghost use Rattle.alpha_text.specs.Wrong.{Text, Data, is_named as named_in, IsWit
 ghost use Rattle.alpha_text.specs.model.Survey.{IsSurvey};
 ghost use Rattle.alpha_text.specs.model.Labels.{IsIndex};
 ghost use Rattle.alpha_text.specs.model.Reaches.{Reaches, IsFaultFrom};
-ghost use Rattle.alpha_text.specs.model.Said as model;
+ghost use Rattle.alpha_text.specs.model.LineMeaning as model;
 
 use crate::cursor::Cursor;
 use crate::fault::{TextFault, said_or_fault};
@@ -23,7 +23,7 @@ use std::collections::HashSet;
 
 /// What a line before the data says.
 #[derive(Drop)]
-pub(crate) enum Said {
+pub(crate) enum LineMeaning {
     Item(AsmItem),
     /// How many bytes the data has.
     Count(u64),
@@ -103,27 +103,32 @@ fn has_entry(items: &[AsmItem]) -> bool
 }
 
 /// What a line before the data says, if it is in a form.
-fn read_said(alloc: Global, line: &[u8]) -> Result<Option<Said>, AllocError>
+fn read_said(alloc: Global, line: &[u8]) -> Result<Option<LineMeaning>, AllocError>
     ensures { IfOk result (λ found. model.IsSaid line.now found) }
 {
     match read_item(alloc, line)? {
-        Some(item) => Ok(Some(Said::Item(item))),
+        Some(item) => Ok(Some(LineMeaning::Item(item))),
         None => match read_data(line) {
-            Some(n) => Ok(Some(Said::Count(n))),
+            Some(n) => Ok(Some(LineMeaning::Count(n))),
             None => Ok(None),
         },
     }
 }
 
 /// Whether what a line says may stand behind the items.
-fn may_stand(items: &[AsmItem], seen: &HashSet<u32>, survey: &Survey<'_>, said: &Said) -> bool
+fn may_stand(
+    items: &[AsmItem],
+    seen: &HashSet<u32>,
+    survey: &Survey<'_>,
+    said: &LineMeaning,
+) -> bool
     requires survey { IsSurvey survey.now }
     requires seen { IsIndex seen.now (labels items.now) }
     ensures { IsTrue result ↔ model.StandsBehind (lines_of survey.now.text.now) items.now said.now }
 {
     match said {
-        Said::Item(item) => fits(seen, survey, item),
-        Said::Count(_) => has_entry(items),
+        LineMeaning::Item(item) => fits(seen, survey, item),
+        LineMeaning::Count(_) => has_entry(items),
     }
 }
 
@@ -134,7 +139,7 @@ fn next_said(
     seen: &HashSet<u32>,
     survey: &Survey<'_>,
     line: &[u8],
-) -> Result<Option<Said>, AllocError>
+) -> Result<Option<LineMeaning>, AllocError>
     requires survey { IsSurvey survey.now }
     requires seen { IsIndex seen.now (labels items.now) }
     ensures { IfOk result (λ found. model.IsNext (lines_of survey.now.text.now) items.now line.now found) }
@@ -167,8 +172,8 @@ pub(crate) fn read_items(
         let found = next_said(alloc, items.as_slice(), &seen, survey, line);
         let said = said_or_fault(found, lines.count())?;
         match said {
-            Said::Count(n) => return Ok((items, n)),
-            Said::Item(item) => {
+            LineMeaning::Count(n) => return Ok((items, n)),
+            LineMeaning::Item(item) => {
                 if add_named(&mut seen, &item).is_err() {
                     return Err(TextFault::NoMemory);
                 }

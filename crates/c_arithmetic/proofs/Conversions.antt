@@ -10,7 +10,7 @@ use lib.Dec.{T}
 use mir.Val.{bits}
 use Rattle.c_arithmetic.specs.declared.integer_type.IntegerType.{IntegerType}
 use Rattle.c_arithmetic.specs.declared.integer_type.IntegerType.TheVariants.{Char, UnsignedChar, Short, UnsignedShort, Int, UnsignedInt, Long, UnsignedLong}
-use Rattle.c_arithmetic.specs.IntegerTypes.{width, bytes, least, greatest, fits, promoted}
+use Rattle.c_arithmetic.specs.IntegerTypes.{width, bytes, least, greatest, fits, promote}
 use Rattle.c_arithmetic.specs.Words.{low_bits, value, extension, residue, word}
 use Rattle.c_arithmetic.specs.Operations.{conversion}
 use Rattle.c_arithmetic.proofs.LowBits.{low_bits-extension, extension-same}
@@ -76,15 +76,15 @@ fits-wider t u z e low high =
     (holds _ (low (le_z_yes (passes _ parts.0))).le)
     (holds _ (high (le_z_yes (passes _ parts.1))).le)
 
-fits-promoted : (t : IntegerType) (z : ℤ) → fits t z ≡ true → fits (promoted t) z ≡ true
-fits-promoted Char z e = fits-wider Char Int z e (λ l. omega (arith, ints)) (λ h. omega (arith, ints))
-fits-promoted UnsignedChar z e = fits-wider UnsignedChar Int z e (λ l. omega (arith, ints)) (λ h. omega (arith, ints))
-fits-promoted Short z e = fits-wider Short Int z e (λ l. omega (arith, ints)) (λ h. omega (arith, ints))
-fits-promoted UnsignedShort z e = fits-wider UnsignedShort Int z e (λ l. omega (arith, ints)) (λ h. omega (arith, ints))
-fits-promoted Int z e = e
-fits-promoted UnsignedInt z e = e
-fits-promoted Long z e = e
-fits-promoted UnsignedLong z e = e
+fits-promote : (t : IntegerType) (z : ℤ) → fits t z ≡ true → fits (promote t) z ≡ true
+fits-promote Char z e = fits-wider Char Int z e (λ l. omega (arith, ints)) (λ h. omega (arith, ints))
+fits-promote UnsignedChar z e = fits-wider UnsignedChar Int z e (λ l. omega (arith, ints)) (λ h. omega (arith, ints))
+fits-promote Short z e = fits-wider Short Int z e (λ l. omega (arith, ints)) (λ h. omega (arith, ints))
+fits-promote UnsignedShort z e = fits-wider UnsignedShort Int z e (λ l. omega (arith, ints)) (λ h. omega (arith, ints))
+fits-promote Int z e = e
+fits-promote UnsignedInt z e = e
+fits-promote Long z e = e
+fits-promote UnsignedLong z e = e
 
-pub value-promotion : (t : IntegerType) (n : ℕ) → value (promoted t) (conversion t (promoted t) n) ≡ value t n
-value-promotion t n = value-conversion t (promoted t) n (fits-promoted t (value t n) (fits-value t n))
+pub value-promotion : (t : IntegerType) (n : ℕ) → value (promote t) (conversion t (promote t) n) ≡ value t n
+value-promotion t n = value-conversion t (promote t) n (fits-promote t (value t n) (fits-value t n))

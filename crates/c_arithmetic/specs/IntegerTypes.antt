@@ -72,15 +72,15 @@ abbrev pub fits : IntegerType → ℤ → Bool
 fits t z = int_le (least t) z && int_le z (greatest t)
 
 -- the integer promotions (6.3.1.1): `int` has all values of the narrower types
-abbrev pub promoted : IntegerType → IntegerType
-promoted Char = Int
-promoted UnsignedChar = Int
-promoted Short = Int
-promoted UnsignedShort = Int
-promoted Int = Int
-promoted UnsignedInt = UnsignedInt
-promoted Long = Long
-promoted UnsignedLong = UnsignedLong
+abbrev pub promote : IntegerType → IntegerType
+promote Char = Int
+promote UnsignedChar = Int
+promote Short = Int
+promote UnsignedShort = Int
+promote Int = Int
+promote UnsignedInt = UnsignedInt
+promote Long = Long
+promote UnsignedLong = UnsignedLong
 
 -- of two promoted types the longer one; of two of one length the unsigned one, if either is unsigned
 abbrev pub longer : IntegerType → IntegerType → IntegerType
@@ -92,4 +92,4 @@ longer t u =
 
 -- the usual arithmetic conversions (6.3.1.8)
 abbrev pub common : IntegerType → IntegerType → IntegerType
-common t u = longer (promoted t) (promoted u)
+common t u = longer (promote t) (promote u)

@@ -1,15 +1,15 @@
 //! Conversions between integer types.
 
 ghost use Rattle.std.specs.Prelude.{◌≡◌};
-ghost use Rattle.c_arithmetic.specs.IntegerTypes.{promoted, common};
+ghost use Rattle.c_arithmetic.specs.IntegerTypes.{promote, common};
 ghost use Rattle.c_arithmetic.specs.Operations.{conversion};
 
 use crate::integer_type::IntegerType;
 
 impl IntegerType {
     /// The type after the integer promotions (C99 6.3.1.1).
-    pub fn promoted(self) -> IntegerType
-        ensures { result ≡ promoted self }
+    pub fn promote(self) -> IntegerType
+        ensures { result ≡ promote self }
     {
         match self {
             IntegerType::Char
@@ -28,7 +28,7 @@ impl IntegerType {
     pub fn common(self, other: IntegerType) -> IntegerType
         ensures { result ≡ common self other }
     {
-        match (self.promoted(), other.promoted()) {
+        match (self.promote(), other.promote()) {
             (IntegerType::UnsignedLong, _) | (_, IntegerType::UnsignedLong) =>
                 IntegerType::UnsignedLong,
             (IntegerType::Long, _) | (_, IntegerType::Long) => IntegerType::Long,

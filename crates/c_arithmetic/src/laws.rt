@@ -4,7 +4,7 @@ ghost use Rattle.std.specs.Prelude.{◌≡◌, ℕ, ℤ, ◌+◌, ◌-◌, ◌*�
 ghost use Rattle.c_arithmetic.specs.declared.integer_type.IntegerType.{IntegerType};
 ghost use Rattle.c_arithmetic.specs.declared.integer_type.IntegerType.TheVariants.{Long};
 ghost use Rattle.c_arithmetic.specs.declared.outcome.ArithmeticOutcome.TheVariants.{Word};
-ghost use Rattle.c_arithmetic.specs.IntegerTypes.{bytes, is_signed, fits, promoted};
+ghost use Rattle.c_arithmetic.specs.IntegerTypes.{bytes, is_signed, fits, promote};
 ghost use Rattle.c_arithmetic.specs.Words.{value, word, extension, is_word};
 ghost use Rattle.c_arithmetic.specs.Operations.{conversion, sum, difference, product, negation, quotient, remainder, left_shift, right_shift, conjunction, disjunction, exclusive_disjunction, is_equal, is_less};
 ghost use Rattle.c_arithmetic.specs.Outcomes.{IsWordOf};
@@ -35,7 +35,7 @@ pub fn conversions_keep()
     ensures same { (t : IntegerType) (n : ℕ) → conversion t t n ≡ extension t n }
     ensures narrower { (s t : IntegerType) (n : ℕ) → bytes t ≤ bytes s → conversion s t n ≡ extension t n }
     ensures value { (s t : IntegerType) (n : ℕ) → fits t (value s n) ≡ true → value t (conversion s t n) ≡ value s n }
-    ensures promotion { (t : IntegerType) (n : ℕ) → value (promoted t) (conversion t (promoted t) n) ≡ value t n }
+    ensures promotion { (t : IntegerType) (n : ℕ) → value (promote t) (conversion t (promote t) n) ≡ value t n }
     ensures through_wide { (s t u : IntegerType) (n : ℕ) → bytes u ≤ bytes t →
         conversion t u (conversion s t n) ≡ conversion s u n }
     ensures through_all { (s t u : IntegerType) (n : ℕ) → fits t (value s n) ≡ true →

@@ -19,9 +19,9 @@ abbrev pub fault : {A : Type 0} → ℕ → Kind → Check (Option A)
 fault at kind n = (None, with_fault at kind n)
 
 -- what a rule makes, or its fault
-abbrev pub noted : {A : Type 0} → Ruling A → Check (Option A)
-noted (Ok a) n = (Some a, n)
-noted (Err f) n = (None, with_fault f.at f.kind n)
+abbrev pub note_fault : {A : Type 0} → Ruling A → Check (Option A)
+note_fault (Ok a) n = (Some a, n)
+note_fault (Err f) n = (None, with_fault f.at f.kind n)
 
 -- ---- what is judged only where its parts are without fault
 
@@ -37,18 +37,18 @@ both (Some a) (Some b) k s = k a b s
 -- ---- lists
 
 -- one more of the parts of a list
-abbrev pub grown : {A : Type 0} → Option (List A) → Option A → Option (List A)
-grown None x = None
-grown (Some xs) None = None
-grown (Some xs) (Some x) = Some (xs ++ x ∷ [])
+abbrev pub append_part : {A : Type 0} → Option (List A) → Option A → Option (List A)
+append_part None x = None
+append_part (Some xs) None = None
+append_part (Some xs) (Some x) = Some (xs ++ x ∷ [])
 
 -- the parts of a list in their order, after those that were found
 abbrev pub walk : {A B S : Type 0} → (A → S → Option B × S) → List A → Option (List B) → S → Option (List B) × S
 walk f [] found s = (found, s)
-walk f (x ∷ xs) found s = and_then (f x s) (λ r. walk f xs (grown found r))
+walk f (x ∷ xs) found s = and_then (f x s) (λ r. walk f xs (append_part found r))
 
 -- ---- what a function of the code answers, unless memory is short
 
-abbrev pub Answers : {A S E : Type 0} → A × S → Result A E → S → Type 0
-Answers m (Ok a) new = m ≡ (a, new)
-Answers m (Err e) new = Unit {0}
+abbrev pub Finds : {A S E : Type 0} → A × S → Result A E → S → Type 0
+Finds m (Ok a) new = m ≡ (a, new)
+Finds m (Err e) new = Unit {0}

@@ -54,8 +54,8 @@ new_text bytes n = (n.first_text + length n.texts, with_taken n.addressed (n.tex
 abbrev pub apart : Notes → Notes
 apart n = with_taken [] [] n
 
-abbrev pub rejoined : List ℕ → List (List ℕ) → Notes → Notes
-rejoined addressed texts n = with_taken addressed texts n
+abbrev pub rejoin : List ℕ → List (List ℕ) → Notes → Notes
+rejoin addressed texts n = with_taken addressed texts n
 
 -- a use of what is never defined
 abbrev pub with_use : (number : ℕ) → ℕ → Notes → Notes

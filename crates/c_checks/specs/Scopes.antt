@@ -6,15 +6,15 @@ use Rattle.c_checks.specs.declared.meanings.Meaning.{Meaning}
 use Rattle.c_checks.specs.declared.env.Env.{Env}
 
 -- all names stand outside a scope that is entered
-abbrev pub entered : Env → Env
-entered env = record { names = env.names; outside = length env.names }
+abbrev pub enter : Env → Env
+enter env = record { names = env.names; outside = length env.names }
 
 abbrev pub with_name : List ℕ → Meaning → Env → Env
 with_name name meaning env = record { names = record { name = name; value = meaning } ∷ env.names; outside = env.outside }
 
 -- the names that were there when the scope was entered
-abbrev pub left : (outside : ℕ) → Env → Env
-left outside env = record { names = oldest env.outside env.names; outside = outside }
+abbrev pub leave : (outside : ℕ) → Env → Env
+leave outside env = record { names = oldest env.outside env.names; outside = outside }
 
 abbrev pub meaning_of : Env → List ℕ → Option Meaning
 meaning_of env name = option_map (λ r. r.1) (find name env.names)

@@ -19,7 +19,7 @@ pub struct Env<'a> {
 /// Opens a scope, and says how many names stood outside the one before.
 pub fn enter(env: &mut Env<'_>) -> usize
     ensures count { result ≡ env.old.outside }
-    ensures entered { env.new ≡ spec.entered env.old }
+    ensures entered { env.new ≡ spec.enter env.old }
 {
     let outside = env.outside;
     env.outside = env.names.len();
@@ -35,7 +35,7 @@ pub fn declare<'a>(env: &mut Env<'a>, name: &'a [u8], meaning: Meaning) -> Resul
 
 /// Leaves the present scope for the one around it, of which it is given how many names stand outside.
 pub fn leave(env: &mut Env<'_>, outside: usize)
-    ensures { env.new ≡ spec.left outside env.old }
+    ensures { env.new ≡ spec.leave outside env.old }
 {
     let count = env.outside;
     env.names.leave(count);

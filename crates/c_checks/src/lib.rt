@@ -11,8 +11,9 @@ mod meanings;
 mod notes;
 
 pub use env::{Env, declare, enter, leave, meaning_of, stands_here};
-pub use lists::grown;
-pub use meanings::{Meaning, Tag, Untagged, Use};
+pub use lists::append_part;
+pub use meanings::{Meaning, Tag, UntaggedStruct, Use};
 pub use notes::{
-    Notes, add_struct, add_tag, keep_apart, note, note_text, note_use, noted, rejoin, take_address,
+    Notes, add_struct, add_tag, keep_apart, note, note_fault, note_text, note_use, rejoin,
+    take_address,
 };

@@ -1,14 +1,17 @@
 //! Parts of lists.
 
 ghost use Rattle.std.specs.Prelude.{◌≡◌, IfOk};
-ghost use Rattle.c_checks.specs.Checks.{grown};
+ghost use Rattle.c_checks.specs.Checks.{append_part};
 
 use c_tree::Seq;
 use std::alloc::AllocError;
 
 /// A part more, where none is missing so far.
-pub fn grown<T: Drop>(found: Option<Seq<T>>, part: Option<T>) -> Result<Option<Seq<T>>, AllocError>
-    ensures { IfOk result (λ r. r ≡ grown found part) }
+pub fn append_part<T: Drop>(
+    found: Option<Seq<T>>,
+    part: Option<T>,
+) -> Result<Option<Seq<T>>, AllocError>
+    ensures { IfOk result (λ r. r ≡ append_part found part) }
 {
     match found {
         None => Ok(None),

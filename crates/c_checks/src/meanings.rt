@@ -50,7 +50,7 @@ pub struct Use {
 
 /// A struct without a tag, at its word.
 #[derive(Clone, Copy, Debug, PartialEq, Eq)]
-pub struct Untagged {
+pub struct UntaggedStruct {
     pub at: u32,
     /// The number of the struct.
     pub number: u32,

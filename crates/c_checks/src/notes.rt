@@ -2,10 +2,10 @@
 
 ghost use Rattle.std.specs.Prelude.{◌≡◌, ◌++◌, OnOk, OnErr};
 ghost use Rattle.c_type_rules.specs.Rulings.{Ruling, Gives};
-ghost use Rattle.c_checks.specs.Checks.{Answers, noted};
+ghost use Rattle.c_checks.specs.Checks.{Finds, note_fault};
 ghost use Rattle.c_checks.specs.Notes as spec;
 
-use crate::meanings::{Tag, Untagged, Use};
+use crate::meanings::{Tag, UntaggedStruct, Use};
 use c_scopes::Table;
 use c_tree::Seq;
 use c_type_faults::{Fault, Kind};
@@ -34,7 +34,7 @@ pub struct Notes<'a> {
     /// The tags. All are of file scope.
     pub tags: Table<'a, Tag>,
     /// The struct without a tag whose members were declared last.
-    pub untagged: Option<Untagged>,
+    pub untagged: Option<UntaggedStruct>,
 }
 
 /// Notes a fault.
@@ -45,11 +45,11 @@ pub fn note(notes: &mut Notes<'_>, at: u32, kind: Kind) -> Result<(), AllocError
 }
 
 /// Notes the fault of a rule, or gives what it makes.
-pub fn noted<T: Drop>(
+pub fn note_fault<T: Drop>(
     notes: &mut Notes<'_>,
     ruling: Result<T, Refusal>,
 ) -> Result<Option<T>, AllocError>
-    ensures { (m : Ruling T) → Gives m ruling → Answers (noted m notes.old) result notes.new }
+    ensures { (m : Ruling T) → Gives m ruling → Finds (note_fault m notes.old) result notes.new }
 {
     match ruling {
         Ok(found) => Ok(Some(found)),
@@ -82,7 +82,7 @@ pub fn note_use(notes: &mut Notes<'_>, number: u32, at: u32) -> Result<(), Alloc
 
 /// Notes a string literal that is an object, and gives its number.
 pub fn note_text(notes: &mut Notes<'_>, bytes: Seq<u8>) -> Result<u32, AllocError>
-    ensures { Answers (spec.new_text bytes notes.old) result notes.new }
+    ensures { Finds (spec.new_text bytes notes.old) result notes.new }
 {
     match u32::try_from(notes.texts.len()) {
         Err(_) => Err(AllocError),
@@ -102,7 +102,7 @@ pub fn add_struct(
     notes: &mut Notes<'_>,
     structure: StructDef,
 ) -> Result<u32, AllocError>
-    ensures { Answers (spec.new_struct structure notes.old) result notes.new }
+    ensures { Finds (spec.new_struct structure notes.old) result notes.new }
 {
     match u32::try_from(notes.structs.len()) {
         Err(_) => Err(AllocError),
@@ -134,7 +134,7 @@ pub fn keep_apart(alloc: Global, notes: &mut Notes<'_>) -> (Seq<u32>, Seq<Seq<u8
 
 /// Forgets what an operand that is not evaluated would take.
 pub fn rejoin(notes: &mut Notes<'_>, addressed: Seq<u32>, texts: Seq<Seq<u8>>)
-    ensures { notes.new ≡ spec.rejoined addressed texts notes.old }
+    ensures { notes.new ≡ spec.rejoin addressed texts notes.old }
 {
     notes.addressed = addressed;
     notes.texts = texts;

@@ -23,17 +23,17 @@ abbrev pub start_of : List StructDef → PlainType → (number : ℕ) → Option
 start_of ds ty number =
     if is_object ds ty then Some (record { global = number; size = size_of ds ty; plus = 0 }) else None
 
-abbrev pub named : List StructDef → Expr → Option Address
-named ds (Global ty number) = start_of ds ty number
-named ds _ = None
+abbrev pub object_start : List StructDef → Expr → Option Address
+object_start ds (Global ty number) = start_of ds ty number
+object_start ds _ = None
 
 -- an array stands for a pointer to its first element
 abbrev pub named_array : List StructDef → Expr → Option Address
-named_array ds x = if is_array (type_of x) then named ds x else None
+named_array ds x = if is_array (type_of x) then object_start ds x else None
 
-abbrev pub addressed : List StructDef → UnaryOp → Expr → Option Address
-addressed ds u.Address x = named ds x
-addressed ds _ x = None
+abbrev pub address_of_operand : List StructDef → UnaryOp → Expr → Option Address
+address_of_operand ds u.Address x = object_start ds x
+address_of_operand ds _ x = None
 
 -- ---- steps, by a number of elements
 
@@ -54,8 +54,8 @@ backward a bytes =
 abbrev pub goes_back : (back : Bool) → IntegerType → (word : ℕ) → Bool
 goes_back back t word = not (beq back (is_less t word 0))
 
-abbrev pub stepped : Address → (size : ℕ) → (back : Bool) → IntegerType → (word : ℕ) → Option Address
-stepped a size back t word =
+abbrev pub step_elements : Address → (size : ℕ) → (back : Bool) → IntegerType → (word : ℕ) → Option Address
+step_elements a size back t word =
     if goes_back back t word then backward a (size * magnitude t word) else forward a (size * magnitude t word)
 
 -- the size of what a pointer points to
@@ -63,15 +63,15 @@ abbrev pub target_size : List StructDef → PlainType → Option ℕ
 target_size ds (Pointer target) = if is_object ds target then Some (size_of ds target) else None
 target_size ds _ = None
 
-abbrev pub moved : Option Address → Option ℕ → (back : Bool) → Option IntegerType → Option ℕ → Option Address
-moved None size back t word = None
-moved (Some a) None back t word = None
-moved (Some a) (Some size) back None word = None
-moved (Some a) (Some size) back (Some t) None = None
-moved (Some a) (Some size) back (Some t) (Some word) = stepped a size back t word
+abbrev pub move_pointer : Option Address → Option ℕ → (back : Bool) → Option IntegerType → Option ℕ → Option Address
+move_pointer None size back t word = None
+move_pointer (Some a) None back t word = None
+move_pointer (Some a) (Some size) back None word = None
+move_pointer (Some a) (Some size) back (Some t) None = None
+move_pointer (Some a) (Some size) back (Some t) (Some word) = step_elements a size back t word
 
 abbrev pub moved_by : List StructDef → Option Address → (pointer : Expr) → (back : Bool) → (integer : Expr) → Option Address
-moved_by ds a x back y = moved a (target_size ds (type_of x)) back (integer_of (type_of y)) (constant y)
+moved_by ds a x back y = move_pointer a (target_size ds (type_of x)) back (integer_of (type_of y)) (constant y)
 
 -- `+` and `-`, which goes back
 abbrev pub direction : BinaryOp → Option Bool
@@ -87,7 +87,7 @@ moved_either ds (Some back) x y a c =
     if is_pointer (type_of x) then moved_by ds a x back y else moved_by ds c y back x
 
 abbrev pub place : List StructDef → Expr → Option Address
-place ds (Unary ty op x) = addressed ds op x
+place ds (Unary ty op x) = address_of_operand ds op x
 place ds (Convert ty x) = named_array ds x
 place ds (Binary ty op x y) = moved_either ds (direction op) x y (place ds x) (place ds y)
 place ds _ = None

@@ -9,12 +9,12 @@ use Rattle.c_arithmetic.specs.Operations.{conversion, sum, is_less, is_equal}
 use Rattle.c_typed_tree.specs.View.{expr_view}
 use Rattle.c_typed_tree.specs.Constants.{constant}
 use Rattle.c_type_faults.specs.declared.faults.Kind.TheVariants.{NotConstant}
-use Rattle.c_type_rules.specs.declared.typed.Typed.{Typed}
+use Rattle.c_type_rules.specs.declared.typed.TypedExpression.{TypedExpression}
 use Rattle.c_type_rules.specs.Rulings.{Ruling, fault}
 use Rattle.c_type_rules.specs.Values.{integer}
 
 -- the value of an integer constant, with its type
-abbrev pub value_of : Typed → Option ℕ
+abbrev pub value_of : TypedExpression → Option ℕ
 value_of a = constant (expr_view a.tree)
 
 -- ---- the length of an array (6.7.5.2), of which none below 1 is one; so one below 0 counts as 0
@@ -27,7 +27,7 @@ length_of at None word = fault at NotConstant
 length_of at (Some t) None = fault at NotConstant
 length_of at (Some t) (Some word) = Ok (natural t word)
 
-abbrev pub length : Typed → Ruling ℕ
+abbrev pub length : TypedExpression → Ruling ℕ
 length a = length_of a.at (integer a) (value_of a)
 
 -- ---- the value of an enumeration constant (6.7.2.2), which `int` has
@@ -47,7 +47,7 @@ given_of at None word = fault at NotConstant
 given_of at (Some t) None = fault at NotConstant
 given_of at (Some t) (Some word) = enumeration_value at t word
 
-abbrev pub given_value : Typed → Ruling ℕ
+abbrev pub given_value : TypedExpression → Ruling ℕ
 given_value a = given_of a.at (integer a) (value_of a)
 
 -- one without a value is 1 above the one before it
@@ -66,5 +66,5 @@ label_of t at None word = fault at NotConstant
 label_of t at (Some s) None = fault at NotConstant
 label_of t at (Some s) (Some word) = Ok (conversion s t word)
 
-abbrev pub label : IntegerType → Typed → Ruling ℕ
+abbrev pub label : IntegerType → TypedExpression → Ruling ℕ
 label t a = label_of t a.at (integer a) (value_of a)

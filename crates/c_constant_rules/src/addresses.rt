@@ -52,8 +52,8 @@ fn is_array(ty: &CType) -> bool
 
 /// The start of the object that an expression names.
 #[tactic(auto, unfolding(c_typed_tree::specs::model::View::opens))]
-fn named(structs: &[StructDef], e: &TExpr) -> Option<Address>
-    ensures { result ≡ spec.named structs.now (expr_view e.now) }
+fn object_start(structs: &[StructDef], e: &TExpr) -> Option<Address>
+    ensures { result ≡ spec.object_start structs.now (expr_view e.now) }
 {
     match e {
         TExpr::Global { ty, number } => start_of(structs, ty, *number),
@@ -79,17 +79,17 @@ fn named_array(structs: &[StructDef], e: &TExpr) -> Option<Address>
     ensures { result ≡ spec.named_array structs.now (expr_view e.now) }
 {
     if is_array(e.ty()) {
-        return named(structs, e);
+        return object_start(structs, e);
     }
     None
 }
 
 /// The operand of an operator in front, where it is `&`.
-fn addressed(structs: &[StructDef], op: UnaryOp, e: &TExpr) -> Option<Address>
-    ensures { result ≡ spec.addressed structs.now op (expr_view e.now) }
+fn address_of_operand(structs: &[StructDef], op: UnaryOp, e: &TExpr) -> Option<Address>
+    ensures { result ≡ spec.address_of_operand structs.now op (expr_view e.now) }
 {
     match op {
-        UnaryOp::Address => named(structs, e),
+        UnaryOp::Address => object_start(structs, e),
         UnaryOp::Increment => None,
         UnaryOp::Decrement => None,
         UnaryOp::Dereference => None,
@@ -147,8 +147,8 @@ fn goes_back(back: bool, t: IntegerType, word: u64) -> bool
 }
 
 /// A number of elements of a size further or back.
-fn stepped(from: Address, size: u64, back: bool, t: IntegerType, word: u64) -> Option<Address>
-    ensures { result ≡ spec.stepped from size back t word }
+fn step_elements(from: Address, size: u64, back: bool, t: IntegerType, word: u64) -> Option<Address>
+    ensures { result ≡ spec.step_elements from size back t word }
 {
     let bytes = u128::from(size) * magnitude(t, word);
     if goes_back(back, t, word) {
@@ -177,14 +177,14 @@ fn target_size(structs: &[StructDef], ty: &CType) -> Option<u64>
 }
 
 /// A pointer moved by an integer, of which the value is given where it is a constant.
-fn moved(
+fn move_pointer(
     from: Option<Address>,
     size: Option<u64>,
     back: bool,
     t: Option<IntegerType>,
     word: Option<u64>,
 ) -> Option<Address>
-    ensures { result ≡ spec.moved from size back t word }
+    ensures { result ≡ spec.move_pointer from size back t word }
 {
     match from {
         None => None,
@@ -194,7 +194,7 @@ fn moved(
                 None => None,
                 Some(t) => match word {
                     None => None,
-                    Some(word) => stepped(from, size, back, t, word),
+                    Some(word) => step_elements(from, size, back, t, word),
                 },
             },
         },
@@ -212,7 +212,7 @@ fn moved_by(
     ensures { result ≡ spec.moved_by structs.now from (expr_view pointer.now) back (expr_view integer.now) }
 {
     let size = target_size(structs, pointer.ty());
-    moved(
+    move_pointer(
         from,
         size,
         back,
@@ -254,7 +254,7 @@ fn place(structs: &[StructDef], e: &TExpr) -> Option<Address>
     ensures { result ≡ spec.place structs.now (expr_view e.now) }
 {
     match e {
-        TExpr::Unary { op, operand, .. } => addressed(structs, *op, operand),
+        TExpr::Unary { op, operand, .. } => address_of_operand(structs, *op, operand),
         TExpr::Convert { operand, .. } => named_array(structs, operand),
         TExpr::Binary {
             op,

@@ -8,7 +8,7 @@ use c_arithmetic::integer_type::IntegerType;
 use c_arithmetic::outcome::ArithmeticOutcome;
 use c_constants::constant;
 use c_type_faults::Kind;
-use c_type_rules::{Refusal, Typed, refused};
+use c_type_rules::{Refusal, TypedExpression, refuse};
 use c_typed_tree::layout::integer_of;
 
 /// A number that is 0 where it is below 0.
@@ -22,13 +22,13 @@ fn natural(t: IntegerType, word: u64) -> u64
 }
 
 /// The length of an array; 0 where it is below 0.
-pub fn length(a: &Typed) -> Result<u64, Refusal>
+pub fn length(a: &TypedExpression) -> Result<u64, Refusal>
     ensures { Gives (spec.length a.now) result }
 {
     match integer_of(&a.ty) {
-        None => Err(refused(a.at, Kind::NotConstant)),
+        None => Err(refuse(a.at, Kind::NotConstant)),
         Some(t) => match constant(&a.tree) {
-            None => Err(refused(a.at, Kind::NotConstant)),
+            None => Err(refuse(a.at, Kind::NotConstant)),
             Some(word) => Ok(natural(t, word)),
         },
     }
@@ -53,17 +53,17 @@ fn enumeration_value(at: u32, t: IntegerType, word: u64) -> Result<u64, Refusal>
     if is_kept(t, IntegerType::Int, word) {
         return Ok(t.convert(IntegerType::Int, word));
     }
-    Err(refused(at, Kind::NotConstant))
+    Err(refuse(at, Kind::NotConstant))
 }
 
 /// The value that an expression gives to an enumeration constant, as a word of the type `int`.
-pub fn given_value(a: &Typed) -> Result<u64, Refusal>
+pub fn given_value(a: &TypedExpression) -> Result<u64, Refusal>
     ensures { Gives (spec.given_value a.now) result }
 {
     match integer_of(&a.ty) {
-        None => Err(refused(a.at, Kind::NotConstant)),
+        None => Err(refuse(a.at, Kind::NotConstant)),
         Some(t) => match constant(&a.tree) {
-            None => Err(refused(a.at, Kind::NotConstant)),
+            None => Err(refuse(a.at, Kind::NotConstant)),
             Some(word) => enumeration_value(a.at, t, word),
         },
     }
@@ -75,19 +75,19 @@ pub fn next_value(at: u32, before: u64) -> Result<u64, Refusal>
 {
     match IntegerType::Int.add(before, 1) {
         ArithmeticOutcome::Word(word) => Ok(word),
-        ArithmeticOutcome::Trap(_) => Err(refused(at, Kind::NotConstant)),
-        ArithmeticOutcome::Undefined => Err(refused(at, Kind::NotConstant)),
+        ArithmeticOutcome::Trap(_) => Err(refuse(at, Kind::NotConstant)),
+        ArithmeticOutcome::Undefined => Err(refuse(at, Kind::NotConstant)),
     }
 }
 
 /// The value of a label, converted to the promoted type of the operand of its `switch`.
-pub fn label(t: IntegerType, a: &Typed) -> Result<u64, Refusal>
+pub fn label(t: IntegerType, a: &TypedExpression) -> Result<u64, Refusal>
     ensures { Gives (spec.label t a.now) result }
 {
     match integer_of(&a.ty) {
-        None => Err(refused(a.at, Kind::NotConstant)),
+        None => Err(refuse(a.at, Kind::NotConstant)),
         Some(s) => match constant(&a.tree) {
-            None => Err(refused(a.at, Kind::NotConstant)),
+            None => Err(refuse(a.at, Kind::NotConstant)),
             Some(word) => Ok(s.convert(t, word)),
         },
     }

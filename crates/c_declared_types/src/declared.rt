@@ -41,7 +41,7 @@ pub fn pointer_to(alloc: Global, target: DeclaredType) -> Result<Option<Declared
 }
 
 /// An array of a type with a length, where objects have the type of this array.
-fn sized(
+fn array_of_length(
     alloc: Global,
     structs: &[StructDef],
     element: CType,
@@ -79,7 +79,7 @@ pub fn array_of(
     match element {
         DeclaredType::Value(ty) => match length {
             None => Ok(unsized_of(structs, ty)),
-            Some(length) => sized(alloc, structs, ty, length),
+            Some(length) => array_of_length(alloc, structs, ty, length),
         },
         DeclaredType::Unsized(_) => Ok(None),
         DeclaredType::Function { .. } => Ok(None),

@@ -67,16 +67,16 @@ function_seen e f.Nothing d = d
 function_seen e (f.Init value) d = d
 function_seen e (f.Body statements) d = with_function e.name d
 
-abbrev pub seen : External → Definitions → Definitions
-seen (x.Typedef e) d = typedef_seen e d
-seen (x.Object e storage init) d = object_seen e storage init d
-seen (x.Function e storage end) d = function_seen e end d
-seen (x.Tags storage ty) d = d
+abbrev pub see : External → Definitions → Definitions
+see (x.Typedef e) d = typedef_seen e d
+see (x.Object e storage init) d = object_seen e storage init d
+see (x.Function e storage end) d = function_seen e end d
+see (x.Tags storage ty) d = d
 
 -- what a list of externals defines, besides what those before it do
 abbrev pub defined_behind : List External → Definitions → Definitions
 defined_behind [] d = d
-defined_behind (e ∷ es) d = defined_behind es (seen e d)
+defined_behind (e ∷ es) d = defined_behind es (see e d)
 
 abbrev pub definitions : List External → Definitions
 definitions es = defined_behind es nothing_defined

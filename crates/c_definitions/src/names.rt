@@ -105,7 +105,7 @@ fn see_function<'a>(
 }
 
 fn see<'a>(found: &mut Definitions<'a>, external: &'a External) -> Result<(), AllocError>
-    ensures { OnOk result (found.new ≡ spec.seen external.now found.old) }
+    ensures { OnOk result (found.new ≡ spec.see external.now found.old) }
 {
     match external {
         External::Typedef(declaration) => see_typedef(found, declaration),

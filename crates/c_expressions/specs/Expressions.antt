@@ -7,29 +7,29 @@ use Rattle.c_tree.specs.declared.types.TypeName.{TypeName}
 use Rattle.c_tree.specs.declared.expressions.Expr.TheBlock as k
 use Rattle.c_declared_types.specs.declared.declared.DeclaredType.{DeclaredType}
 use Rattle.c_typed_tree.specs.declared.types.CType.{CType}
-use Rattle.c_type_rules.specs.declared.typed.Typed.{Typed}
+use Rattle.c_type_rules.specs.declared.typed.TypedExpression.{TypedExpression}
 use Rattle.c_primary_rules.specs.Primary.{integer_constant, character_constant}
-use Rattle.c_checks.specs.Checks.{pure, and_then, each, both, noted, grown}
-use Rattle.c_checks.specs.Notes.{apart, rejoined}
-use Rattle.c_checks.specs.Scopes.{entered, left, meaning_of}
-use Rattle.c_judgements.specs.Operators.{applied, between, assignment, element, choice_of, cast, size_of_value, size_of_name, behind, commas}
+use Rattle.c_checks.specs.Checks.{pure, and_then, each, both, note_fault, append_part}
+use Rattle.c_checks.specs.Notes.{apart, rejoin}
+use Rattle.c_checks.specs.Scopes.{enter, leave, meaning_of}
+use Rattle.c_judgements.specs.Operators.{apply_prefix, between, assignment, element, choice_of, cast, size_of_value, size_of_name, behind, commas}
 use Rattle.c_judgements.specs.Texts.{string}
-use Rattle.c_judgements.specs.Names.{named}
-use Rattle.c_judgements.specs.Calls.{called}
+use Rattle.c_judgements.specs.Names.{name_of}
+use Rattle.c_judgements.specs.Calls.{call_by_meaning}
 use Rattle.c_judgements.specs.Members.{field_named, arrow_named}
 use Rattle.c_judgements.specs.Leaves.{leaf}
 use Rattle.c_judgements.specs.Types.{State, within, pointer, given_length, array, function, type_named, parameter_declared}
 
 unfoldable mutual
-  pub judge : e.Expr → State → Option Typed × State
-  judge (e.Name at name) s = within s.0 (named at (meaning_of s.0 name) s.1)
-  judge (e.Number at spelling) s = within s.0 (noted (integer_constant at spelling) s.1)
-  judge (e.Character at spelling) s = within s.0 (noted (character_constant at spelling) s.1)
+  pub judge : e.Expr → State → Option TypedExpression × State
+  judge (e.Name at name) s = within s.0 (name_of at (meaning_of s.0 name) s.1)
+  judge (e.Number at spelling) s = within s.0 (note_fault (integer_constant at spelling) s.1)
+  judge (e.Character at spelling) s = within s.0 (note_fault (character_constant at spelling) s.1)
   judge (e.Text at spellings) s = within s.0 (string at spellings s.1)
   judge (e.Call' at name _ arguments) s =
-      and_then (judge_row arguments (Some []) s) (λ vs u. within u.0 (called at (meaning_of u.0 name) vs u.1))
+      and_then (judge_row arguments (Some []) s) (λ vs u. within u.0 (call_by_meaning at (meaning_of u.0 name) vs u.1))
   judge (e.Unary' at op _ (k.more_of-Expr x k.end_of-Expr)) s =
-      and_then (judge x s) (λ a u. within u.0 (each a (applied at op) u.1))
+      and_then (judge x s) (λ a u. within u.0 (each a (apply_prefix at op) u.1))
   judge (e.Binary' at op _ (k.more_of-Expr x k.end_of-Expr) _ (k.more_of-Expr y k.end_of-Expr)) s =
       and_then (judge x s) (λ a u. and_then (judge y u) (λ b v. within v.0 (both a b (between at op) v.1)))
   judge (e.Assign' at op _ (k.more_of-Expr x k.end_of-Expr) _ (k.more_of-Expr y k.end_of-Expr)) s =
@@ -45,7 +45,7 @@ unfoldable mutual
   -- an operand that is not evaluated takes no memory
   judge (e.SizeOfValue' at _ (k.more_of-Expr x k.end_of-Expr)) s =
       and_then (judge x (s.0, apart s.1)) (λ a u.
-      within u.0 (each a (size_of_value at) (rejoined s.1.addressed s.1.texts u.1)))
+      within u.0 (each a (size_of_value at) (rejoin s.1.addressed s.1.texts u.1)))
   judge (e.SizeOfType' at _ (k.more_of-TypeName place ty k.end_of-TypeName)) s =
       and_then (and_then (within s.0 (leaf s.0 place ty s.1)) (λ of u. and_then (derive place ty of u) (λ r v.
       within v.0 (each r (type_named place) v.1)))) (λ ty w. within w.0 (each ty (size_of_name at) w.1))
@@ -59,9 +59,9 @@ unfoldable mutual
       and_then (judge x s) (λ a u. within u.0 (each a (behind at op) u.1))
   judge (e.Comma' at _ operands) s = and_then (judge_row operands (Some []) s) (λ vs. pure (commas at vs))
 
-  pub judge_row : {m : _} → k.Row_of-Expr m → Option (List Typed) → State → Option (List Typed) × State
+  pub judge_row : {m : _} → k.Row_of-Expr m → Option (List TypedExpression) → State → Option (List TypedExpression) × State
   judge_row k.end_of-Expr found s = (found, s)
-  judge_row (k.more_of-Expr x xs) found s = and_then (judge x s) (λ r. judge_row xs (grown found r))
+  judge_row (k.more_of-Expr x xs) found s = and_then (judge x s) (λ r. judge_row xs (append_part found r))
 
   -- what a declarator makes of the type that its specifier gives. The parts that stand first in the text are the outer
   -- ones: lengths and lists of parameters go before what they are of
@@ -76,8 +76,8 @@ unfoldable mutual
       and_then (length_held length s) (λ count u. and_then (derive at x of u) (λ ty v.
       within v.0 (both count ty (array at) v.1)))
   derive at (t.Takes' _ (k.more_of-TypeNode x k.end_of-TypeNode) _ list) of s =
-      and_then (parameter_row list (Some []) (entered s.0, s.1)) (λ found u.
-      and_then (derive at x of (left s.0.outside u.0, u.1)) (λ ty v. within v.0 (both found ty (function at) v.1)))
+      and_then (parameter_row list (Some []) (enter s.0, s.1)) (λ found u.
+      and_then (derive at x of (leave s.0.outside u.0, u.1)) (λ ty v. within v.0 (both found ty (function at) v.1)))
 
   pub length_held : k.Held-TypeNode-Array-1 → State → Option (Option ℕ) × State
   length_held k.TypeNode-Array-1-None' s = (Some None, s)
@@ -89,7 +89,7 @@ unfoldable mutual
   parameter_row k.end_of-Parameter found s = (found, s)
   parameter_row (k.more_of-Parameter at name ty rest) found s =
       and_then (and_then (within s.0 (leaf s.0 at ty s.1)) (λ of u. and_then (derive at ty of u) (λ r.
-      parameter_declared at name r))) (λ r. parameter_row rest (grown found r))
+      parameter_declared at name r))) (λ r. parameter_row rest (append_part found r))
 
 -- a type name: the type of its specifier, and what its declarator makes of it
 abbrev pub type_name : TypeName → State → Option DeclaredType × State

@@ -1,16 +1,16 @@
 //! The walk over expressions and type names.
 
 ghost use Rattle.std.specs.Prelude.{Some, []};
-ghost use Rattle.c_checks.specs.Checks.{Answers, walk};
+ghost use Rattle.c_checks.specs.Checks.{Finds, walk};
 ghost use Rattle.c_expressions.specs.Expressions as spec;
 ghost use Rattle.c_expressions.specs.model.Parts as model;
 
-use c_checks::{Env, Notes, enter, grown, keep_apart, leave, meaning_of, rejoin};
+use c_checks::{Env, Notes, append_part, enter, keep_apart, leave, meaning_of, rejoin};
 use c_declared_types::DeclaredType;
-use c_judgements::calls::called;
+use c_judgements::calls::call_by_meaning;
 use c_judgements::leaves::leaf;
 use c_judgements::members::{arrow_of, field_of};
-use c_judgements::names::named;
+use c_judgements::names::name_of;
 use c_judgements::operators::{
     assignment, behind, between, cast, choice, commas, element, in_front, size_of_name,
     size_of_value,
@@ -18,7 +18,7 @@ use c_judgements::operators::{
 use c_judgements::texts::{character, integer, string};
 use c_judgements::types::{array, function, given_length, parameter_declared, pointer, type_named};
 use c_tree::{Box, Expr, Parameter, Seq, TypeName, TypeNode};
-use c_type_rules::Typed;
+use c_type_rules::TypedExpression;
 use c_typed_tree::CType;
 use std::alloc::{AllocError, Global};
 
@@ -30,11 +30,11 @@ pub fn judge<'a>(
     e: &'a Expr,
     env: &mut Env<'a>,
     notes: &mut Notes<'a>,
-) -> Result<Option<Typed>, AllocError>
-    ensures { Answers (spec.judge e.now (env.old, notes.old)) result (env.new, notes.new) }
+) -> Result<Option<TypedExpression>, AllocError>
+    ensures { Finds (spec.judge e.now (env.old, notes.old)) result (env.new, notes.new) }
 {
     match e {
-        Expr::Name { at, name } => named(alloc, notes, *at, meaning_of(env, name.as_slice())),
+        Expr::Name { at, name } => name_of(alloc, notes, *at, meaning_of(env, name.as_slice())),
         Expr::Number { at, spelling } => integer(alloc, notes, *at, spelling.as_slice()),
         Expr::Character { at, spelling } => character(alloc, notes, *at, spelling.as_slice()),
         Expr::Text { at, spellings } => string(alloc, notes, *at, spellings.as_slice()),
@@ -45,7 +45,7 @@ pub fn judge<'a>(
         } => {
             let found = judges(alloc, arguments.as_slice(), env, notes)?;
             let meaning = meaning_of(env, name.as_slice());
-            called(alloc, notes, *at, meaning, found)
+            call_by_meaning(alloc, notes, *at, meaning, found)
         }
         Expr::Unary { at, op, operand } => {
             let a = judge(alloc, operand, env, notes)?;
@@ -128,13 +128,13 @@ pub fn judges<'a>(
     list: &'a [Expr],
     env: &mut Env<'a>,
     notes: &mut Notes<'a>,
-) -> Result<Option<Seq<Typed>>, AllocError>
-    ensures { Answers (walk spec.judge list.now (Some []) (env.old, notes.old)) result (env.new, notes.new) }
+) -> Result<Option<Seq<TypedExpression>>, AllocError>
+    ensures { Finds (walk spec.judge list.now (Some []) (env.old, notes.old)) result (env.new, notes.new) }
 {
     let mut found = Some(Seq::new(alloc));
     for e in list {
         let part = judge(alloc, e, env, notes)?;
-        found = grown(found, part)?;
+        found = append_part(found, part)?;
     }
     Ok(found)
 }
@@ -147,7 +147,7 @@ fn optional_length<'a>(
     env: &mut Env<'a>,
     notes: &mut Notes<'a>,
 ) -> Result<Option<Option<u64>>, AllocError>
-    ensures { Answers (model.optional_length length.now (env.old, notes.old)) result (env.new, notes.new) }
+    ensures { Finds (model.optional_length length.now (env.old, notes.old)) result (env.new, notes.new) }
 {
     match length {
         None => Ok(Some(None)),
@@ -166,7 +166,7 @@ fn one_parameter<'a>(
     env: &mut Env<'a>,
     notes: &mut Notes<'a>,
 ) -> Result<Option<CType>, AllocError>
-    ensures { Answers (model.one_parameter p.now (env.old, notes.old)) result (env.new, notes.new) }
+    ensures { Finds (model.one_parameter p.now (env.old, notes.old)) result (env.new, notes.new) }
 {
     let of = leaf(alloc, &p.ty, env, notes, p.at)?;
     let ty = derive(alloc, &p.ty, env, notes, p.at, of)?;
@@ -181,12 +181,12 @@ fn parameters<'a>(
     env: &mut Env<'a>,
     notes: &mut Notes<'a>,
 ) -> Result<Option<Seq<CType>>, AllocError>
-    ensures { Answers (walk model.one_parameter list.now (Some []) (env.old, notes.old)) result (env.new, notes.new) }
+    ensures { Finds (walk model.one_parameter list.now (Some []) (env.old, notes.old)) result (env.new, notes.new) }
 {
     let mut found = Some(Seq::new(alloc));
     for p in list {
         let part = one_parameter(alloc, p, env, notes)?;
-        found = grown(found, part)?;
+        found = append_part(found, part)?;
     }
     Ok(found)
 }
@@ -202,7 +202,7 @@ pub fn derive<'a>(
     at: u32,
     of: Option<DeclaredType>,
 ) -> Result<Option<DeclaredType>, AllocError>
-    ensures { Answers (spec.derive at node.now of (env.old, notes.old)) result (env.new, notes.new) }
+    ensures { Finds (spec.derive at node.now of (env.old, notes.old)) result (env.new, notes.new) }
 {
     match node {
         TypeNode::Basic(_) => Ok(of),
@@ -239,7 +239,7 @@ pub fn type_name<'a>(
     env: &mut Env<'a>,
     notes: &mut Notes<'a>,
 ) -> Result<Option<DeclaredType>, AllocError>
-    ensures { Answers (spec.type_name name.now (env.old, notes.old)) result (env.new, notes.new) }
+    ensures { Finds (spec.type_name name.now (env.old, notes.old)) result (env.new, notes.new) }
 {
     let of = leaf(alloc, &name.ty, env, notes, name.at)?;
     let ty = derive(alloc, &name.ty, env, notes, name.at, of)?;

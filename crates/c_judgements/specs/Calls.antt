@@ -5,41 +5,41 @@ use Rattle.c_typed_tree.specs.declared.types.CType.{CType}
 use Rattle.c_typed_tree.specs.declared.expressions.Callee.{Callee}
 use Rattle.c_typed_tree.specs.declared.expressions.TExpr.{TExpr}
 use Rattle.c_type_faults.specs.declared.faults.Kind.TheVariants.{UnknownName, NotFunction}
-use Rattle.c_type_rules.specs.declared.typed.Typed.{Typed}
-use Rattle.c_primary_rules.specs.Calls.{counted, call}
-use Rattle.c_operators.specs.Null.{taken}
+use Rattle.c_type_rules.specs.declared.typed.TypedExpression.{TypedExpression}
+use Rattle.c_primary_rules.specs.Calls.{count_arguments, call}
+use Rattle.c_operators.specs.Null.{take_value}
 use Rattle.c_checks.specs.declared.meanings.Meaning.{Meaning}
 use Rattle.c_checks.specs.declared.meanings.Meaning.TheVariants as m
-use Rattle.c_checks.specs.Checks.{Check, pure, and_then, each, noted, grown}
-use Rattle.c_judgements.specs.Names.{faulty, used}
+use Rattle.c_checks.specs.Checks.{Check, pure, and_then, each, note_fault, append_part}
+use Rattle.c_judgements.specs.Names.{faulty, use_of_undefined}
 
 -- each argument is converted to the type of its parameter
-abbrev pub argument : CType → Typed → Check (Option TExpr)
-argument ty a n = noted (taken ty a) n
+abbrev pub argument : CType → TypedExpression → Check (Option TExpr)
+argument ty a n = note_fault (take_value ty a) n
 
-abbrev pub passed : (parameters : List CType) → List Typed → Option (List TExpr) → Check (Option (List TExpr))
-passed [] args found n = (found, n)
-passed (ty ∷ tys) [] found n = (found, n)
-passed (ty ∷ tys) (a ∷ args) found n = and_then (argument ty a n) (λ r. passed tys args (grown found r))
+abbrev pub convert_arguments : (parameters : List CType) → List TypedExpression → Option (List TExpr) → Check (Option (List TExpr))
+convert_arguments [] args found n = (found, n)
+convert_arguments (ty ∷ tys) [] found n = (found, n)
+convert_arguments (ty ∷ tys) (a ∷ args) found n = and_then (argument ty a n) (λ r. convert_arguments tys args (append_part found r))
 
-abbrev pub call_with : ℕ → Callee → (result : CType) → Option (List TExpr) → Option Typed
+abbrev pub call_with : ℕ → Callee → (result : CType) → Option (List TExpr) → Option TypedExpression
 call_with at callee ty arguments = option_map (call at callee ty) arguments
 
-abbrev pub call_passing : ℕ → Callee → (result : CType) → (parameters : List CType) → List Typed → Check (Option Typed)
+abbrev pub call_passing : ℕ → Callee → (result : CType) → (parameters : List CType) → List TypedExpression → Check (Option TypedExpression)
 call_passing at callee ty parameters args n =
-    and_then (passed parameters args (Some []) n) (λ r. pure (call_with at callee ty r))
+    and_then (convert_arguments parameters args (Some []) n) (λ r. pure (call_with at callee ty r))
 
-abbrev pub call_of : ℕ → Callee → (result : CType) → (parameters : List CType) → List Typed → Check (Option Typed)
+abbrev pub call_of : ℕ → Callee → (result : CType) → (parameters : List CType) → List TypedExpression → Check (Option TypedExpression)
 call_of at callee ty parameters args n =
-    and_then (noted (counted at parameters args) n) (λ r. each r (call_passing at callee ty parameters))
+    and_then (note_fault (count_arguments at parameters args) n) (λ r. each r (call_passing at callee ty parameters))
 
 -- a call of what a name means
-abbrev pub called : ℕ → Option Meaning → Option (List Typed) → Check (Option Typed)
-called at None args n = faulty at UnknownName n
-called at (Some m.Faulty) args n = (None, n)
-called at (Some (m.Undefined number)) args n = used at number n
-called at (Some (m.Local number ty)) args n = faulty at NotFunction n
-called at (Some (m.Object number ty)) args n = faulty at NotFunction n
-called at (Some (m.Constant word)) args n = faulty at NotFunction n
-called at (Some (m.Function callee result parameters)) args n = each args (call_of at callee result parameters) n
-called at (Some (m.Typedef ty)) args n = faulty at NotFunction n
+abbrev pub call_by_meaning : ℕ → Option Meaning → Option (List TypedExpression) → Check (Option TypedExpression)
+call_by_meaning at None args n = faulty at UnknownName n
+call_by_meaning at (Some m.Faulty) args n = (None, n)
+call_by_meaning at (Some (m.Undefined number)) args n = use_of_undefined at number n
+call_by_meaning at (Some (m.Local number ty)) args n = faulty at NotFunction n
+call_by_meaning at (Some (m.Object number ty)) args n = faulty at NotFunction n
+call_by_meaning at (Some (m.Constant word)) args n = faulty at NotFunction n
+call_by_meaning at (Some (m.Function callee result parameters)) args n = each args (call_of at callee result parameters) n
+call_by_meaning at (Some (m.Typedef ty)) args n = faulty at NotFunction n

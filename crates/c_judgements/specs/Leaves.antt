@@ -19,7 +19,7 @@ use Rattle.c_checks.specs.declared.meanings.Meaning.{Meaning}
 use Rattle.c_checks.specs.declared.meanings.Meaning.TheVariants as m
 use Rattle.c_checks.specs.declared.meanings.Tag.{Tag}
 use Rattle.c_checks.specs.declared.meanings.Tag.TheVariants as g
-use Rattle.c_checks.specs.declared.meanings.Untagged.{Untagged}
+use Rattle.c_checks.specs.declared.meanings.UntaggedStruct.{UntaggedStruct}
 use Rattle.c_checks.specs.Checks.{Check, and_then, fault}
 use Rattle.c_checks.specs.Notes.{with_tag, new_struct}
 use Rattle.c_checks.specs.Scopes.{meaning_of}
@@ -93,7 +93,7 @@ abbrev pub tagged_struct : ℕ → List ℕ → Check (Option DeclaredType)
 tagged_struct at name n = struct_tagged at name (tag_named (find name n.tags)) n
 
 -- a struct without a tag is the one whose body stands at this place, in the same declaration
-abbrev pub struct_at : ℕ → Option Untagged → Check (Option DeclaredType)
+abbrev pub struct_at : ℕ → Option UntaggedStruct → Check (Option DeclaredType)
 struct_at at None n = no_type at BadType n
 struct_at at (Some last) n = if last.at == at then (struct_numbered last.number, n) else no_type at BadType n
 

@@ -6,12 +6,12 @@ use Rattle.c_typed_tree.specs.declared.types.Member.{Member}
 use Rattle.c_typed_tree.specs.Types.{PlainType, Pointer, Struct}
 use Rattle.c_typed_tree.specs.Layout.{struct_member}
 use Rattle.c_typed_tree.specs.View.{type_view}
-use Rattle.c_type_rules.specs.declared.typed.Typed.{Typed}
-use Rattle.c_type_rules.specs.Conversions.{decayed}
+use Rattle.c_type_rules.specs.declared.typed.TypedExpression.{TypedExpression}
+use Rattle.c_type_rules.specs.Conversions.{decay}
 use Rattle.c_place_rules.specs.declared.members.FoundMember.{FoundMember}
 use Rattle.c_place_rules.specs.Members.{field, arrow}
 use Rattle.c_checks.specs.declared.notes.Notes.{Notes}
-use Rattle.c_checks.specs.Checks.{Check, noted}
+use Rattle.c_checks.specs.Checks.{Check, note_fault}
 use Rattle.c_judgements.specs.declared.members.MemberMeaning.{MemberMeaning}
 use Rattle.c_judgements.specs.declared.members.MemberMeaning.TheVariants as m
 
@@ -27,9 +27,9 @@ target_number _ = None
 
 -- ---- what the name of a member means in a struct
 
-abbrev pub numbered : (number : ℕ) → Option Member → MemberMeaning
-numbered number None = m.Nothing
-numbered number (Some x) = m.Member (record { number = number; ty = x.ty })
+abbrev pub member_at : (number : ℕ) → Option Member → MemberMeaning
+member_at number None = m.Nothing
+member_at number (Some x) = m.Member (record { number = number; ty = x.ty })
 
 -- the number of the member, if its declaration has no fault
 abbrev pub declared_number : List ℕ → List (Entry (Option ℕ)) → Option (Option ℕ)
@@ -41,7 +41,7 @@ number_in name members = option_and_then (declared_number name) members
 abbrev pub meaning_in : Notes → (structure : ℕ) → Option (Option ℕ) → MemberMeaning
 meaning_in n structure None = m.Nothing
 meaning_in n structure (Some None) = m.Faulty
-meaning_in n structure (Some (Some number)) = numbered number (struct_member (slice_get n.structs structure) number)
+meaning_in n structure (Some (Some number)) = member_at number (struct_member (slice_get n.structs structure) number)
 
 abbrev pub member_of : Notes → (structure : Option ℕ) → List ℕ → MemberMeaning
 member_of n None name = m.Nothing
@@ -49,21 +49,21 @@ member_of n (Some structure) name = meaning_in n structure (number_in name (slic
 
 -- ---- `.` and `->`
 
-abbrev pub field_in : ℕ → Typed → MemberMeaning → Check (Option Typed)
-field_in at a m.Nothing n = noted (field at a None) n
+abbrev pub field_in : ℕ → TypedExpression → MemberMeaning → Check (Option TypedExpression)
+field_in at a m.Nothing n = note_fault (field at a None) n
 field_in at a m.Faulty n = (None, n)
-field_in at a (m.Member found) n = noted (field at a (Some found)) n
+field_in at a (m.Member found) n = note_fault (field at a (Some found)) n
 
-abbrev pub field_named : ℕ → List ℕ → Typed → Check (Option Typed)
+abbrev pub field_named : ℕ → List ℕ → TypedExpression → Check (Option TypedExpression)
 field_named at name a n = field_in at a (member_of n (struct_number (type_view a.ty)) name) n
 
-abbrev pub arrow_in : ℕ → Typed → MemberMeaning → Check (Option Typed)
-arrow_in at a m.Nothing n = noted (arrow n.structs at a None) n
+abbrev pub arrow_in : ℕ → TypedExpression → MemberMeaning → Check (Option TypedExpression)
+arrow_in at a m.Nothing n = note_fault (arrow n.structs at a None) n
 arrow_in at a m.Faulty n = (None, n)
-arrow_in at a (m.Member found) n = noted (arrow n.structs at a (Some found)) n
+arrow_in at a (m.Member found) n = note_fault (arrow n.structs at a (Some found)) n
 
-abbrev pub arrow_value : ℕ → List ℕ → Typed → Check (Option Typed)
+abbrev pub arrow_value : ℕ → List ℕ → TypedExpression → Check (Option TypedExpression)
 arrow_value at name a n = arrow_in at a (member_of n (target_number (type_view a.ty)) name) n
 
-abbrev pub arrow_named : ℕ → List ℕ → Typed → Check (Option Typed)
-arrow_named at name a = arrow_value at name (decayed a)
+abbrev pub arrow_named : ℕ → List ℕ → TypedExpression → Check (Option TypedExpression)
+arrow_named at name a = arrow_value at name (decay a)

@@ -3,26 +3,26 @@
 use Rattle.std.specs.Prelude.{ℕ, Option, Some, None}
 use Rattle.c_type_faults.specs.declared.faults.Kind.{Kind}
 use Rattle.c_type_faults.specs.declared.faults.Kind.TheVariants.{UnknownName, BadOperand}
-use Rattle.c_type_rules.specs.declared.typed.Typed.{Typed}
+use Rattle.c_type_rules.specs.declared.typed.TypedExpression.{TypedExpression}
 use Rattle.c_primary_rules.specs.Primary.{local, object, enumeration_constant}
 use Rattle.c_checks.specs.declared.meanings.Meaning.{Meaning}
 use Rattle.c_checks.specs.declared.meanings.Meaning.TheVariants as m
 use Rattle.c_checks.specs.Checks.{Check, fault}
 use Rattle.c_checks.specs.Notes.{with_use}
 
-abbrev pub faulty : ℕ → Kind → Check (Option Typed)
+abbrev pub faulty : ℕ → Kind → Check (Option TypedExpression)
 faulty at kind = fault at kind
 
-abbrev pub used : ℕ → (number : ℕ) → Check (Option Typed)
-used at number n = (None, with_use number at n)
+abbrev pub use_of_undefined : ℕ → (number : ℕ) → Check (Option TypedExpression)
+use_of_undefined at number n = (None, with_use number at n)
 
 -- a function's name is called, and no operand
-abbrev pub named : ℕ → Option Meaning → Check (Option Typed)
-named at None n = faulty at UnknownName n
-named at (Some m.Faulty) n = (None, n)
-named at (Some (m.Undefined number)) n = used at number n
-named at (Some (m.Local number ty)) n = (Some (local at number ty), n)
-named at (Some (m.Object number ty)) n = (Some (object at number ty), n)
-named at (Some (m.Constant word)) n = (Some (enumeration_constant at word), n)
-named at (Some (m.Function callee result parameters)) n = faulty at BadOperand n
-named at (Some (m.Typedef ty)) n = faulty at BadOperand n
+abbrev pub name_of : ℕ → Option Meaning → Check (Option TypedExpression)
+name_of at None n = faulty at UnknownName n
+name_of at (Some m.Faulty) n = (None, n)
+name_of at (Some (m.Undefined number)) n = use_of_undefined at number n
+name_of at (Some (m.Local number ty)) n = (Some (local at number ty), n)
+name_of at (Some (m.Object number ty)) n = (Some (object at number ty), n)
+name_of at (Some (m.Constant word)) n = (Some (enumeration_constant at word), n)
+name_of at (Some (m.Function callee result parameters)) n = faulty at BadOperand n
+name_of at (Some (m.Typedef ty)) n = faulty at BadOperand n

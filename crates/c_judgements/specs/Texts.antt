@@ -3,7 +3,7 @@
 use Rattle.std.specs.Prelude.{ℕ, List, [], ◌∷◌, ◌++◌, length, Option, Some}
 use Rattle.c_literals.specs.Texts.{text_bytes}
 use Rattle.c_primary_rules.specs.Primary.{text}
-use Rattle.c_type_rules.specs.declared.typed.Typed.{Typed}
+use Rattle.c_type_rules.specs.declared.typed.TypedExpression.{TypedExpression}
 use Rattle.c_checks.specs.Checks.{Check, and_then, pure}
 use Rattle.c_checks.specs.Notes.{new_text}
 
@@ -14,6 +14,6 @@ joined (s ∷ ss) = text_bytes s ++ joined ss
 abbrev pub bytes_of : (spellings : List (List ℕ)) → List ℕ
 bytes_of spellings = joined spellings ++ 0 ∷ []
 
-abbrev pub string : ℕ → (spellings : List (List ℕ)) → Check (Option Typed)
+abbrev pub string : ℕ → (spellings : List (List ℕ)) → Check (Option TypedExpression)
 string at spellings n =
     and_then (new_text (bytes_of spellings) n) (λ number. pure (Some (text at number (length (bytes_of spellings)))))

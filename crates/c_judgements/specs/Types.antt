@@ -10,13 +10,13 @@ use Rattle.c_typed_tree.specs.Typing.{most_depth}
 use Rattle.c_typed_tree.specs.declared.types.CType.{CType}
 use Rattle.c_type_faults.specs.declared.faults.Kind.{Kind}
 use Rattle.c_type_faults.specs.declared.faults.Kind.TheVariants.{Redeclared, BadType}
-use Rattle.c_type_rules.specs.declared.typed.Typed.{Typed}
+use Rattle.c_type_rules.specs.declared.typed.TypedExpression.{TypedExpression}
 use Rattle.c_constant_rules.specs.Values.{length}
 use Rattle.c_checks.specs.declared.env.Env.{Env}
 use Rattle.c_checks.specs.declared.meanings.Meaning.{Meaning}
 use Rattle.c_checks.specs.declared.meanings.Meaning.TheVariants as m
 use Rattle.c_checks.specs.declared.notes.Notes.{Notes}
-use Rattle.c_checks.specs.Checks.{Check, pure, and_then, each, fault, noted}
+use Rattle.c_checks.specs.Checks.{Check, pure, and_then, each, fault, note_fault}
 use Rattle.c_checks.specs.Scopes.{with_name, stands_here}
 use Rattle.c_judgements.specs.Leaves.{no_type}
 
@@ -36,8 +36,8 @@ there at (Some ty) n = (Some ty, n)
 abbrev pub pointer : ℕ → DeclaredType → Check (Option DeclaredType)
 pointer at target n = there at (pointer_to target) n
 
-abbrev pub given_length : Typed → Check (Option (Option ℕ))
-given_length a n = and_then (noted (length a) n) (λ r. pure (option_map Some r))
+abbrev pub given_length : TypedExpression → Check (Option (Option ℕ))
+given_length a n = and_then (note_fault (length a) n) (λ r. pure (option_map Some r))
 
 abbrev pub array : ℕ → (length : Option ℕ) → DeclaredType → Check (Option DeclaredType)
 array at count element n = there at (array_of n.structs element count) n

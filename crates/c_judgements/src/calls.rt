@@ -2,20 +2,20 @@
 
 ghost use Rattle.std.specs.Prelude.{◌≡◌, Some, [], IfOk};
 ghost use Rattle.std.specs.Option.{option_copied};
-ghost use Rattle.c_checks.specs.Checks.{Answers, each};
+ghost use Rattle.c_checks.specs.Checks.{Finds, each};
 ghost use Rattle.c_judgements.specs.Calls as spec;
 
-use crate::names::{faulty, used};
-use c_checks::{Meaning, Notes, grown, noted};
-use c_operators::taken;
-use c_primary_rules::calls::{call, counted};
+use crate::names::{faulty, use_of_undefined};
+use c_checks::{Meaning, Notes, append_part, note_fault};
+use c_operators::take_value;
+use c_primary_rules::calls::{call, count_arguments};
 use c_tree::{Box, Seq};
 use c_type_faults::Kind;
-use c_type_rules::Typed;
+use c_type_rules::TypedExpression;
 use c_typed_tree::{CType, Callee, TExpr};
 use std::alloc::{AllocError, Global};
 
-fn unboxed(part: Option<Box<TExpr>>) -> Option<TExpr>
+fn unbox(part: Option<Box<TExpr>>) -> Option<TExpr>
     ensures { result ≡ part }
 {
     match part {
@@ -29,23 +29,23 @@ fn argument(
     alloc: Global,
     notes: &mut Notes<'_>,
     parameter: &CType,
-    a: Typed,
+    a: TypedExpression,
 ) -> Result<Option<TExpr>, AllocError>
-    ensures { Answers (spec.argument parameter.now a notes.old) result notes.new }
+    ensures { Finds (spec.argument parameter.now a notes.old) result notes.new }
 {
-    let ruling = taken(alloc, parameter, a);
-    let part = noted(notes, ruling)?;
-    Ok(unboxed(part))
+    let ruling = take_value(alloc, parameter, a);
+    let part = note_fault(notes, ruling)?;
+    Ok(unbox(part))
 }
 
 /// The arguments, converted to the types of the parameters.
-fn passed(
+fn convert_arguments(
     alloc: Global,
     notes: &mut Notes<'_>,
     parameters: &[CType],
-    arguments: Seq<Typed>,
+    arguments: Seq<TypedExpression>,
 ) -> Result<Option<Seq<TExpr>>, AllocError>
-    ensures { Answers (spec.passed parameters.now arguments (Some []) notes.old) result notes.new }
+    ensures { Finds (spec.convert_arguments parameters.now arguments (Some []) notes.old) result notes.new }
 {
     let mut found = Some(Seq::new(alloc));
     let mut rest = Seq::into_vec(arguments).into_iter();
@@ -54,7 +54,7 @@ fn passed(
             None => return Ok(found),
             Some(a) => {
                 let part = argument(alloc, notes, parameter, a)?;
-                found = grown(found, part)?;
+                found = append_part(found, part)?;
             }
         }
     }
@@ -68,7 +68,7 @@ fn call_with(
     callee: Callee,
     of: &CType,
     arguments: Option<Seq<TExpr>>,
-) -> Result<Option<Typed>, AllocError>
+) -> Result<Option<TypedExpression>, AllocError>
     ensures { IfOk result (λ r. r ≡ spec.call_with at callee of.now arguments) }
 {
     match arguments {
@@ -85,11 +85,11 @@ fn call_passing(
     callee: Callee,
     of: &CType,
     parameters: &[CType],
-    arguments: Seq<Typed>,
-) -> Result<Option<Typed>, AllocError>
-    ensures { Answers (spec.call_passing at callee of.now parameters.now arguments notes.old) result notes.new }
+    arguments: Seq<TypedExpression>,
+) -> Result<Option<TypedExpression>, AllocError>
+    ensures { Finds (spec.call_passing at callee of.now parameters.now arguments notes.old) result notes.new }
 {
-    let found = passed(alloc, notes, parameters, arguments)?;
+    let found = convert_arguments(alloc, notes, parameters, arguments)?;
     call_with(alloc, at, callee, of, found)
 }
 
@@ -101,12 +101,12 @@ fn call_of(
     callee: Callee,
     of: &CType,
     parameters: &[CType],
-    arguments: Seq<Typed>,
-) -> Result<Option<Typed>, AllocError>
-    ensures { Answers (spec.call_of at callee of.now parameters.now arguments notes.old) result notes.new }
+    arguments: Seq<TypedExpression>,
+) -> Result<Option<TypedExpression>, AllocError>
+    ensures { Finds (spec.call_of at callee of.now parameters.now arguments notes.old) result notes.new }
 {
-    let ruling = counted(at, parameters, arguments);
-    match noted(notes, ruling)? {
+    let ruling = count_arguments(at, parameters, arguments);
+    match note_fault(notes, ruling)? {
         None => Ok(None),
         Some(arguments) => call_passing(alloc, notes, at, callee, of, parameters, arguments),
     }
@@ -120,9 +120,9 @@ fn call_where(
     callee: Callee,
     of: &CType,
     parameters: &[CType],
-    arguments: Option<Seq<Typed>>,
-) -> Result<Option<Typed>, AllocError>
-    ensures { Answers (each arguments (spec.call_of at callee of.now parameters.now) notes.old) result notes.new }
+    arguments: Option<Seq<TypedExpression>>,
+) -> Result<Option<TypedExpression>, AllocError>
+    ensures { Finds (each arguments (spec.call_of at callee of.now parameters.now) notes.old) result notes.new }
 {
     match arguments {
         None => Ok(None),
@@ -131,20 +131,20 @@ fn call_where(
 }
 
 /// A call of what a name means.
-pub fn called(
+pub fn call_by_meaning(
     alloc: Global,
     notes: &mut Notes<'_>,
     at: u32,
     meaning: Option<&Meaning>,
-    arguments: Option<Seq<Typed>>,
-) -> Result<Option<Typed>, AllocError>
-    ensures { Answers (spec.called at (option_copied meaning.entry) arguments notes.old) result notes.new }
+    arguments: Option<Seq<TypedExpression>>,
+) -> Result<Option<TypedExpression>, AllocError>
+    ensures { Finds (spec.call_by_meaning at (option_copied meaning.entry) arguments notes.old) result notes.new }
 {
     match meaning {
         None => faulty(notes, at, Kind::UnknownName),
         Some(meaning) => match meaning {
             Meaning::Faulty => Ok(None),
-            Meaning::Undefined(number) => used(notes, at, *number),
+            Meaning::Undefined(number) => use_of_undefined(notes, at, *number),
             Meaning::Local { .. } => faulty(notes, at, Kind::NotFunction),
             Meaning::Object { .. } => faulty(notes, at, Kind::NotFunction),
             Meaning::Constant(_) => faulty(notes, at, Kind::NotFunction),

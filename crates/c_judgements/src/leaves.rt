@@ -3,7 +3,7 @@
 ghost use Rattle.std.specs.Prelude.{◌≡◌, IfOk};
 ghost use Rattle.std.specs.Option.{option_copied};
 ghost use Rattle.c_scopes.specs.Names.{find};
-ghost use Rattle.c_checks.specs.Checks.{Answers};
+ghost use Rattle.c_checks.specs.Checks.{Finds};
 ghost use Rattle.c_checks.specs.Notes.{with_tag};
 ghost use Rattle.c_judgements.specs.Leaves as spec;
 
@@ -42,7 +42,7 @@ pub(crate) fn no_type(
     at: u32,
     kind: Kind,
 ) -> Result<Option<DeclaredType>, AllocError>
-    ensures { Answers (spec.no_type at kind notes.old) result notes.new }
+    ensures { Finds (spec.no_type at kind notes.old) result notes.new }
 {
     note(notes, at, kind)?;
     Ok(None)
@@ -81,7 +81,7 @@ fn named_type(
     at: u32,
     meaning: Option<&Meaning>,
 ) -> Result<Option<DeclaredType>, AllocError>
-    ensures { Answers (spec.named_type at (option_copied meaning.entry) notes.old) result notes.new }
+    ensures { Finds (spec.named_type at (option_copied meaning.entry) notes.old) result notes.new }
 {
     match meaning {
         None => no_type(notes, at, Kind::UnknownName),
@@ -119,7 +119,7 @@ pub fn tagged_enum<'a>(
     at: u32,
     name: &'a [u8],
 ) -> Result<Option<DeclaredType>, AllocError>
-    ensures { Answers (spec.tagged_enum at name.now notes.old) result notes.new }
+    ensures { Finds (spec.tagged_enum at name.now notes.old) result notes.new }
 {
     match tag_named(&notes.tags, name) {
         None => {
@@ -137,7 +137,7 @@ fn enum_type<'a>(
     at: u32,
     tag: &'a Option<Name>,
 ) -> Result<Option<DeclaredType>, AllocError>
-    ensures { Answers (spec.enum_type at tag.now notes.old) result notes.new }
+    ensures { Finds (spec.enum_type at tag.now notes.old) result notes.new }
 {
     match tag {
         None => Ok(int_type()),
@@ -165,7 +165,7 @@ fn new_struct<'a>(
     notes: &mut Notes<'a>,
     name: &'a [u8],
 ) -> Result<Option<DeclaredType>, AllocError>
-    ensures { Answers (spec.new_struct_type name.now notes.old) result notes.new }
+    ensures { Finds (spec.new_struct_type name.now notes.old) result notes.new }
 {
     let structure = incomplete(alloc, name)?;
     let number = add_struct(alloc, notes, structure)?;
@@ -180,7 +180,7 @@ pub fn tagged_struct<'a>(
     at: u32,
     name: &'a [u8],
 ) -> Result<Option<DeclaredType>, AllocError>
-    ensures { Answers (spec.tagged_struct at name.now notes.old) result notes.new }
+    ensures { Finds (spec.tagged_struct at name.now notes.old) result notes.new }
 {
     match tag_named(&notes.tags, name) {
         None => new_struct(alloc, notes, name),
@@ -191,7 +191,7 @@ pub fn tagged_struct<'a>(
 
 /// A struct without a tag, at its word.
 fn untagged_struct(notes: &mut Notes<'_>, at: u32) -> Result<Option<DeclaredType>, AllocError>
-    ensures { Answers (spec.untagged_struct at notes.old) result notes.new }
+    ensures { Finds (spec.untagged_struct at notes.old) result notes.new }
 {
     match notes.untagged {
         None => no_type(notes, at, Kind::BadType),
@@ -211,7 +211,7 @@ fn struct_type<'a>(
     at: u32,
     tag: &'a Option<Name>,
 ) -> Result<Option<DeclaredType>, AllocError>
-    ensures { Answers (spec.struct_type at tag.now notes.old) result notes.new }
+    ensures { Finds (spec.struct_type at tag.now notes.old) result notes.new }
 {
     match tag {
         None => untagged_struct(notes, at),
@@ -229,7 +229,7 @@ pub fn leaf<'a>(
     notes: &mut Notes<'a>,
     at: u32,
 ) -> Result<Option<DeclaredType>, AllocError>
-    ensures { Answers (spec.leaf env.now at node.now notes.old) result notes.new }
+    ensures { Finds (spec.leaf env.now at node.now notes.old) result notes.new }
 {
     match node {
         TypeNode::Basic(words) => Ok(Some(DeclaredType::Value(basic(*words)))),

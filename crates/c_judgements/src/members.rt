@@ -4,14 +4,14 @@ ghost use Rattle.std.specs.Prelude.{◌≡◌, IfOk, slice_get};
 ghost use Rattle.std.specs.Option.{option_copied};
 ghost use Rattle.c_typed_tree.specs.Layout.{struct_member};
 ghost use Rattle.c_typed_tree.specs.View.{type_view};
-ghost use Rattle.c_checks.specs.Checks.{Answers, each};
+ghost use Rattle.c_checks.specs.Checks.{Finds, each};
 ghost use Rattle.c_judgements.specs.Members as spec;
 
-use c_checks::{Notes, noted};
+use c_checks::{Notes, note_fault};
 use c_place_rules::members::{FoundMember, arrow, field};
 use c_scopes::Table;
-use c_type_rules::Typed;
-use c_type_rules::conversions::decayed;
+use c_type_rules::TypedExpression;
+use c_type_rules::conversions::decay;
 use c_typed_tree::{CType, StructDef};
 use std::alloc::{AllocError, Global};
 
@@ -54,13 +54,13 @@ fn target_number(ty: &CType) -> Option<u32>
 }
 
 /// The member of a struct with a number.
-fn numbered(
+fn member_at(
     alloc: Global,
     structs: &[StructDef],
     structure: u32,
     number: u32,
 ) -> Result<MemberMeaning, AllocError>
-    ensures { IfOk result (λ r. r ≡ spec.numbered number (struct_member (slice_get structs.now structure) number)) }
+    ensures { IfOk result (λ r. r ≡ spec.member_at number (struct_member (slice_get structs.now structure) number)) }
 {
     match structs.get(structure as usize) {
         None => Ok(MemberMeaning::Nothing),
@@ -109,7 +109,7 @@ fn member_of(
                 None => Ok(MemberMeaning::Nothing),
                 Some(None) => Ok(MemberMeaning::Faulty),
                 Some(Some(number)) => {
-                    numbered(alloc, notes.structs.as_slice(), structure, number)
+                    member_at(alloc, notes.structs.as_slice(), structure, number)
                 }
             }
         }
@@ -121,20 +121,20 @@ fn field_in(
     alloc: Global,
     notes: &mut Notes<'_>,
     at: u32,
-    a: Typed,
+    a: TypedExpression,
     found: MemberMeaning,
-) -> Result<Option<Typed>, AllocError>
-    ensures { Answers (spec.field_in at a found notes.old) result notes.new }
+) -> Result<Option<TypedExpression>, AllocError>
+    ensures { Finds (spec.field_in at a found notes.old) result notes.new }
 {
     match found {
         MemberMeaning::Nothing => {
             let ruling = field(alloc, at, a, None);
-            noted(notes, ruling)
+            note_fault(notes, ruling)
         }
         MemberMeaning::Faulty => Ok(None),
         MemberMeaning::Member(found) => {
             let ruling = field(alloc, at, a, Some(found));
-            noted(notes, ruling)
+            note_fault(notes, ruling)
         }
     }
 }
@@ -144,9 +144,9 @@ fn field_named(
     notes: &mut Notes<'_>,
     at: u32,
     name: &[u8],
-    a: Typed,
-) -> Result<Option<Typed>, AllocError>
-    ensures { Answers (spec.field_named at name.now a notes.old) result notes.new }
+    a: TypedExpression,
+) -> Result<Option<TypedExpression>, AllocError>
+    ensures { Finds (spec.field_named at name.now a notes.old) result notes.new }
 {
     let found = member_of(alloc, notes, struct_number(&a.ty), name)?;
     field_in(alloc, notes, at, a, found)
@@ -158,9 +158,9 @@ pub fn field_of(
     notes: &mut Notes<'_>,
     at: u32,
     name: &[u8],
-    a: Option<Typed>,
-) -> Result<Option<Typed>, AllocError>
-    ensures { Answers (each a (spec.field_named at name.now) notes.old) result notes.new }
+    a: Option<TypedExpression>,
+) -> Result<Option<TypedExpression>, AllocError>
+    ensures { Finds (each a (spec.field_named at name.now) notes.old) result notes.new }
 {
     match a {
         None => Ok(None),
@@ -173,20 +173,20 @@ fn arrow_in(
     alloc: Global,
     notes: &mut Notes<'_>,
     at: u32,
-    a: Typed,
+    a: TypedExpression,
     found: MemberMeaning,
-) -> Result<Option<Typed>, AllocError>
-    ensures { Answers (spec.arrow_in at a found notes.old) result notes.new }
+) -> Result<Option<TypedExpression>, AllocError>
+    ensures { Finds (spec.arrow_in at a found notes.old) result notes.new }
 {
     match found {
         MemberMeaning::Nothing => {
             let ruling = arrow(alloc, notes.structs.as_slice(), at, a, None);
-            noted(notes, ruling)
+            note_fault(notes, ruling)
         }
         MemberMeaning::Faulty => Ok(None),
         MemberMeaning::Member(found) => {
             let ruling = arrow(alloc, notes.structs.as_slice(), at, a, Some(found));
-            noted(notes, ruling)
+            note_fault(notes, ruling)
         }
     }
 }
@@ -196,11 +196,11 @@ fn arrow_named(
     notes: &mut Notes<'_>,
     at: u32,
     name: &[u8],
-    a: Typed,
-) -> Result<Option<Typed>, AllocError>
-    ensures { Answers (spec.arrow_named at name.now a notes.old) result notes.new }
+    a: TypedExpression,
+) -> Result<Option<TypedExpression>, AllocError>
+    ensures { Finds (spec.arrow_named at name.now a notes.old) result notes.new }
 {
-    let value = decayed(alloc, a)?;
+    let value = decay(alloc, a)?;
     let found = member_of(alloc, notes, target_number(&value.ty), name)?;
     arrow_in(alloc, notes, at, value, found)
 }
@@ -211,9 +211,9 @@ pub fn arrow_of(
     notes: &mut Notes<'_>,
     at: u32,
     name: &[u8],
-    a: Option<Typed>,
-) -> Result<Option<Typed>, AllocError>
-    ensures { Answers (each a (spec.arrow_named at name.now) notes.old) result notes.new }
+    a: Option<TypedExpression>,
+) -> Result<Option<TypedExpression>, AllocError>
+    ensures { Finds (each a (spec.arrow_named at name.now) notes.old) result notes.new }
 {
     match a {
         None => Ok(None),

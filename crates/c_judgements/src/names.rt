@@ -1,13 +1,13 @@
 //! Names as expressions (C99 6.5.1).
 
 ghost use Rattle.std.specs.Option.{option_copied};
-ghost use Rattle.c_checks.specs.Checks.{Answers};
+ghost use Rattle.c_checks.specs.Checks.{Finds};
 ghost use Rattle.c_judgements.specs.Names as spec;
 
 use c_checks::{Meaning, Notes, note, note_use};
 use c_primary_rules::primary::{enumeration_constant, local, object};
 use c_type_faults::Kind;
-use c_type_rules::Typed;
+use c_type_rules::TypedExpression;
 use std::alloc::{AllocError, Global};
 
 /// A fault, in place of an expression.
@@ -15,35 +15,39 @@ pub(crate) fn faulty(
     notes: &mut Notes<'_>,
     at: u32,
     kind: Kind,
-) -> Result<Option<Typed>, AllocError>
-    ensures { Answers (spec.faulty at kind notes.old) result notes.new }
+) -> Result<Option<TypedExpression>, AllocError>
+    ensures { Finds (spec.faulty at kind notes.old) result notes.new }
 {
     note(notes, at, kind)?;
     Ok(None)
 }
 
 /// A use of what the unit never defines.
-pub(crate) fn used(notes: &mut Notes<'_>, at: u32, number: u32) -> Result<Option<Typed>, AllocError>
-    ensures { Answers (spec.used at number notes.old) result notes.new }
+pub(crate) fn use_of_undefined(
+    notes: &mut Notes<'_>,
+    at: u32,
+    number: u32,
+) -> Result<Option<TypedExpression>, AllocError>
+    ensures { Finds (spec.use_of_undefined at number notes.old) result notes.new }
 {
     note_use(notes, number, at)?;
     Ok(None)
 }
 
 /// A name, by what it means.
-pub fn named(
+pub fn name_of(
     alloc: Global,
     notes: &mut Notes<'_>,
     at: u32,
     meaning: Option<&Meaning>,
-) -> Result<Option<Typed>, AllocError>
-    ensures { Answers (spec.named at (option_copied meaning.entry) notes.old) result notes.new }
+) -> Result<Option<TypedExpression>, AllocError>
+    ensures { Finds (spec.name_of at (option_copied meaning.entry) notes.old) result notes.new }
 {
     match meaning {
         None => faulty(notes, at, Kind::UnknownName),
         Some(meaning) => match meaning {
             Meaning::Faulty => Ok(None),
-            Meaning::Undefined(number) => used(notes, at, *number),
+            Meaning::Undefined(number) => use_of_undefined(notes, at, *number),
             Meaning::Local { number, ty } => Ok(Some(local(alloc, at, *number, ty)?)),
             Meaning::Object { number, ty } => Ok(Some(object(alloc, at, *number, ty)?)),
             Meaning::Constant(word) => Ok(Some(enumeration_constant(alloc, at, *word)?)),

@@ -1,17 +1,17 @@
 //! Operators, by their operands.
 
 ghost use Rattle.std.specs.Prelude.{◌≡◌, OnOk, IfOk};
-ghost use Rattle.c_checks.specs.Checks.{Answers, each, both};
+ghost use Rattle.c_checks.specs.Checks.{Finds, each, both};
 ghost use Rattle.c_judgements.specs.Operators as spec;
 
-use c_checks::{Notes, noted, take_address};
+use c_checks::{Notes, note_fault, take_address};
 use c_declared_types::DeclaredType;
-use c_operators::{assigned, binary, cast_to, chosen, indexed, size_of_type, unary};
+use c_operators::{assign, binary, cast_to, conditional, size_of_type, subscript, unary};
 use c_place_rules::members::size;
 use c_place_rules::places::step_behind;
 use c_primary_rules::commas::comma;
 use c_tree::{AssignOp, BinaryOp, Seq, StepOp, UnaryOp};
-use c_type_rules::{Place, Typed};
+use c_type_rules::{Place, TypedExpression};
 use std::alloc::{AllocError, Global};
 
 /// `&` takes the address of its operand; no other operator does.
@@ -31,19 +31,19 @@ fn take(notes: &mut Notes<'_>, op: UnaryOp, place: Place) -> Result<(), AllocErr
 }
 
 /// An operator in front of an operand without fault.
-fn applied(
+fn apply_prefix(
     alloc: Global,
     notes: &mut Notes<'_>,
     at: u32,
     op: UnaryOp,
-    a: Typed,
-) -> Result<Option<Typed>, AllocError>
-    ensures { Answers (spec.applied at op a notes.old) result notes.new }
+    a: TypedExpression,
+) -> Result<Option<TypedExpression>, AllocError>
+    ensures { Finds (spec.apply_prefix at op a notes.old) result notes.new }
 {
     let place = a.place;
     let ruling = unary(alloc, notes.structs.as_slice(), at, op, a);
     take(notes, op, place)?;
-    noted(notes, ruling)
+    note_fault(notes, ruling)
 }
 
 /// An operator in front of an operand.
@@ -52,13 +52,13 @@ pub fn in_front(
     notes: &mut Notes<'_>,
     at: u32,
     op: UnaryOp,
-    a: Option<Typed>,
-) -> Result<Option<Typed>, AllocError>
-    ensures { Answers (each a (spec.applied at op) notes.old) result notes.new }
+    a: Option<TypedExpression>,
+) -> Result<Option<TypedExpression>, AllocError>
+    ensures { Finds (each a (spec.apply_prefix at op) notes.old) result notes.new }
 {
     match a {
         None => Ok(None),
-        Some(a) => applied(alloc, notes, at, op, a),
+        Some(a) => apply_prefix(alloc, notes, at, op, a),
     }
 }
 
@@ -68,10 +68,10 @@ pub fn between(
     notes: &mut Notes<'_>,
     at: u32,
     op: BinaryOp,
-    a: Option<Typed>,
-    b: Option<Typed>,
-) -> Result<Option<Typed>, AllocError>
-    ensures { Answers (both a b (spec.between at op) notes.old) result notes.new }
+    a: Option<TypedExpression>,
+    b: Option<TypedExpression>,
+) -> Result<Option<TypedExpression>, AllocError>
+    ensures { Finds (both a b (spec.between at op) notes.old) result notes.new }
 {
     match a {
         None => Ok(None),
@@ -79,7 +79,7 @@ pub fn between(
             None => Ok(None),
             Some(b) => {
                 let ruling = binary(alloc, notes.structs.as_slice(), at, op, a, b);
-                noted(notes, ruling)
+                note_fault(notes, ruling)
             }
         },
     }
@@ -91,18 +91,18 @@ pub fn assignment(
     notes: &mut Notes<'_>,
     at: u32,
     op: AssignOp,
-    a: Option<Typed>,
-    b: Option<Typed>,
-) -> Result<Option<Typed>, AllocError>
-    ensures { Answers (both a b (spec.assignment at op) notes.old) result notes.new }
+    a: Option<TypedExpression>,
+    b: Option<TypedExpression>,
+) -> Result<Option<TypedExpression>, AllocError>
+    ensures { Finds (both a b (spec.assignment at op) notes.old) result notes.new }
 {
     match a {
         None => Ok(None),
         Some(a) => match b {
             None => Ok(None),
             Some(b) => {
-                let ruling = assigned(alloc, notes.structs.as_slice(), at, op, a, b);
-                noted(notes, ruling)
+                let ruling = assign(alloc, notes.structs.as_slice(), at, op, a, b);
+                note_fault(notes, ruling)
             }
         },
     }
@@ -113,18 +113,18 @@ pub fn element(
     alloc: Global,
     notes: &mut Notes<'_>,
     at: u32,
-    a: Option<Typed>,
-    b: Option<Typed>,
-) -> Result<Option<Typed>, AllocError>
-    ensures { Answers (both a b (spec.element at) notes.old) result notes.new }
+    a: Option<TypedExpression>,
+    b: Option<TypedExpression>,
+) -> Result<Option<TypedExpression>, AllocError>
+    ensures { Finds (both a b (spec.element at) notes.old) result notes.new }
 {
     match a {
         None => Ok(None),
         Some(a) => match b {
             None => Ok(None),
             Some(b) => {
-                let ruling = indexed(alloc, notes.structs.as_slice(), at, a, b);
-                noted(notes, ruling)
+                let ruling = subscript(alloc, notes.structs.as_slice(), at, a, b);
+                note_fault(notes, ruling)
             }
         },
     }
@@ -135,19 +135,19 @@ fn arms(
     alloc: Global,
     notes: &mut Notes<'_>,
     at: u32,
-    c: Typed,
-    a: Option<Typed>,
-    b: Option<Typed>,
-) -> Result<Option<Typed>, AllocError>
-    ensures { Answers (both a b (spec.choice at c) notes.old) result notes.new }
+    c: TypedExpression,
+    a: Option<TypedExpression>,
+    b: Option<TypedExpression>,
+) -> Result<Option<TypedExpression>, AllocError>
+    ensures { Finds (both a b (spec.choice at c) notes.old) result notes.new }
 {
     match a {
         None => Ok(None),
         Some(a) => match b {
             None => Ok(None),
             Some(b) => {
-                let ruling = chosen(alloc, at, c, a, b);
-                noted(notes, ruling)
+                let ruling = conditional(alloc, at, c, a, b);
+                note_fault(notes, ruling)
             }
         },
     }
@@ -158,11 +158,11 @@ pub fn choice(
     alloc: Global,
     notes: &mut Notes<'_>,
     at: u32,
-    c: Option<Typed>,
-    a: Option<Typed>,
-    b: Option<Typed>,
-) -> Result<Option<Typed>, AllocError>
-    ensures { Answers (spec.choice_of at c a b notes.old) result notes.new }
+    c: Option<TypedExpression>,
+    a: Option<TypedExpression>,
+    b: Option<TypedExpression>,
+) -> Result<Option<TypedExpression>, AllocError>
+    ensures { Finds (spec.choice_of at c a b notes.old) result notes.new }
 {
     match c {
         None => Ok(None),
@@ -176,9 +176,9 @@ pub fn cast(
     notes: &mut Notes<'_>,
     at: u32,
     to: Option<DeclaredType>,
-    a: Option<Typed>,
-) -> Result<Option<Typed>, AllocError>
-    ensures { Answers (both to a (spec.cast at) notes.old) result notes.new }
+    a: Option<TypedExpression>,
+) -> Result<Option<TypedExpression>, AllocError>
+    ensures { Finds (both to a (spec.cast at) notes.old) result notes.new }
 {
     match to {
         None => Ok(None),
@@ -186,7 +186,7 @@ pub fn cast(
             None => Ok(None),
             Some(a) => {
                 let ruling = cast_to(alloc, at, to, a);
-                noted(notes, ruling)
+                note_fault(notes, ruling)
             }
         },
     }
@@ -197,15 +197,15 @@ pub fn size_of_value(
     alloc: Global,
     notes: &mut Notes<'_>,
     at: u32,
-    a: Option<Typed>,
-) -> Result<Option<Typed>, AllocError>
-    ensures { Answers (each a (spec.size_of_value at) notes.old) result notes.new }
+    a: Option<TypedExpression>,
+) -> Result<Option<TypedExpression>, AllocError>
+    ensures { Finds (each a (spec.size_of_value at) notes.old) result notes.new }
 {
     match a {
         None => Ok(None),
         Some(a) => {
             let ruling = size(alloc, notes.structs.as_slice(), at, &a.ty);
-            noted(notes, ruling)
+            note_fault(notes, ruling)
         }
     }
 }
@@ -216,14 +216,14 @@ pub fn size_of_name(
     notes: &mut Notes<'_>,
     at: u32,
     of: Option<DeclaredType>,
-) -> Result<Option<Typed>, AllocError>
-    ensures { Answers (each of (spec.size_of_name at) notes.old) result notes.new }
+) -> Result<Option<TypedExpression>, AllocError>
+    ensures { Finds (each of (spec.size_of_name at) notes.old) result notes.new }
 {
     match of {
         None => Ok(None),
         Some(of) => {
             let ruling = size_of_type(alloc, notes.structs.as_slice(), at, &of);
-            noted(notes, ruling)
+            note_fault(notes, ruling)
         }
     }
 }
@@ -234,15 +234,15 @@ pub fn behind(
     notes: &mut Notes<'_>,
     at: u32,
     op: StepOp,
-    a: Option<Typed>,
-) -> Result<Option<Typed>, AllocError>
-    ensures { Answers (each a (spec.behind at op) notes.old) result notes.new }
+    a: Option<TypedExpression>,
+) -> Result<Option<TypedExpression>, AllocError>
+    ensures { Finds (each a (spec.behind at op) notes.old) result notes.new }
 {
     match a {
         None => Ok(None),
         Some(a) => {
             let ruling = step_behind(alloc, notes.structs.as_slice(), at, op, a);
-            noted(notes, ruling)
+            note_fault(notes, ruling)
         }
     }
 }
@@ -251,8 +251,8 @@ pub fn behind(
 pub fn commas(
     alloc: Global,
     at: u32,
-    operands: Option<Seq<Typed>>,
-) -> Result<Option<Typed>, AllocError>
+    operands: Option<Seq<TypedExpression>>,
+) -> Result<Option<TypedExpression>, AllocError>
     ensures { IfOk result (λ r. r ≡ spec.commas at operands) }
 {
     match operands {

@@ -1,15 +1,15 @@
 //! Literals (C99 6.4.4, 6.4.5).
 
 ghost use Rattle.std.specs.Prelude.{◌≡◌, IfOk};
-ghost use Rattle.c_checks.specs.Checks.{Answers, noted};
+ghost use Rattle.c_checks.specs.Checks.{Finds, note_fault};
 ghost use Rattle.c_primary_rules.specs.Primary as rules;
 ghost use Rattle.c_judgements.specs.Texts as spec;
 
-use c_checks::{Notes, note_text, noted};
+use c_checks::{Notes, note_fault, note_text};
 use c_literals::put_text;
 use c_primary_rules::primary::{character_constant, integer_constant, text};
 use c_tree::{Name, Seq};
-use c_type_rules::Typed;
+use c_type_rules::TypedExpression;
 use std::alloc::{AllocError, Global};
 
 /// An integer constant.
@@ -18,11 +18,11 @@ pub fn integer(
     notes: &mut Notes<'_>,
     at: u32,
     spelling: &[u8],
-) -> Result<Option<Typed>, AllocError>
-    ensures { Answers (noted (rules.integer_constant at spelling.now) notes.old) result notes.new }
+) -> Result<Option<TypedExpression>, AllocError>
+    ensures { Finds (note_fault (rules.integer_constant at spelling.now) notes.old) result notes.new }
 {
     let ruling = integer_constant(alloc, at, spelling);
-    noted(notes, ruling)
+    note_fault(notes, ruling)
 }
 
 /// A character constant.
@@ -31,11 +31,11 @@ pub fn character(
     notes: &mut Notes<'_>,
     at: u32,
     spelling: &[u8],
-) -> Result<Option<Typed>, AllocError>
-    ensures { Answers (noted (rules.character_constant at spelling.now) notes.old) result notes.new }
+) -> Result<Option<TypedExpression>, AllocError>
+    ensures { Finds (note_fault (rules.character_constant at spelling.now) notes.old) result notes.new }
 {
     let ruling = character_constant(alloc, at, spelling);
-    noted(notes, ruling)
+    note_fault(notes, ruling)
 }
 
 /// The bytes that string literals side by side stand for, with the zero at their end.
@@ -56,8 +56,8 @@ pub fn string(
     notes: &mut Notes<'_>,
     at: u32,
     spellings: &[Name],
-) -> Result<Option<Typed>, AllocError>
-    ensures { Answers (spec.string at spellings.now notes.old) result notes.new }
+) -> Result<Option<TypedExpression>, AllocError>
+    ensures { Finds (spec.string at spellings.now notes.old) result notes.new }
 {
     let bytes = bytes_of(alloc, spellings)?;
     let length = bytes.len() as u64;

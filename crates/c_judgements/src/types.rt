@@ -2,18 +2,18 @@
 //! 6.7.6).
 
 ghost use Rattle.std.specs.Prelude.{◌≡◌, IfOk};
-ghost use Rattle.c_checks.specs.Checks.{Answers, each, both};
+ghost use Rattle.c_checks.specs.Checks.{Finds, each, both};
 ghost use Rattle.c_judgements.specs.Types as spec;
 
 use crate::leaves::no_type;
-use c_checks::{Env, Meaning, Notes, declare, note, noted, stands_here};
+use c_checks::{Env, Meaning, Notes, declare, note, note_fault, stands_here};
 use c_constant_rules::values::length;
 use c_declared_types::{
     DeclaredType, array_of, function_of, is_declarable, is_deep_at_most, parameter_of, pointer_to,
 };
 use c_tree::{Name, Seq};
 use c_type_faults::Kind;
-use c_type_rules::Typed;
+use c_type_rules::TypedExpression;
 use c_typed_tree::CType;
 use std::alloc::{AllocError, Global};
 
@@ -26,7 +26,7 @@ fn there(
     at: u32,
     made: Option<DeclaredType>,
 ) -> Result<Option<DeclaredType>, AllocError>
-    ensures { Answers (spec.there at made notes.old) result notes.new }
+    ensures { Finds (spec.there at made notes.old) result notes.new }
 {
     match made {
         None => no_type(notes, at, Kind::BadType),
@@ -41,7 +41,7 @@ pub fn pointer(
     at: u32,
     target: Option<DeclaredType>,
 ) -> Result<Option<DeclaredType>, AllocError>
-    ensures { Answers (each target (spec.pointer at) notes.old) result notes.new }
+    ensures { Finds (each target (spec.pointer at) notes.old) result notes.new }
 {
     match target {
         None => Ok(None),
@@ -55,15 +55,15 @@ pub fn pointer(
 /// The length of an array.
 pub fn given_length(
     notes: &mut Notes<'_>,
-    a: Option<Typed>,
+    a: Option<TypedExpression>,
 ) -> Result<Option<Option<u64>>, AllocError>
-    ensures { Answers (each a spec.given_length notes.old) result notes.new }
+    ensures { Finds (each a spec.given_length notes.old) result notes.new }
 {
     match a {
         None => Ok(None),
         Some(a) => {
             let ruling = length(&a);
-            match noted(notes, ruling)? {
+            match note_fault(notes, ruling)? {
                 None => Ok(None),
                 Some(length) => Ok(Some(Some(length))),
             }
@@ -79,7 +79,7 @@ pub fn array(
     length: Option<Option<u64>>,
     element: Option<DeclaredType>,
 ) -> Result<Option<DeclaredType>, AllocError>
-    ensures { Answers (both length element (spec.array at) notes.old) result notes.new }
+    ensures { Finds (both length element (spec.array at) notes.old) result notes.new }
 {
     match length {
         None => Ok(None),
@@ -100,7 +100,7 @@ pub fn function(
     parameters: Option<Seq<CType>>,
     of: Option<DeclaredType>,
 ) -> Result<Option<DeclaredType>, AllocError>
-    ensures { Answers (both parameters of (spec.function at) notes.old) result notes.new }
+    ensures { Finds (both parameters of (spec.function at) notes.old) result notes.new }
 {
     match parameters {
         None => Ok(None),
@@ -120,7 +120,7 @@ pub fn type_named(
     at: u32,
     ty: Option<DeclaredType>,
 ) -> Result<Option<DeclaredType>, AllocError>
-    ensures { Answers (each ty (spec.type_named at) notes.old) result notes.new }
+    ensures { Finds (each ty (spec.type_named at) notes.old) result notes.new }
 {
     match ty {
         None => Ok(None),
@@ -134,7 +134,7 @@ pub fn type_named(
 }
 
 fn no_parameter(notes: &mut Notes<'_>, at: u32, kind: Kind) -> Result<Option<CType>, AllocError>
-    ensures { Answers (spec.no_parameter at kind notes.old) result notes.new }
+    ensures { Finds (spec.no_parameter at kind notes.old) result notes.new }
 {
     note(notes, at, kind)?;
     Ok(None)
@@ -146,7 +146,7 @@ fn within_depth(
     at: u32,
     made: Option<CType>,
 ) -> Result<Option<CType>, AllocError>
-    ensures { Answers (spec.within_depth at made notes.old) result notes.new }
+    ensures { Finds (spec.within_depth at made notes.old) result notes.new }
 {
     match made {
         None => no_parameter(notes, at, Kind::BadType),
@@ -166,7 +166,7 @@ fn parameter_type(
     at: u32,
     ty: Option<DeclaredType>,
 ) -> Result<Option<CType>, AllocError>
-    ensures { Answers (each ty (spec.parameter_type at) notes.old) result notes.new }
+    ensures { Finds (each ty (spec.parameter_type at) notes.old) result notes.new }
 {
     match ty {
         None => Ok(None),
@@ -199,7 +199,7 @@ fn named_parameter<'a>(
     name: &'a [u8],
     ty: Option<CType>,
 ) -> Result<Option<CType>, AllocError>
-    ensures { Answers (spec.named_parameter at name.now ty (env.old, notes.old)) result (env.new, notes.new) }
+    ensures { Finds (spec.named_parameter at name.now ty (env.old, notes.old)) result (env.new, notes.new) }
 {
     if stands_here(env, name) {
         return no_parameter(notes, at, Kind::Redeclared);
@@ -218,7 +218,7 @@ fn declared_parameter<'a>(
     name: &'a Option<Name>,
     ty: Option<CType>,
 ) -> Result<Option<CType>, AllocError>
-    ensures { Answers (spec.declared_parameter at name.now ty (env.old, notes.old)) result (env.new, notes.new) }
+    ensures { Finds (spec.declared_parameter at name.now ty (env.old, notes.old)) result (env.new, notes.new) }
 {
     match name {
         None => Ok(ty),
@@ -235,7 +235,7 @@ pub fn parameter_declared<'a>(
     name: &'a Option<Name>,
     ty: Option<DeclaredType>,
 ) -> Result<Option<CType>, AllocError>
-    ensures { Answers (spec.parameter_declared at name.now ty (env.old, notes.old)) result (env.new, notes.new) }
+    ensures { Finds (spec.parameter_declared at name.now ty (env.old, notes.old)) result (env.new, notes.new) }
 {
     let ty = parameter_type(alloc, notes, at, ty)?;
     declared_parameter(alloc, env, notes, at, name, ty)

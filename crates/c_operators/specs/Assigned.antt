@@ -3,16 +3,16 @@ use Rattle.std.specs.Prelude.{ℕ, List}
 use Rattle.c_tree.specs.declared.expressions.AssignOp.{AssignOp}
 use Rattle.c_tree.specs.declared.expressions.AssignOp.TheVariants as o
 use Rattle.c_typed_tree.specs.declared.types.StructDef.{StructDef}
-use Rattle.c_type_rules.specs.declared.typed.Typed.{Typed}
+use Rattle.c_type_rules.specs.declared.typed.TypedExpression.{TypedExpression}
 use Rattle.c_type_rules.specs.Rulings.{Ruling}
-use Rattle.c_type_rules.specs.Conversions.{decayed}
+use Rattle.c_type_rules.specs.Conversions.{decay}
 use Rattle.c_place_rules.specs.Assignments.{set, compound}
 use Rattle.c_operators.specs.Null.{is_null_for}
 
-abbrev pub set_to : ℕ → (left right : Typed) → Ruling Typed
+abbrev pub set_to : ℕ → (left right : TypedExpression) → Ruling TypedExpression
 set_to at x y = set at x y (is_null_for x.ty y)
 
-abbrev pub with_value : List StructDef → ℕ → AssignOp → (left right : Typed) → Ruling Typed
+abbrev pub with_value : List StructDef → ℕ → AssignOp → (left right : TypedExpression) → Ruling TypedExpression
 with_value ds at o.Set x y = set_to at x y
 with_value ds at o.Multiply x y = compound ds at o.Multiply x y
 with_value ds at o.Divide x y = compound ds at o.Divide x y
@@ -25,5 +25,5 @@ with_value ds at o.And x y = compound ds at o.And x y
 with_value ds at o.Xor x y = compound ds at o.Xor x y
 with_value ds at o.Or x y = compound ds at o.Or x y
 
-abbrev pub assigned : List StructDef → ℕ → AssignOp → (left right : Typed) → Ruling Typed
-assigned ds at op x y = with_value ds at op x (decayed y)
+abbrev pub assign : List StructDef → ℕ → AssignOp → (left right : TypedExpression) → Ruling TypedExpression
+assign ds at op x y = with_value ds at op x (decay y)

@@ -4,18 +4,18 @@ use Rattle.c_tree.specs.declared.expressions.BinaryOp.{BinaryOp}
 use Rattle.c_tree.specs.declared.expressions.BinaryOp.TheVariants as b
 use Rattle.c_typed_tree.specs.declared.types.StructDef.{StructDef}
 use Rattle.c_typed_tree.specs.declared.expressions.TExpr.{TExpr}
-use Rattle.c_type_rules.specs.declared.typed.Typed.{Typed}
+use Rattle.c_type_rules.specs.declared.typed.TypedExpression.{TypedExpression}
 use Rattle.c_type_rules.specs.Rulings.{Ruling}
 use Rattle.c_type_rules.specs.Arithmetic.{arithmetic, shift, sum, difference}
 use Rattle.c_type_rules.specs.Comparisons.{logical, comparison, condition}
-use Rattle.c_type_rules.specs.Conversions.{decayed, equality, choice}
+use Rattle.c_type_rules.specs.Conversions.{decay, equality, choice}
 use Rattle.c_place_rules.specs.Places.{index}
 use Rattle.c_operators.specs.Null.{is_null_for}
 
-abbrev pub equal : ℕ → BinaryOp → (left right : Typed) → Ruling Typed
+abbrev pub equal : ℕ → BinaryOp → (left right : TypedExpression) → Ruling TypedExpression
 equal at op x y = equality at op x y (is_null_for y.ty x) (is_null_for x.ty y)
 
-abbrev pub between : List StructDef → ℕ → BinaryOp → (left right : Typed) → Ruling Typed
+abbrev pub between : List StructDef → ℕ → BinaryOp → (left right : TypedExpression) → Ruling TypedExpression
 between ds at b.LogicalOr x y = logical at b.LogicalOr x y
 between ds at b.LogicalAnd x y = logical at b.LogicalAnd x y
 between ds at b.Or x y = arithmetic at b.Or x y
@@ -35,26 +35,26 @@ between ds at b.Multiply x y = arithmetic at b.Multiply x y
 between ds at b.Divide x y = arithmetic at b.Divide x y
 between ds at b.Remainder x y = arithmetic at b.Remainder x y
 
-abbrev pub binary : List StructDef → ℕ → BinaryOp → (left right : Typed) → Ruling Typed
-binary ds at op x y = between ds at op (decayed x) (decayed y)
+abbrev pub binary : List StructDef → ℕ → BinaryOp → (left right : TypedExpression) → Ruling TypedExpression
+binary ds at op x y = between ds at op (decay x) (decay y)
 
-abbrev pub indexed : List StructDef → ℕ → (left right : Typed) → Ruling Typed
-indexed ds at x y = index ds at (decayed x) (decayed y)
+abbrev pub subscript : List StructDef → ℕ → (left right : TypedExpression) → Ruling TypedExpression
+subscript ds at x y = index ds at (decay x) (decay y)
 
 -- ---- `?:`, whose arms are judged where its condition is without fault
 
-abbrev pub tested : Typed → Ruling TExpr
-tested c = condition (decayed c)
+abbrev pub condition_tree : TypedExpression → Ruling TExpr
+condition_tree c = condition (decay c)
 
-abbrev pub between_values : ℕ → TExpr → (holds fails : Typed) → Ruling Typed
+abbrev pub between_values : ℕ → TExpr → (holds fails : TypedExpression) → Ruling TypedExpression
 between_values at c x y = choice at c x y (is_null_for y.ty x) (is_null_for x.ty y)
 
-abbrev pub between_arms : ℕ → TExpr → (holds fails : Typed) → Ruling Typed
-between_arms at c x y = between_values at c (decayed x) (decayed y)
+abbrev pub between_arms : ℕ → TExpr → (holds fails : TypedExpression) → Ruling TypedExpression
+between_arms at c x y = between_values at c (decay x) (decay y)
 
-abbrev pub chosen_on : ℕ → Ruling TExpr → (holds fails : Typed) → Ruling Typed
-chosen_on at (Ok c) x y = between_arms at c x y
-chosen_on at (Err f) x y = Err f
+abbrev pub conditional_on : ℕ → Ruling TExpr → (holds fails : TypedExpression) → Ruling TypedExpression
+conditional_on at (Ok c) x y = between_arms at c x y
+conditional_on at (Err f) x y = Err f
 
-abbrev pub chosen : ℕ → (condition holds fails : Typed) → Ruling Typed
-chosen at c x y = chosen_on at (tested c) x y
+abbrev pub conditional : ℕ → (condition holds fails : TypedExpression) → Ruling TypedExpression
+conditional at c x y = conditional_on at (condition_tree c) x y

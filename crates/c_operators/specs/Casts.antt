@@ -5,25 +5,25 @@ use Rattle.c_declared_types.specs.declared.declared.DeclaredType.TheVariants as 
 use Rattle.c_typed_tree.specs.declared.types.CType.{CType}
 use Rattle.c_typed_tree.specs.declared.types.StructDef.{StructDef}
 use Rattle.c_type_faults.specs.declared.faults.Kind.TheVariants.{BadOperand, BadConversion}
-use Rattle.c_type_rules.specs.declared.typed.Typed.{Typed}
+use Rattle.c_type_rules.specs.declared.typed.TypedExpression.{TypedExpression}
 use Rattle.c_type_rules.specs.Rulings.{Ruling, fault}
-use Rattle.c_type_rules.specs.Conversions.{decayed, cast}
+use Rattle.c_type_rules.specs.Conversions.{decay, cast}
 use Rattle.c_place_rules.specs.Members.{size}
 use Rattle.c_operators.specs.Null.{is_null_for}
 
-abbrev pub cast_of : ℕ → CType → Typed → Ruling Typed
+abbrev pub cast_of : ℕ → CType → TypedExpression → Ruling TypedExpression
 cast_of at to a = cast at to a (is_null_for to a)
 
-abbrev pub cast_value : ℕ → CType → Typed → Ruling Typed
-cast_value at to a = cast_of at to (decayed a)
+abbrev pub cast_value : ℕ → CType → TypedExpression → Ruling TypedExpression
+cast_value at to a = cast_of at to (decay a)
 
 -- there are no casts to arrays and functions
-abbrev pub cast_to : ℕ → DeclaredType → Typed → Ruling Typed
+abbrev pub cast_to : ℕ → DeclaredType → TypedExpression → Ruling TypedExpression
 cast_to at (d.Value ty) a = cast_value at ty a
 cast_to at (d.Unsized element) a = fault at BadConversion
 cast_to at (d.Function result parameters) a = fault at BadConversion
 
-abbrev pub size_of_type : List StructDef → ℕ → DeclaredType → Ruling Typed
+abbrev pub size_of_type : List StructDef → ℕ → DeclaredType → Ruling TypedExpression
 size_of_type ds at (d.Value ty) = size ds at ty
 size_of_type ds at (d.Unsized element) = fault at BadOperand
 size_of_type ds at (d.Function result parameters) = fault at BadOperand

@@ -6,21 +6,21 @@ use Rattle.c_typed_tree.specs.View.{type_view, expr_view}
 use Rattle.c_typed_tree.specs.Constants.{is_integer, is_null_constant}
 use Rattle.c_typed_tree.specs.Typing.{is_pointer}
 use Rattle.c_constants.specs.Null.{is_null_void}
-use Rattle.c_type_rules.specs.declared.typed.Typed.{Typed}
+use Rattle.c_type_rules.specs.declared.typed.TypedExpression.{TypedExpression}
 use Rattle.c_type_rules.specs.Rulings.{Ruling}
-use Rattle.c_type_rules.specs.Conversions.{decayed, wanted}
+use Rattle.c_type_rules.specs.Conversions.{decay, value_for_type}
 
-abbrev pub is_null : Typed → Bool
+abbrev pub is_null : TypedExpression → Bool
 is_null a =
     if is_integer (type_view a.ty) then is_null_constant (expr_view a.tree) else is_null_void (expr_view a.tree)
 
 -- it is asked where a type is a pointer's
-abbrev pub is_null_for : CType → Typed → Bool
+abbrev pub is_null_for : CType → TypedExpression → Bool
 is_null_for to a = if is_pointer (type_view to) then is_null a else false
 
 -- a value where one of a type is wanted: an argument, an initialiser, the operand of `return` (6.5.16.1)
-abbrev pub taken_value : CType → Typed → Ruling TExpr
-taken_value to a = wanted to a (is_null_for to a)
+abbrev pub value_or_null : CType → TypedExpression → Ruling TExpr
+value_or_null to a = value_for_type to a (is_null_for to a)
 
-abbrev pub taken : CType → Typed → Ruling TExpr
-taken to a = taken_value to (decayed a)
+abbrev pub take_value : CType → TypedExpression → Ruling TExpr
+take_value to a = value_or_null to (decay a)

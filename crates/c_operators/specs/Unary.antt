@@ -3,28 +3,28 @@ use Rattle.std.specs.Prelude.{ℕ, List}
 use Rattle.c_tree.specs.declared.expressions.UnaryOp.{UnaryOp}
 use Rattle.c_tree.specs.declared.expressions.UnaryOp.TheVariants as u
 use Rattle.c_typed_tree.specs.declared.types.StructDef.{StructDef}
-use Rattle.c_type_rules.specs.declared.typed.Typed.{Typed}
+use Rattle.c_type_rules.specs.declared.typed.TypedExpression.{TypedExpression}
 use Rattle.c_type_rules.specs.Rulings.{Ruling}
 use Rattle.c_type_rules.specs.Arithmetic.{unary_arithmetic}
 use Rattle.c_type_rules.specs.Comparisons.{negation}
-use Rattle.c_type_rules.specs.Conversions.{decayed}
+use Rattle.c_type_rules.specs.Conversions.{decay}
 use Rattle.c_place_rules.specs.Places.{address, dereference, step_before}
 
-abbrev pub led_to : List StructDef → ℕ → Typed → Ruling Typed
-led_to ds at a = dereference ds at (decayed a)
+abbrev pub led_to : List StructDef → ℕ → TypedExpression → Ruling TypedExpression
+led_to ds at a = dereference ds at (decay a)
 
-abbrev pub promoted : ℕ → UnaryOp → Typed → Ruling Typed
-promoted at op a = unary_arithmetic at op (decayed a)
+abbrev pub prefix_arithmetic : ℕ → UnaryOp → TypedExpression → Ruling TypedExpression
+prefix_arithmetic at op a = unary_arithmetic at op (decay a)
 
-abbrev pub negated : ℕ → Typed → Ruling Typed
-negated at a = negation at (decayed a)
+abbrev pub logical_not : ℕ → TypedExpression → Ruling TypedExpression
+logical_not at a = negation at (decay a)
 
-abbrev pub unary : List StructDef → ℕ → UnaryOp → Typed → Ruling Typed
+abbrev pub unary : List StructDef → ℕ → UnaryOp → TypedExpression → Ruling TypedExpression
 unary ds at u.Increment a = step_before ds at u.Increment a
 unary ds at u.Decrement a = step_before ds at u.Decrement a
 unary ds at u.Address a = address at a
 unary ds at u.Dereference a = led_to ds at a
-unary ds at u.Plus a = promoted at u.Plus a
-unary ds at u.Minus a = promoted at u.Minus a
-unary ds at u.Invert a = promoted at u.Invert a
-unary ds at u.Not a = negated at a
+unary ds at u.Plus a = prefix_arithmetic at u.Plus a
+unary ds at u.Minus a = prefix_arithmetic at u.Minus a
+unary ds at u.Invert a = prefix_arithmetic at u.Invert a
+unary ds at u.Not a = logical_not at a

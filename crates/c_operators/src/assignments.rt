@@ -6,12 +6,17 @@ ghost use Rattle.c_type_rules.specs.Rulings.{Gives};
 use crate::null::is_null_for;
 use c_place_rules::assignments::{compound, set};
 use c_tree::AssignOp;
-use c_type_rules::conversions::decayed;
-use c_type_rules::{Refusal, Typed};
+use c_type_rules::conversions::decay;
+use c_type_rules::{Refusal, TypedExpression};
 use c_typed_tree::StructDef;
 use std::alloc::Global;
 
-fn set_to(alloc: Global, at: u32, a: Typed, b: Typed) -> Result<Typed, Refusal>
+fn set_to(
+    alloc: Global,
+    at: u32,
+    a: TypedExpression,
+    b: TypedExpression,
+) -> Result<TypedExpression, Refusal>
     ensures { Gives (spec.set_to at a b) result }
 {
     let null = is_null_for(&a.ty, &b);
@@ -24,9 +29,9 @@ fn with_value(
     structs: &[StructDef],
     at: u32,
     op: AssignOp,
-    a: Typed,
-    b: Typed,
-) -> Result<Typed, Refusal>
+    a: TypedExpression,
+    b: TypedExpression,
+) -> Result<TypedExpression, Refusal>
     ensures { Gives (spec.with_value structs.now at op a b) result }
 {
     match op {
@@ -45,16 +50,16 @@ fn with_value(
 }
 
 /// An assignment.
-pub fn assigned(
+pub fn assign(
     alloc: Global,
     structs: &[StructDef],
     at: u32,
     op: AssignOp,
-    a: Typed,
-    b: Typed,
-) -> Result<Typed, Refusal>
-    ensures { Gives (spec.assigned structs.now at op a b) result }
+    a: TypedExpression,
+    b: TypedExpression,
+) -> Result<TypedExpression, Refusal>
+    ensures { Gives (spec.assign structs.now at op a b) result }
 {
-    let value = decayed(alloc, b)?;
+    let value = decay(alloc, b)?;
     with_value(alloc, structs, at, op, a, value)
 }

@@ -8,12 +8,18 @@ use c_place_rules::places::index;
 use c_tree::{BinaryOp, Box};
 use c_type_rules::arithmetic::{arithmetic, difference, shift, sum};
 use c_type_rules::comparisons::{comparison, condition, logical};
-use c_type_rules::conversions::{choice, decayed, equality};
-use c_type_rules::{Refusal, Typed};
+use c_type_rules::conversions::{choice, decay, equality};
+use c_type_rules::{Refusal, TypedExpression};
 use c_typed_tree::{StructDef, TExpr};
 use std::alloc::Global;
 
-fn equal(alloc: Global, at: u32, op: BinaryOp, a: Typed, b: Typed) -> Result<Typed, Refusal>
+fn equal(
+    alloc: Global,
+    at: u32,
+    op: BinaryOp,
+    a: TypedExpression,
+    b: TypedExpression,
+) -> Result<TypedExpression, Refusal>
     ensures { Gives (spec.equal at op a b) result }
 {
     let null_left = is_null_for(&b.ty, &a);
@@ -27,9 +33,9 @@ fn between(
     structs: &[StructDef],
     at: u32,
     op: BinaryOp,
-    a: Typed,
-    b: Typed,
-) -> Result<Typed, Refusal>
+    a: TypedExpression,
+    b: TypedExpression,
+) -> Result<TypedExpression, Refusal>
     ensures { Gives (spec.between structs.now at op a b) result }
 {
     match op {
@@ -60,36 +66,36 @@ pub fn binary(
     structs: &[StructDef],
     at: u32,
     op: BinaryOp,
-    a: Typed,
-    b: Typed,
-) -> Result<Typed, Refusal>
+    a: TypedExpression,
+    b: TypedExpression,
+) -> Result<TypedExpression, Refusal>
     ensures { Gives (spec.binary structs.now at op a b) result }
 {
-    let left = decayed(alloc, a)?;
-    let right = decayed(alloc, b)?;
+    let left = decay(alloc, a)?;
+    let right = decay(alloc, b)?;
     between(alloc, structs, at, op, left, right)
 }
 
 /// `a[b]`.
-pub fn indexed(
+pub fn subscript(
     alloc: Global,
     structs: &[StructDef],
     at: u32,
-    a: Typed,
-    b: Typed,
-) -> Result<Typed, Refusal>
-    ensures { Gives (spec.indexed structs.now at a b) result }
+    a: TypedExpression,
+    b: TypedExpression,
+) -> Result<TypedExpression, Refusal>
+    ensures { Gives (spec.subscript structs.now at a b) result }
 {
-    let left = decayed(alloc, a)?;
-    let right = decayed(alloc, b)?;
+    let left = decay(alloc, a)?;
+    let right = decay(alloc, b)?;
     index(alloc, structs, at, left, right)
 }
 
 /// A condition.
-fn tested(alloc: Global, c: Typed) -> Result<Box<TExpr>, Refusal>
-    ensures { Gives (spec.tested c) result }
+fn condition_tree(alloc: Global, c: TypedExpression) -> Result<Box<TExpr>, Refusal>
+    ensures { Gives (spec.condition_tree c) result }
 {
-    let value = decayed(alloc, c)?;
+    let value = decay(alloc, c)?;
     condition(value)
 }
 
@@ -98,23 +104,29 @@ fn between_arms(
     alloc: Global,
     at: u32,
     condition: Box<TExpr>,
-    a: Typed,
-    b: Typed,
-) -> Result<Typed, Refusal>
+    a: TypedExpression,
+    b: TypedExpression,
+) -> Result<TypedExpression, Refusal>
     ensures { Gives (spec.between_arms at condition a b) result }
 {
-    let holds = decayed(alloc, a)?;
-    let fails = decayed(alloc, b)?;
+    let holds = decay(alloc, a)?;
+    let fails = decay(alloc, b)?;
     let null_left = is_null_for(&fails.ty, &holds);
     let null_right = is_null_for(&holds.ty, &fails);
     choice(alloc, at, condition, holds, fails, null_left, null_right)
 }
 
 /// `?:`. Its arms are judged where its condition is without fault.
-pub fn chosen(alloc: Global, at: u32, c: Typed, a: Typed, b: Typed) -> Result<Typed, Refusal>
-    ensures { Gives (spec.chosen at c a b) result }
+pub fn conditional(
+    alloc: Global,
+    at: u32,
+    c: TypedExpression,
+    a: TypedExpression,
+    b: TypedExpression,
+) -> Result<TypedExpression, Refusal>
+    ensures { Gives (spec.conditional at c a b) result }
 {
-    match tested(alloc, c) {
+    match condition_tree(alloc, c) {
         Ok(condition) => between_arms(alloc, at, condition, a, b),
         Err(Refusal::Refused(fault)) => Err(Refusal::Refused(fault)),
         Err(Refusal::NoMemory) => Err(Refusal::NoMemory),

@@ -7,27 +7,37 @@ use crate::null::is_null_for;
 use c_declared_types::DeclaredType;
 use c_place_rules::members::size;
 use c_type_faults::Kind;
-use c_type_rules::conversions::{cast, decayed};
-use c_type_rules::{Refusal, Typed, refused};
+use c_type_rules::conversions::{cast, decay};
+use c_type_rules::{Refusal, TypedExpression, refuse};
 use c_typed_tree::{CType, StructDef};
 use std::alloc::Global;
 
-fn cast_value(alloc: Global, at: u32, to: CType, a: Typed) -> Result<Typed, Refusal>
+fn cast_value(
+    alloc: Global,
+    at: u32,
+    to: CType,
+    a: TypedExpression,
+) -> Result<TypedExpression, Refusal>
     ensures { Gives (spec.cast_value at to a) result }
 {
-    let value = decayed(alloc, a)?;
+    let value = decay(alloc, a)?;
     let null = is_null_for(&to, &value);
     cast(alloc, at, to, value, null)
 }
 
 /// A cast to the type that a type name gives.
-pub fn cast_to(alloc: Global, at: u32, to: DeclaredType, a: Typed) -> Result<Typed, Refusal>
+pub fn cast_to(
+    alloc: Global,
+    at: u32,
+    to: DeclaredType,
+    a: TypedExpression,
+) -> Result<TypedExpression, Refusal>
     ensures { Gives (spec.cast_to at to a) result }
 {
     match to {
         DeclaredType::Value(ty) => cast_value(alloc, at, ty, a),
-        DeclaredType::Unsized(_) => Err(refused(at, Kind::BadConversion)),
-        DeclaredType::Function { .. } => Err(refused(at, Kind::BadConversion)),
+        DeclaredType::Unsized(_) => Err(refuse(at, Kind::BadConversion)),
+        DeclaredType::Function { .. } => Err(refuse(at, Kind::BadConversion)),
     }
 }
 
@@ -37,12 +47,12 @@ pub fn size_of_type(
     structs: &[StructDef],
     at: u32,
     of: &DeclaredType,
-) -> Result<Typed, Refusal>
+) -> Result<TypedExpression, Refusal>
     ensures { Gives (spec.size_of_type structs.now at of.now) result }
 {
     match of {
         DeclaredType::Value(ty) => size(alloc, structs, at, ty),
-        DeclaredType::Unsized(_) => Err(refused(at, Kind::BadOperand)),
-        DeclaredType::Function { .. } => Err(refused(at, Kind::BadOperand)),
+        DeclaredType::Unsized(_) => Err(refuse(at, Kind::BadOperand)),
+        DeclaredType::Function { .. } => Err(refuse(at, Kind::BadOperand)),
     }
 }

@@ -11,8 +11,8 @@ mod casts;
 mod null;
 mod unary_operators;
 
-pub use assignments::assigned;
-pub use binary_operators::{binary, chosen, indexed};
+pub use assignments::assign;
+pub use binary_operators::{binary, conditional, subscript};
 pub use casts::{cast_to, size_of_type};
-pub use null::taken;
+pub use null::take_value;
 pub use unary_operators::unary;

@@ -6,13 +6,13 @@ ghost use Rattle.c_type_rules.specs.Rulings.{Gives};
 
 use c_constants::{is_null_constant, is_null_void};
 use c_tree::Box;
-use c_type_rules::conversions::{decayed, wanted};
+use c_type_rules::conversions::{decay, value_for_type};
 use c_type_rules::types::{is_integer, is_pointer};
-use c_type_rules::{Refusal, Typed};
+use c_type_rules::{Refusal, TypedExpression};
 use c_typed_tree::{CType, TExpr};
 use std::alloc::Global;
 
-fn is_null(a: &Typed) -> bool
+fn is_null(a: &TypedExpression) -> bool
     ensures { result ≡ spec.is_null a.now }
 {
     if is_integer(&a.ty) {
@@ -22,7 +22,7 @@ fn is_null(a: &Typed) -> bool
 }
 
 /// Whether it is a null pointer constant, asked where a type is a pointer's.
-pub(crate) fn is_null_for(to: &CType, a: &Typed) -> bool
+pub(crate) fn is_null_for(to: &CType, a: &TypedExpression) -> bool
     ensures { result ≡ spec.is_null_for to.now a.now }
 {
     if is_pointer(to) {
@@ -32,10 +32,10 @@ pub(crate) fn is_null_for(to: &CType, a: &Typed) -> bool
 }
 
 /// A value where one of a type is wanted: an argument, an initialiser, the operand of `return`.
-pub fn taken(alloc: Global, to: &CType, a: Typed) -> Result<Box<TExpr>, Refusal>
-    ensures { Gives (spec.taken to.now a) result }
+pub fn take_value(alloc: Global, to: &CType, a: TypedExpression) -> Result<Box<TExpr>, Refusal>
+    ensures { Gives (spec.take_value to.now a) result }
 {
-    let value = decayed(alloc, a)?;
+    let value = decay(alloc, a)?;
     let null = is_null_for(to, &value);
-    wanted(alloc, to, value, null)
+    value_for_type(alloc, to, value, null)
 }

@@ -7,29 +7,39 @@ use c_place_rules::places::{address, dereference, step_before};
 use c_tree::UnaryOp;
 use c_type_rules::arithmetic::unary_arithmetic;
 use c_type_rules::comparisons::negation;
-use c_type_rules::conversions::decayed;
-use c_type_rules::{Refusal, Typed};
+use c_type_rules::conversions::decay;
+use c_type_rules::{Refusal, TypedExpression};
 use c_typed_tree::StructDef;
 use std::alloc::Global;
 
-fn led_to(alloc: Global, structs: &[StructDef], at: u32, a: Typed) -> Result<Typed, Refusal>
+fn led_to(
+    alloc: Global,
+    structs: &[StructDef],
+    at: u32,
+    a: TypedExpression,
+) -> Result<TypedExpression, Refusal>
     ensures { Gives (spec.led_to structs.now at a) result }
 {
-    let value = decayed(alloc, a)?;
+    let value = decay(alloc, a)?;
     dereference(alloc, structs, at, value)
 }
 
-fn promoted(alloc: Global, at: u32, op: UnaryOp, a: Typed) -> Result<Typed, Refusal>
-    ensures { Gives (spec.promoted at op a) result }
+fn prefix_arithmetic(
+    alloc: Global,
+    at: u32,
+    op: UnaryOp,
+    a: TypedExpression,
+) -> Result<TypedExpression, Refusal>
+    ensures { Gives (spec.prefix_arithmetic at op a) result }
 {
-    let value = decayed(alloc, a)?;
+    let value = decay(alloc, a)?;
     unary_arithmetic(alloc, at, op, value)
 }
 
-fn negated(alloc: Global, at: u32, a: Typed) -> Result<Typed, Refusal>
-    ensures { Gives (spec.negated at a) result }
+fn logical_not(alloc: Global, at: u32, a: TypedExpression) -> Result<TypedExpression, Refusal>
+    ensures { Gives (spec.logical_not at a) result }
 {
-    let value = decayed(alloc, a)?;
+    let value = decay(alloc, a)?;
     negation(alloc, at, value)
 }
 
@@ -39,8 +49,8 @@ pub fn unary(
     structs: &[StructDef],
     at: u32,
     op: UnaryOp,
-    a: Typed,
-) -> Result<Typed, Refusal>
+    a: TypedExpression,
+) -> Result<TypedExpression, Refusal>
     ensures { Gives (spec.unary structs.now at op a) result }
 {
     match op {
@@ -48,9 +58,9 @@ pub fn unary(
         UnaryOp::Decrement => step_before(alloc, structs, at, UnaryOp::Decrement, a),
         UnaryOp::Address => address(alloc, at, a),
         UnaryOp::Dereference => led_to(alloc, structs, at, a),
-        UnaryOp::Plus => promoted(alloc, at, UnaryOp::Plus, a),
-        UnaryOp::Minus => promoted(alloc, at, UnaryOp::Minus, a),
-        UnaryOp::Invert => promoted(alloc, at, UnaryOp::Invert, a),
-        UnaryOp::Not => negated(alloc, at, a),
+        UnaryOp::Plus => prefix_arithmetic(alloc, at, UnaryOp::Plus, a),
+        UnaryOp::Minus => prefix_arithmetic(alloc, at, UnaryOp::Minus, a),
+        UnaryOp::Invert => prefix_arithmetic(alloc, at, UnaryOp::Invert, a),
+        UnaryOp::Not => logical_not(alloc, at, a),
     }
 }

@@ -12,7 +12,7 @@ use Rattle.c_type_faults.specs.declared.faults.Kind.TheVariants.{BadOperand, NoM
 use Rattle.c_place_rules.specs.declared.members.FoundMember.{FoundMember}
 use Rattle.c_type_rules.specs.declared.typed.Place.{Place}
 use Rattle.c_type_rules.specs.declared.typed.Place.TheVariants as p
-use Rattle.c_type_rules.specs.declared.typed.Typed.{Typed}
+use Rattle.c_type_rules.specs.declared.typed.TypedExpression.{TypedExpression}
 use Rattle.c_type_rules.specs.Rulings.{Ruling, fault}
 use Rattle.c_typed_tree.specs.Typing.{is_struct}
 use Rattle.c_type_rules.specs.Types.{points_to_struct}
@@ -27,31 +27,31 @@ place_of_member (p.Local number) = p.Local number
 place_of_member (p.Global number) = p.Elsewhere
 place_of_member p.Elsewhere = p.Elsewhere
 
-abbrev pub field_found : ℕ → Typed → Option FoundMember → Ruling Typed
+abbrev pub field_found : ℕ → TypedExpression → Option FoundMember → Ruling TypedExpression
 field_found at a None = fault at NoMember
 field_found at a (Some m) =
     Ok (record { at = at; tree = x.Field m.ty a.tree m.number; ty = m.ty; place = place_of_member a.place })
 
-abbrev pub is_struct_place : Typed → Bool
+abbrev pub is_struct_place : TypedExpression → Bool
 is_struct_place a = if is_somewhere a.place then is_struct (type_view a.ty) else false
 
-abbrev pub field : ℕ → Typed → Option FoundMember → Ruling Typed
+abbrev pub field : ℕ → TypedExpression → Option FoundMember → Ruling TypedExpression
 field at a found = if is_struct_place a then field_found at a found else fault at BadOperand
 
 -- ---- `->` of a pointer to a complete struct
 
-abbrev pub arrow_found : ℕ → Typed → Option FoundMember → Ruling Typed
+abbrev pub arrow_found : ℕ → TypedExpression → Option FoundMember → Ruling TypedExpression
 arrow_found at a None = fault at NoMember
 arrow_found at a (Some m) = Ok (led_to at m.ty (x.Arrow m.ty a.tree m.number))
 
-abbrev pub arrow : List StructDef → ℕ → Typed → Option FoundMember → Ruling Typed
+abbrev pub arrow : List StructDef → ℕ → TypedExpression → Option FoundMember → Ruling TypedExpression
 arrow ds at a found = if points_to_struct ds (type_view a.ty) then arrow_found at a found else fault at BadOperand
 
 -- ---- `sizeof` of a type that objects have, which is an `unsigned long`
 
-abbrev pub number : ℕ → IntegerType → ℕ → Typed
+abbrev pub number : ℕ → IntegerType → ℕ → TypedExpression
 number at t word = value at (integer_type t) (x.Number (integer_type t) word)
 
-abbrev pub size : List StructDef → ℕ → CType → Ruling Typed
+abbrev pub size : List StructDef → ℕ → CType → Ruling TypedExpression
 size ds at ty =
     if is_object ds (type_view ty) then Ok (number at UnsignedLong (size_of ds (type_view ty))) else fault at BadOperand

@@ -10,7 +10,7 @@ use Rattle.c_typed_tree.specs.View.{type_view}
 use Rattle.c_type_faults.specs.declared.faults.Kind.TheVariants.{BadOperand, NotAssignable}
 use Rattle.c_type_rules.specs.declared.typed.Place.{Place}
 use Rattle.c_type_rules.specs.declared.typed.Place.TheVariants as p
-use Rattle.c_type_rules.specs.declared.typed.Typed.{Typed}
+use Rattle.c_type_rules.specs.declared.typed.TypedExpression.{TypedExpression}
 use Rattle.c_type_rules.specs.Rulings.{Ruling, fault}
 use Rattle.c_typed_tree.specs.Constants.{is_integer}
 use Rattle.c_typed_tree.specs.Typing.{is_scalar, is_struct, points_to_object}
@@ -26,36 +26,36 @@ target (t.Array' _ element length) = None
 target (t.Struct number) = None
 
 -- a place that is found by a pointer
-abbrev pub led_to : ℕ → t.CType → x.TExpr → Typed
+abbrev pub led_to : ℕ → t.CType → x.TExpr → TypedExpression
 led_to at ty tree = record { at = at; tree = tree; ty = ty; place = p.Elsewhere }
 
 -- the type of what a pointer to an object leads to
 abbrev pub object_of : List StructDef → t.CType → Option t.CType
 object_of ds ty = if points_to_object ds (type_view ty) then target ty else None
 
-abbrev pub dereferenced : ℕ → t.CType → x.TExpr → Typed
-dereferenced at ty operand = led_to at ty (x.Unary ty Dereference operand)
+abbrev pub pointee : ℕ → t.CType → x.TExpr → TypedExpression
+pointee at ty operand = led_to at ty (x.Unary ty Dereference operand)
 
-abbrev pub dereference_of : ℕ → Typed → Option t.CType → Ruling Typed
+abbrev pub dereference_of : ℕ → TypedExpression → Option t.CType → Ruling TypedExpression
 dereference_of at a None = fault at BadOperand
-dereference_of at a (Some ty) = Ok (dereferenced at ty a.tree)
+dereference_of at a (Some ty) = Ok (pointee at ty a.tree)
 
-abbrev pub dereference : List StructDef → ℕ → Typed → Ruling Typed
+abbrev pub dereference : List StructDef → ℕ → TypedExpression → Ruling TypedExpression
 dereference ds at a = dereference_of at a (object_of ds a.ty)
 
 -- `[ ]` takes a pointer and an integer in either order
-abbrev pub element_at : ℕ → t.CType → (left right : x.TExpr) → Typed
+abbrev pub element_at : ℕ → t.CType → (left right : x.TExpr) → TypedExpression
 element_at at ty left right = led_to at ty (x.Index ty left right)
 
-abbrev pub indexed : ℕ → (left right : Typed) → (is_index : Bool) → Option t.CType → Ruling Typed
-indexed at a b is_index None = fault at BadOperand
-indexed at a b is_index (Some ty) =
+abbrev pub element_by_index : ℕ → (left right : TypedExpression) → (is_index : Bool) → Option t.CType → Ruling TypedExpression
+element_by_index at a b is_index None = fault at BadOperand
+element_by_index at a b is_index (Some ty) =
     if is_index then Ok (element_at at ty a.tree b.tree) else fault at BadOperand
 
-abbrev pub index : List StructDef → ℕ → (left right : Typed) → Ruling Typed
+abbrev pub index : List StructDef → ℕ → (left right : TypedExpression) → Ruling TypedExpression
 index ds at a b =
-    if points_to_object ds (type_view a.ty) then indexed at a b (is_integer (type_view b.ty)) (object_of ds a.ty)
-    else indexed at a b (is_integer (type_view a.ty)) (object_of ds b.ty)
+    if points_to_object ds (type_view a.ty) then element_by_index at a b (is_integer (type_view b.ty)) (object_of ds a.ty)
+    else element_by_index at a b (is_integer (type_view a.ty)) (object_of ds b.ty)
 
 -- ---- addresses, and what may be changed
 
@@ -65,27 +65,27 @@ is_somewhere (p.Local number) = true
 is_somewhere (p.Global number) = true
 is_somewhere p.Elsewhere = true
 
-abbrev pub address : ℕ → Typed → Ruling Typed
+abbrev pub address : ℕ → TypedExpression → Ruling TypedExpression
 address at a = if is_somewhere a.place then Ok (unary at (t.Pointer a.ty) Address a.tree) else fault a.at NotAssignable
 
 -- a place of scalar or struct type
-abbrev pub is_assignable : Typed → Bool
+abbrev pub is_assignable : TypedExpression → Bool
 is_assignable a = if is_somewhere a.place then is_scalar (type_view a.ty) || is_struct (type_view a.ty) else false
 
 -- ---- `++` and `--`, in front of their operand and behind it: integers, and pointers to objects
 
-abbrev pub is_steppable : List StructDef → Typed → Bool
+abbrev pub is_steppable : List StructDef → TypedExpression → Bool
 is_steppable ds a = is_integer (type_view a.ty) || points_to_object ds (type_view a.ty)
 
-abbrev pub step_before : List StructDef → ℕ → UnaryOp → Typed → Ruling Typed
+abbrev pub step_before : List StructDef → ℕ → UnaryOp → TypedExpression → Ruling TypedExpression
 step_before ds at op a =
     if is_assignable a then (if is_steppable ds a then Ok (unary at a.ty op a.tree) else fault at BadOperand)
     else fault a.at NotAssignable
 
-abbrev pub postfix : ℕ → t.CType → StepOp → x.TExpr → Typed
+abbrev pub postfix : ℕ → t.CType → StepOp → x.TExpr → TypedExpression
 postfix at ty op operand = value at ty (x.Postfix ty op operand)
 
-abbrev pub step_behind : List StructDef → ℕ → StepOp → Typed → Ruling Typed
+abbrev pub step_behind : List StructDef → ℕ → StepOp → TypedExpression → Ruling TypedExpression
 step_behind ds at op a =
     if is_assignable a then
     (if is_steppable ds a then Ok (postfix at a.ty op a.tree) else fault at BadOperand)

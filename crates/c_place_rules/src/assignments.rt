@@ -8,22 +8,22 @@ use crate::places::is_assignable;
 use c_arithmetic::integer_type::IntegerType;
 use c_tree::{AssignOp, Box};
 use c_type_faults::Kind;
-use c_type_rules::conversions::wanted;
-use c_type_rules::trees::converted;
+use c_type_rules::conversions::value_for_type;
+use c_type_rules::trees::convert_tree;
 use c_type_rules::types::{integer_type, points_to_object};
-use c_type_rules::{Refusal, Typed, refused, value};
+use c_type_rules::{Refusal, TypedExpression, refuse, value};
 use c_typed_tree::layout::integer_of;
 use c_typed_tree::{CType, StructDef, TExpr};
 use std::alloc::{AllocError, Global};
 
-fn assigned(
+fn assign_place(
     alloc: Global,
     at: u32,
     op: AssignOp,
-    a: Typed,
+    a: TypedExpression,
     right: Box<TExpr>,
-) -> Result<Typed, AllocError>
-    ensures { IfOk result (λ r. r ≡ spec.assigned at op a right) }
+) -> Result<TypedExpression, AllocError>
+    ensures { IfOk result (λ r. r ≡ spec.assign_place at op a right) }
 {
     let ty = a.ty.copy(alloc)?;
     let left = a.tree;
@@ -40,17 +40,23 @@ fn assigned(
 }
 
 /// `=`. It is given whether the right side is a null pointer constant.
-pub fn set(alloc: Global, at: u32, a: Typed, b: Typed, null: bool) -> Result<Typed, Refusal>
+pub fn set(
+    alloc: Global,
+    at: u32,
+    a: TypedExpression,
+    b: TypedExpression,
+    null: bool,
+) -> Result<TypedExpression, Refusal>
     ensures { Gives (spec.set at a b null) result }
 {
     if is_assignable(&a) {
-        return match wanted(alloc, &a.ty, b, null) {
-            Ok(right) => Ok(assigned(alloc, at, AssignOp::Set, a, right)?),
+        return match value_for_type(alloc, &a.ty, b, null) {
+            Ok(right) => Ok(assign_place(alloc, at, AssignOp::Set, a, right)?),
             Err(Refusal::Refused(fault)) => Err(Refusal::Refused(fault)),
             Err(Refusal::NoMemory) => Err(Refusal::NoMemory),
         };
     }
-    Err(refused(a.at, Kind::NotAssignable))
+    Err(refuse(a.at, Kind::NotAssignable))
 }
 
 fn shifts(op: AssignOp) -> bool
@@ -91,7 +97,7 @@ fn right_type(op: AssignOp, s: IntegerType, t: IntegerType) -> CType
     ensures { result ≡ spec.right_type op s t }
 {
     if shifts(op) {
-        return integer_type(t.promoted());
+        return integer_type(t.promote());
     }
     integer_type(s.common(t))
 }
@@ -102,18 +108,18 @@ fn moved_place(
     structs: &[StructDef],
     at: u32,
     op: AssignOp,
-    a: Typed,
-    b: Typed,
-) -> Result<Typed, Refusal>
+    a: TypedExpression,
+    b: TypedExpression,
+) -> Result<TypedExpression, Refusal>
     ensures { Gives (spec.moved_place structs.now at op a b) result }
 {
     if moves(op) {
         if points_to_object(structs, &a.ty) {
-            return Ok(assigned(alloc, at, op, a, b.tree)?);
+            return Ok(assign_place(alloc, at, op, a, b.tree)?);
         }
-        return Err(refused(at, Kind::BadOperand));
+        return Err(refuse(at, Kind::BadOperand));
     }
-    Err(refused(at, Kind::BadOperand))
+    Err(refuse(at, Kind::BadOperand))
 }
 
 /// A compound assignment.
@@ -122,23 +128,23 @@ pub fn compound(
     structs: &[StructDef],
     at: u32,
     op: AssignOp,
-    a: Typed,
-    b: Typed,
-) -> Result<Typed, Refusal>
+    a: TypedExpression,
+    b: TypedExpression,
+) -> Result<TypedExpression, Refusal>
     ensures { Gives (spec.compound structs.now at op a b) result }
 {
     if is_assignable(&a) {
         return match integer_of(&b.ty) {
-            None => Err(refused(at, Kind::BadOperand)),
+            None => Err(refuse(at, Kind::BadOperand)),
             Some(t) => match integer_of(&a.ty) {
                 None => moved_place(alloc, structs, at, op, a, b),
                 Some(s) => {
                     let ty = right_type(op, s, t);
-                    let right = converted(alloc, &ty, b)?;
-                    Ok(assigned(alloc, at, op, a, right)?)
+                    let right = convert_tree(alloc, &ty, b)?;
+                    Ok(assign_place(alloc, at, op, a, right)?)
                 }
             },
         };
     }
-    Err(refused(a.at, Kind::NotAssignable))
+    Err(refuse(a.at, Kind::NotAssignable))
 }

@@ -10,7 +10,7 @@ use c_arithmetic::integer_type::IntegerType;
 use c_tree::Box;
 use c_type_faults::Kind;
 use c_type_rules::types::{integer_type, is_object, is_struct, points_to_struct};
-use c_type_rules::{Place, Refusal, Typed, refused, value};
+use c_type_rules::{Place, Refusal, TypedExpression, refuse, value};
 use c_typed_tree::layout::size_of;
 use c_typed_tree::{CType, StructDef, TExpr};
 use std::alloc::{AllocError, Global};
@@ -56,17 +56,17 @@ fn field_tree(
 fn field_found(
     alloc: Global,
     at: u32,
-    a: Typed,
+    a: TypedExpression,
     found: Option<FoundMember>,
-) -> Result<Typed, Refusal>
+) -> Result<TypedExpression, Refusal>
     ensures { Gives (spec.field_found at a found) result }
 {
     match found {
-        None => Err(refused(at, Kind::NoMember)),
+        None => Err(refuse(at, Kind::NoMember)),
         Some(FoundMember { number, ty }) => {
             let place = place_of_member(a.place);
             let tree = field_tree(alloc, &ty, a.tree, number)?;
-            Ok(Typed {
+            Ok(TypedExpression {
                 at,
                 tree,
                 ty,
@@ -76,7 +76,7 @@ fn field_found(
     }
 }
 
-fn is_struct_place(a: &Typed) -> bool
+fn is_struct_place(a: &TypedExpression) -> bool
     ensures { result ≡ spec.is_struct_place a.now }
 {
     if is_somewhere(a.place) {
@@ -86,13 +86,18 @@ fn is_struct_place(a: &Typed) -> bool
 }
 
 /// `a.name`.
-pub fn field(alloc: Global, at: u32, a: Typed, found: Option<FoundMember>) -> Result<Typed, Refusal>
+pub fn field(
+    alloc: Global,
+    at: u32,
+    a: TypedExpression,
+    found: Option<FoundMember>,
+) -> Result<TypedExpression, Refusal>
     ensures { Gives (spec.field at a found) result }
 {
     if is_struct_place(&a) {
         return field_found(alloc, at, a, found);
     }
-    Err(refused(at, Kind::BadOperand))
+    Err(refuse(at, Kind::BadOperand))
 }
 
 fn arrow_tree(
@@ -117,13 +122,13 @@ fn arrow_tree(
 fn arrow_found(
     alloc: Global,
     at: u32,
-    a: Typed,
+    a: TypedExpression,
     found: Option<FoundMember>,
-) -> Result<Typed, Refusal>
+) -> Result<TypedExpression, Refusal>
     ensures { Gives (spec.arrow_found at a found) result }
 {
     match found {
-        None => Err(refused(at, Kind::NoMember)),
+        None => Err(refuse(at, Kind::NoMember)),
         Some(FoundMember { number, ty }) => {
             let tree = arrow_tree(alloc, &ty, a.tree, number)?;
             Ok(led_to(at, ty, tree))
@@ -136,19 +141,24 @@ pub fn arrow(
     alloc: Global,
     structs: &[StructDef],
     at: u32,
-    a: Typed,
+    a: TypedExpression,
     found: Option<FoundMember>,
-) -> Result<Typed, Refusal>
+) -> Result<TypedExpression, Refusal>
     ensures { Gives (spec.arrow structs.now at a found) result }
 {
     if points_to_struct(structs, &a.ty) {
         return arrow_found(alloc, at, a, found);
     }
-    Err(refused(at, Kind::BadOperand))
+    Err(refuse(at, Kind::BadOperand))
 }
 
 /// An integer, as a word of its type.
-pub fn number(alloc: Global, at: u32, t: IntegerType, word: u64) -> Result<Typed, AllocError>
+pub fn number(
+    alloc: Global,
+    at: u32,
+    t: IntegerType,
+    word: u64,
+) -> Result<TypedExpression, AllocError>
     ensures { IfOk result (λ r. r ≡ spec.number at t word) }
 {
     let tree = Box::new(
@@ -162,11 +172,16 @@ pub fn number(alloc: Global, at: u32, t: IntegerType, word: u64) -> Result<Typed
 }
 
 /// `sizeof` of a type, or of an expression of the type.
-pub fn size(alloc: Global, structs: &[StructDef], at: u32, ty: &CType) -> Result<Typed, Refusal>
+pub fn size(
+    alloc: Global,
+    structs: &[StructDef],
+    at: u32,
+    ty: &CType,
+) -> Result<TypedExpression, Refusal>
     ensures { Gives (spec.size structs.now at ty.now) result }
 {
     if is_object(structs, ty) {
         return Ok(number(alloc, at, IntegerType::UnsignedLong, size_of(structs, ty))?);
     }
-    Err(refused(at, Kind::BadOperand))
+    Err(refuse(at, Kind::BadOperand))
 }

@@ -8,7 +8,7 @@ use c_tree::{Box, StepOp, UnaryOp};
 use c_type_faults::Kind;
 use c_type_rules::trees::unary;
 use c_type_rules::types::{is_integer, is_scalar, is_struct, points_to_object};
-use c_type_rules::{Place, Refusal, Typed, refused, value};
+use c_type_rules::{Place, Refusal, TypedExpression, refuse, value};
 use c_typed_tree::{CType, StructDef, TExpr};
 use std::alloc::{AllocError, Global};
 
@@ -36,10 +36,10 @@ fn object_of(alloc: Global, structs: &[StructDef], ty: &CType) -> Result<Option<
     Ok(None)
 }
 
-pub(crate) fn led_to(at: u32, ty: CType, tree: Box<TExpr>) -> Typed
+pub(crate) fn led_to(at: u32, ty: CType, tree: Box<TExpr>) -> TypedExpression
     ensures { result ≡ spec.led_to at ty tree }
 {
-    Typed {
+    TypedExpression {
         at,
         tree,
         ty,
@@ -47,8 +47,13 @@ pub(crate) fn led_to(at: u32, ty: CType, tree: Box<TExpr>) -> Typed
     }
 }
 
-fn dereferenced(alloc: Global, at: u32, of: CType, operand: Box<TExpr>) -> Result<Typed, AllocError>
-    ensures { IfOk result (λ r. r ≡ spec.dereferenced at of operand) }
+fn pointee(
+    alloc: Global,
+    at: u32,
+    of: CType,
+    operand: Box<TExpr>,
+) -> Result<TypedExpression, AllocError>
+    ensures { IfOk result (λ r. r ≡ spec.pointee at of operand) }
 {
     let ty = of.copy(alloc)?;
     let tree = Box::new(
@@ -67,13 +72,13 @@ pub fn dereference(
     alloc: Global,
     structs: &[StructDef],
     at: u32,
-    a: Typed,
-) -> Result<Typed, Refusal>
+    a: TypedExpression,
+) -> Result<TypedExpression, Refusal>
     ensures { Gives (spec.dereference structs.now at a) result }
 {
     match object_of(alloc, structs, &a.ty)? {
-        None => Err(refused(at, Kind::BadOperand)),
-        Some(ty) => Ok(dereferenced(alloc, at, ty, a.tree)?),
+        None => Err(refuse(at, Kind::BadOperand)),
+        Some(ty) => Ok(pointee(alloc, at, ty, a.tree)?),
     }
 }
 
@@ -83,7 +88,7 @@ fn element_at(
     of: CType,
     left: Box<TExpr>,
     right: Box<TExpr>,
-) -> Result<Typed, AllocError>
+) -> Result<TypedExpression, AllocError>
     ensures { IfOk result (λ r. r ≡ spec.element_at at of left right) }
 {
     let ty = of.copy(alloc)?;
@@ -92,23 +97,23 @@ fn element_at(
 }
 
 /// An element of this type.
-fn indexed(
+fn element_by_index(
     alloc: Global,
     at: u32,
-    a: Typed,
-    b: Typed,
+    a: TypedExpression,
+    b: TypedExpression,
     is_index: bool,
     object: Option<CType>,
-) -> Result<Typed, Refusal>
-    ensures { Gives (spec.indexed at a b is_index object) result }
+) -> Result<TypedExpression, Refusal>
+    ensures { Gives (spec.element_by_index at a b is_index object) result }
 {
     match object {
-        None => Err(refused(at, Kind::BadOperand)),
+        None => Err(refuse(at, Kind::BadOperand)),
         Some(ty) => {
             if is_index {
                 return Ok(element_at(alloc, at, ty, a.tree, b.tree)?);
             }
-            Err(refused(at, Kind::BadOperand))
+            Err(refuse(at, Kind::BadOperand))
         }
     }
 }
@@ -118,19 +123,19 @@ pub fn index(
     alloc: Global,
     structs: &[StructDef],
     at: u32,
-    a: Typed,
-    b: Typed,
-) -> Result<Typed, Refusal>
+    a: TypedExpression,
+    b: TypedExpression,
+) -> Result<TypedExpression, Refusal>
     ensures { Gives (spec.index structs.now at a b) result }
 {
     if points_to_object(structs, &a.ty) {
         let is_index = is_integer(&b.ty);
         let object = object_of(alloc, structs, &a.ty)?;
-        return indexed(alloc, at, a, b, is_index, object);
+        return element_by_index(alloc, at, a, b, is_index, object);
     }
     let is_index = is_integer(&a.ty);
     let object = object_of(alloc, structs, &b.ty)?;
-    indexed(alloc, at, a, b, is_index, object)
+    element_by_index(alloc, at, a, b, is_index, object)
 }
 
 pub(crate) fn is_somewhere(place: Place) -> bool
@@ -145,18 +150,18 @@ pub(crate) fn is_somewhere(place: Place) -> bool
 }
 
 /// `&`.
-pub fn address(alloc: Global, at: u32, a: Typed) -> Result<Typed, Refusal>
+pub fn address(alloc: Global, at: u32, a: TypedExpression) -> Result<TypedExpression, Refusal>
     ensures { Gives (spec.address at a) result }
 {
     if is_somewhere(a.place) {
         let ty = CType::Pointer(Box::new(alloc, a.ty)?);
         return Ok(unary(alloc, at, ty, UnaryOp::Address, a.tree)?);
     }
-    Err(refused(a.at, Kind::NotAssignable))
+    Err(refuse(a.at, Kind::NotAssignable))
 }
 
 /// Whether an expression is a place that an assignment can change.
-pub fn is_assignable(a: &Typed) -> bool
+pub fn is_assignable(a: &TypedExpression) -> bool
     ensures { result ≡ spec.is_assignable a.now }
 {
     if is_somewhere(a.place) {
@@ -165,7 +170,7 @@ pub fn is_assignable(a: &Typed) -> bool
     false
 }
 
-fn is_steppable(structs: &[StructDef], a: &Typed) -> bool
+fn is_steppable(structs: &[StructDef], a: &TypedExpression) -> bool
     ensures { result ≡ spec.is_steppable structs.now a.now }
 {
     is_integer(&a.ty) || points_to_object(structs, &a.ty)
@@ -177,17 +182,17 @@ pub fn step_before(
     structs: &[StructDef],
     at: u32,
     op: UnaryOp,
-    a: Typed,
-) -> Result<Typed, Refusal>
+    a: TypedExpression,
+) -> Result<TypedExpression, Refusal>
     ensures { Gives (spec.step_before structs.now at op a) result }
 {
     if is_assignable(&a) {
         if is_steppable(structs, &a) {
             return Ok(unary(alloc, at, a.ty, op, a.tree)?);
         }
-        return Err(refused(at, Kind::BadOperand));
+        return Err(refuse(at, Kind::BadOperand));
     }
-    Err(refused(a.at, Kind::NotAssignable))
+    Err(refuse(a.at, Kind::NotAssignable))
 }
 
 fn postfix(
@@ -196,7 +201,7 @@ fn postfix(
     of: CType,
     op: StepOp,
     operand: Box<TExpr>,
-) -> Result<Typed, AllocError>
+) -> Result<TypedExpression, AllocError>
     ensures { IfOk result (λ r. r ≡ spec.postfix at of op operand) }
 {
     let ty = of.copy(alloc)?;
@@ -210,15 +215,15 @@ pub fn step_behind(
     structs: &[StructDef],
     at: u32,
     op: StepOp,
-    a: Typed,
-) -> Result<Typed, Refusal>
+    a: TypedExpression,
+) -> Result<TypedExpression, Refusal>
     ensures { Gives (spec.step_behind structs.now at op a) result }
 {
     if is_assignable(&a) {
         if is_steppable(structs, &a) {
             return Ok(postfix(alloc, at, a.ty, op, a.tree)?);
         }
-        return Err(refused(at, Kind::BadOperand));
+        return Err(refuse(at, Kind::BadOperand));
     }
-    Err(refused(a.at, Kind::NotAssignable))
+    Err(refuse(a.at, Kind::NotAssignable))
 }

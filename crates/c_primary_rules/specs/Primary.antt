@@ -8,43 +8,43 @@ use Rattle.c_typed_tree.specs.declared.types.CType as t
 use Rattle.c_typed_tree.specs.declared.expressions.TExpr as x
 use Rattle.c_type_faults.specs.declared.faults.Kind.TheVariants.{BadLiteral}
 use Rattle.c_type_rules.specs.declared.typed.Place.TheVariants as p
-use Rattle.c_type_rules.specs.declared.typed.Typed.{Typed}
+use Rattle.c_type_rules.specs.declared.typed.TypedExpression.{TypedExpression}
 use Rattle.c_type_rules.specs.Rulings.{Ruling, fault}
 use Rattle.c_type_rules.specs.Values.{integer_type}
 use Rattle.c_place_rules.specs.Members.{number}
 
 -- ---- constants: numbers of the type that their spelling gives
 
-abbrev pub literal : ℕ → Option IntegerLiteral → Ruling Typed
+abbrev pub literal : ℕ → Option IntegerLiteral → Ruling TypedExpression
 literal at None = fault at BadLiteral
 literal at (Some l) = Ok (number at l.ty l.word)
 
-abbrev pub integer_constant : ℕ → (spelling : List ℕ) → Ruling Typed
+abbrev pub integer_constant : ℕ → (spelling : List ℕ) → Ruling TypedExpression
 integer_constant at spelling = literal at (integer spelling)
 
-abbrev pub character_value : ℕ → Option ℕ → Ruling Typed
+abbrev pub character_value : ℕ → Option ℕ → Ruling TypedExpression
 character_value at None = fault at BadLiteral
 character_value at (Some word) = Ok (number at i.Int word)
 
-abbrev pub character_constant : ℕ → (spelling : List ℕ) → Ruling Typed
+abbrev pub character_constant : ℕ → (spelling : List ℕ) → Ruling TypedExpression
 character_constant at spelling = character_value at (character spelling)
 
 -- an enumeration constant is an `int` (6.7.2.2)
-abbrev pub enumeration_constant : ℕ → (word : ℕ) → Typed
+abbrev pub enumeration_constant : ℕ → (word : ℕ) → TypedExpression
 enumeration_constant at word = number at i.Int word
 
 -- ---- names of objects, and string literals
 
-abbrev pub local : ℕ → (number : ℕ) → t.CType → Typed
+abbrev pub local : ℕ → (number : ℕ) → t.CType → TypedExpression
 local at number ty = record { at = at; tree = x.Local ty number; ty = ty; place = p.Local number }
 
 -- an object of static storage
-abbrev pub object : ℕ → (number : ℕ) → t.CType → Typed
+abbrev pub object : ℕ → (number : ℕ) → t.CType → TypedExpression
 object at number ty = record { at = at; tree = x.Global ty number; ty = ty; place = p.Global number }
 
 -- a string literal is an array of `char`, with the zero at its end (6.4.5)
 abbrev pub text_type : (length : ℕ) → t.CType
 text_type length = t.Array (integer_type i.Char) length
 
-abbrev pub text : ℕ → (number length : ℕ) → Typed
+abbrev pub text : ℕ → (number length : ℕ) → TypedExpression
 text at number length = object at number (text_type length)

@@ -6,19 +6,23 @@ ghost use Rattle.c_type_rules.specs.Rulings.{Gives};
 
 use c_tree::{Box, Seq};
 use c_type_faults::Kind;
-use c_type_rules::{Refusal, Typed, refused, value};
+use c_type_rules::{Refusal, TypedExpression, refuse, value};
 use c_typed_tree::{CType, Callee, TExpr};
 use std::alloc::{AllocError, Global};
 
 /// The arguments of a function with these parameters. Whether each is converted to the type of its parameter is not
 /// judged here.
-pub fn counted(at: u32, parameters: &[CType], arguments: Seq<Typed>) -> Result<Seq<Typed>, Refusal>
-    ensures { Gives (spec.counted at parameters.now arguments) result }
+pub fn count_arguments(
+    at: u32,
+    parameters: &[CType],
+    arguments: Seq<TypedExpression>,
+) -> Result<Seq<TypedExpression>, Refusal>
+    ensures { Gives (spec.count_arguments at parameters.now arguments) result }
 {
     if arguments.len() == parameters.len() {
         return Ok(arguments);
     }
-    Err(refused(at, Kind::BadCall))
+    Err(refuse(at, Kind::BadCall))
 }
 
 /// A call with arguments that are converted to the types of the parameters.
@@ -28,7 +32,7 @@ pub fn call(
     callee: Callee,
     of: &CType,
     arguments: Seq<TExpr>,
-) -> Result<Typed, AllocError>
+) -> Result<TypedExpression, AllocError>
     ensures { IfOk result (λ r. r ≡ spec.call at callee of.now arguments) }
 {
     let ty = of.copy(alloc)?;

@@ -4,49 +4,53 @@ ghost use Rattle.std.specs.Prelude.{◌≡◌, IfOk, OnOk};
 ghost use Rattle.c_primary_rules.specs.Commas as spec;
 
 use c_tree::{Box, Seq};
-use c_type_rules::conversions::decayed;
-use c_type_rules::{Typed, value};
+use c_type_rules::conversions::decay;
+use c_type_rules::{TypedExpression, value};
 use c_typed_tree::{CType, TExpr};
 use std::alloc::{AllocError, Global};
 
 /// Operands that were gathered: their trees, and the type of the last.
 #[derive(Drop)]
-pub struct Gathered {
+pub struct CommaOperands {
     pub trees: Seq<TExpr>,
     pub last: CType,
 }
 
 /// One value more.
-fn gather(gathered: &mut Gathered, value: Typed) -> Result<(), AllocError>
+fn gather(gathered: &mut CommaOperands, value: TypedExpression) -> Result<(), AllocError>
     ensures { OnOk result (gathered.new ≡ spec.with_value value gathered.old) }
 {
-    let Typed { tree, ty, .. } = value;
+    let TypedExpression { tree, ty, .. } = value;
     gathered.trees.push(Box::into_inner(tree))?;
     gathered.last = ty;
     Ok(())
 }
 
 /// The operands, gathered in their order.
-fn gather_all(alloc: Global, operands: Seq<Typed>) -> Result<Gathered, AllocError>
+fn gather_all(alloc: Global, operands: Seq<TypedExpression>) -> Result<CommaOperands, AllocError>
     ensures { IfOk result (λ r. r ≡ spec.gathered_from spec.nothing operands) }
 {
-    let mut gathered = Gathered {
+    let mut gathered = CommaOperands {
         trees: Seq::new(alloc),
         last: CType::Void,
     };
     let mut rest = Seq::into_vec(operands).into_iter();
     while let Some(operand) = rest.next() {
-        let value = decayed(alloc, operand)?;
+        let value = decay(alloc, operand)?;
         gather(&mut gathered, value)?;
     }
     Ok(gathered)
 }
 
 /// The operands of commas, which are taken as values. The last one is the value of all.
-pub fn comma(alloc: Global, at: u32, operands: Seq<Typed>) -> Result<Typed, AllocError>
+pub fn comma(
+    alloc: Global,
+    at: u32,
+    operands: Seq<TypedExpression>,
+) -> Result<TypedExpression, AllocError>
     ensures { IfOk result (λ r. r ≡ spec.comma at operands) }
 {
-    let Gathered { trees, last } = gather_all(alloc, operands)?;
+    let CommaOperands { trees, last } = gather_all(alloc, operands)?;
     let ty = last.copy(alloc)?;
     let tree = Box::new(
         alloc,

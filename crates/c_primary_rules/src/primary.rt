@@ -11,32 +11,40 @@ use c_place_rules::members::number;
 use c_tree::Box;
 use c_type_faults::Kind;
 use c_type_rules::types::integer_type;
-use c_type_rules::{Place, Refusal, Typed, refused};
+use c_type_rules::{Place, Refusal, TypedExpression, refuse};
 use c_typed_tree::{CType, TExpr};
 use std::alloc::{AllocError, Global};
 
 /// An integer constant, by its spelling.
-pub fn integer_constant(alloc: Global, at: u32, spelling: &[u8]) -> Result<Typed, Refusal>
+pub fn integer_constant(alloc: Global, at: u32, spelling: &[u8]) -> Result<TypedExpression, Refusal>
     ensures { Gives (spec.integer_constant at spelling.now) result }
 {
     match integer(spelling) {
-        None => Err(refused(at, Kind::BadLiteral)),
+        None => Err(refuse(at, Kind::BadLiteral)),
         Some(literal) => Ok(number(alloc, at, literal.ty, literal.word)?),
     }
 }
 
 /// A character constant, by its spelling.
-pub fn character_constant(alloc: Global, at: u32, spelling: &[u8]) -> Result<Typed, Refusal>
+pub fn character_constant(
+    alloc: Global,
+    at: u32,
+    spelling: &[u8],
+) -> Result<TypedExpression, Refusal>
     ensures { Gives (spec.character_constant at spelling.now) result }
 {
     match character(spelling) {
-        None => Err(refused(at, Kind::BadLiteral)),
+        None => Err(refuse(at, Kind::BadLiteral)),
         Some(word) => Ok(number(alloc, at, IntegerType::Int, word)?),
     }
 }
 
 /// An enumeration constant, as a word of the type `int`.
-pub fn enumeration_constant(alloc: Global, at: u32, word: u64) -> Result<Typed, AllocError>
+pub fn enumeration_constant(
+    alloc: Global,
+    at: u32,
+    word: u64,
+) -> Result<TypedExpression, AllocError>
     ensures { IfOk result (λ r. r ≡ spec.enumeration_constant at word) }
 {
     number(alloc, at, IntegerType::Int, word)
@@ -50,12 +58,12 @@ fn local_tree(alloc: Global, of: &CType, number: u32) -> Result<Box<TExpr>, Allo
 }
 
 /// The local or parameter with a number.
-pub fn local(alloc: Global, at: u32, number: u32, of: &CType) -> Result<Typed, AllocError>
+pub fn local(alloc: Global, at: u32, number: u32, of: &CType) -> Result<TypedExpression, AllocError>
     ensures { IfOk result (λ r. r ≡ spec.local at number of.now) }
 {
     let tree = local_tree(alloc, of, number)?;
     let ty = of.copy(alloc)?;
-    Ok(Typed {
+    Ok(TypedExpression {
         at,
         tree,
         ty,
@@ -71,12 +79,17 @@ fn object_tree(alloc: Global, of: &CType, number: u32) -> Result<Box<TExpr>, All
 }
 
 /// The object of static storage with a number.
-pub fn object(alloc: Global, at: u32, number: u32, of: &CType) -> Result<Typed, AllocError>
+pub fn object(
+    alloc: Global,
+    at: u32,
+    number: u32,
+    of: &CType,
+) -> Result<TypedExpression, AllocError>
     ensures { IfOk result (λ r. r ≡ spec.object at number of.now) }
 {
     let tree = object_tree(alloc, of, number)?;
     let ty = of.copy(alloc)?;
-    Ok(Typed {
+    Ok(TypedExpression {
         at,
         tree,
         ty,
@@ -92,7 +105,7 @@ pub fn text_type(alloc: Global, length: u64) -> Result<CType, AllocError>
 }
 
 /// A string literal, which is the object of static storage with a number.
-pub fn text(alloc: Global, at: u32, number: u32, length: u64) -> Result<Typed, AllocError>
+pub fn text(alloc: Global, at: u32, number: u32, length: u64) -> Result<TypedExpression, AllocError>
     ensures { IfOk result (λ r. r ≡ spec.text at number length) }
 {
     let ty = text_type(alloc, length)?;

@@ -7,33 +7,33 @@ ghost use Rattle.c_type_rules.specs.Rulings.{Gives};
 use c_arithmetic::integer_type::IntegerType;
 use c_tree::Box;
 use c_type_faults::Kind;
-use c_type_rules::trees::converted;
+use c_type_rules::trees::convert_tree;
 use c_type_rules::types::integer_type;
-use c_type_rules::{Refusal, Typed, refused};
+use c_type_rules::{Refusal, TypedExpression, refuse};
 use c_typed_tree::TExpr;
 use c_typed_tree::layout::integer_of;
 use std::alloc::{AllocError, Global};
 
 /// The operand of a `switch`, promoted, with its promoted type.
 #[derive(Drop)]
-pub struct Switched {
+pub struct SwitchValue {
     pub tree: Box<TExpr>,
     pub ty: IntegerType,
 }
 
-fn in_type(alloc: Global, ty: IntegerType, a: Typed) -> Result<Switched, AllocError>
+fn in_type(alloc: Global, ty: IntegerType, a: TypedExpression) -> Result<SwitchValue, AllocError>
     ensures { IfOk result (λ r. r ≡ spec.in_type ty a) }
 {
-    let tree = converted(alloc, &integer_type(ty), a)?;
-    Ok(Switched { tree, ty })
+    let tree = convert_tree(alloc, &integer_type(ty), a)?;
+    Ok(SwitchValue { tree, ty })
 }
 
 /// The operand of a `switch`.
-pub fn switch_operand(alloc: Global, a: Typed) -> Result<Switched, Refusal>
+pub fn switch_operand(alloc: Global, a: TypedExpression) -> Result<SwitchValue, Refusal>
     ensures { Gives (spec.switch_operand a) result }
 {
     match integer_of(&a.ty) {
-        None => Err(refused(a.at, Kind::BadOperand)),
-        Some(t) => Ok(in_type(alloc, t.promoted(), a)?),
+        None => Err(refuse(a.at, Kind::BadOperand)),
+        Some(t) => Ok(in_type(alloc, t.promote(), a)?),
     }
 }

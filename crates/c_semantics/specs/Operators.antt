@@ -9,7 +9,7 @@ use Rattle.c_arithmetic.specs.declared.integer_type.IntegerType.{IntegerType}
 use Rattle.c_arithmetic.specs.declared.integer_type.IntegerType.TheVariants as i
 use Rattle.c_arithmetic.specs.declared.outcome.ArithmeticOutcome.{ArithmeticOutcome}
 use Rattle.c_arithmetic.specs.declared.outcome.ArithmeticOutcome.TheVariants as o
-use Rattle.c_arithmetic.specs.IntegerTypes.{bytes, is_signed, promoted}
+use Rattle.c_arithmetic.specs.IntegerTypes.{bytes, is_signed, promote}
 use Rattle.c_arithmetic.specs.Words.{value, word}
 use Rattle.c_arithmetic.specs.Operations.{conversion, negation, complement, truth}
 use Rattle.c_tree.specs.declared.expressions.UnaryOp.{UnaryOp}
@@ -147,8 +147,8 @@ operator_of a.Or = Some b.Or
 -- the type in which an operator is done: that of the right side, to which both were converted, and in a shift the
 -- promoted one of the left
 abbrev pub operation_type : BinaryOp → (left right : IntegerType) → IntegerType
-operation_type b.ShiftLeft left right = promoted left
-operation_type b.ShiftRight left right = promoted left
+operation_type b.ShiftLeft left right = promote left
+operation_type b.ShiftRight left right = promote left
 operation_type op left right = right
 
 -- an integer is combined with another one, and the result is an integer of its own type again
@@ -171,7 +171,7 @@ step_operator s.Decrement = b.Subtract
 
 -- the type of the 1: the promoted one of an integer, and `int` beside a pointer
 abbrev pub one_type : PlainType → PlainType
-one_type (Int n s) = Int (bytes (promoted (integer_of (Int n s)))) (is_signed (promoted (integer_of (Int n s))))
+one_type (Int n s) = Int (bytes (promote (integer_of (Int n s)))) (is_signed (promote (integer_of (Int n s))))
 one_type _ = Int 4 true
 
 abbrev pub stepped : List StructDef → StepOp → PlainType → Value → Run Value

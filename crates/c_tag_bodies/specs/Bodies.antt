@@ -11,13 +11,13 @@ use Rattle.c_expressions.specs.Expressions.{derive}
 use Rattle.c_tag_bodies.specs.declared.members.Members.{Members}
 use Rattle.c_tag_bodies.specs.Enums.{behind, constant_row}
 use Rattle.c_tag_bodies.specs.Members.{no_members, member_declared}
-use Rattle.c_tag_bodies.specs.Structs.{Defined, with_body, enum_begun, struct_begun, struct_ended}
+use Rattle.c_tag_bodies.specs.Structs.{DefinedTags, with_body, enum_begun, struct_begun, struct_ended}
 
 -- the tags that have a body, the names in scope, and what was noted
 abbrev pub Scope : Type 0
-Scope = Defined × State
+Scope = DefinedTags × State
 
-abbrev pub beside : {A : Type 0} → Defined → A × State → A × Scope
+abbrev pub beside : {A : Type 0} → DefinedTags → A × State → A × Scope
 beside ts x = (x.0, (ts, x.1))
 
 -- ---- the parts of a body, with what stands between them

@@ -3,21 +3,21 @@ use Rattle.std.specs.Prelude.{ℕ, if◌then◌else◌, List, Option, Some, None
 use Rattle.c_scopes.specs.Names.{find}
 use Rattle.c_tree.specs.declared.expressions.Expr.TheBlock as k
 use Rattle.c_type_faults.specs.declared.faults.Kind.TheVariants.{Redeclared}
-use Rattle.c_type_rules.specs.declared.typed.Typed.{Typed}
+use Rattle.c_type_rules.specs.declared.typed.TypedExpression.{TypedExpression}
 use Rattle.c_constant_rules.specs.Values.{given_value, next_value}
 use Rattle.c_checks.specs.declared.meanings.Meaning.{Meaning}
 use Rattle.c_checks.specs.declared.meanings.Meaning.TheVariants as m
-use Rattle.c_checks.specs.Checks.{Check, and_then, each, noted}
+use Rattle.c_checks.specs.Checks.{Check, and_then, each, note_fault}
 use Rattle.c_checks.specs.Notes.{with_fault}
 use Rattle.c_checks.specs.Scopes.{with_name, stands_here}
 use Rattle.c_judgements.specs.Types.{State, within}
 use Rattle.c_expressions.specs.Expressions.{judge}
 
-abbrev pub given : Typed → Check (Option ℕ)
-given a n = noted (given_value a) n
+abbrev pub explicit_value : TypedExpression → Check (Option ℕ)
+explicit_value a n = note_fault (given_value a) n
 
 abbrev pub next : ℕ → (before : ℕ) → Check (Option ℕ)
-next at before n = noted (next_value at before) n
+next at before n = note_fault (next_value at before) n
 
 -- without an expression the first is 0, and each other one is 1 above the one before it, if that has no fault
 abbrev pub value_behind : ℕ → (before : Option (Option ℕ)) → Check (Option ℕ)
@@ -27,7 +27,7 @@ value_behind at (Some before) n = each before (next at) n
 abbrev pub value_held : ℕ → k.Held-Constant-value → (before : Option (Option ℕ)) → State → Option ℕ × State
 value_held at k.Constant-value-None' before s = within s.0 (value_behind at before s.1)
 value_held at (k.Constant-value-Some' x) before s =
-    and_then (judge x s) (λ a u. within u.0 (each a given u.1))
+    and_then (judge x s) (λ a u. within u.0 (each a explicit_value u.1))
 
 abbrev pub constant_meaning : Option ℕ → Meaning
 constant_meaning None = m.Faulty

@@ -18,20 +18,20 @@ use Rattle.c_tag_bodies.specs.declared.members.Members.{Members}
 use Rattle.c_tag_bodies.specs.Members.{is_member}
 
 -- the tags that have a body, from its beginning on: there is one at most for each (6.7.2.3)
-abbrev pub Defined : Type 0
-Defined = List (Entry (Unit {0}))
+abbrev pub DefinedTags : Type 0
+DefinedTags = List (Entry (Unit {0}))
 
-abbrev pub with_body : (tag : Option (List ℕ)) → Defined → Defined
+abbrev pub with_body : (tag : Option (List ℕ)) → DefinedTags → DefinedTags
 with_body None ts = ts
 with_body (Some name) ts = record { name = name; value = tt } ∷ ts
 
 -- ---- where a body begins: its tag is in scope there (6.2.1)
 
-abbrev pub tagged_body : Defined → ℕ → List ℕ → Notes → Notes
+abbrev pub tagged_body : DefinedTags → ℕ → List ℕ → Notes → Notes
 tagged_body ts at name n =
     if is_some (find name ts) then with_fault at Redeclared n else (tagged_enum at name n).1
 
-abbrev pub enum_begun : Defined → ℕ → (tag : Option (List ℕ)) → Notes → Notes
+abbrev pub enum_begun : DefinedTags → ℕ → (tag : Option (List ℕ)) → Notes → Notes
 enum_begun ts at None n = n
 enum_begun ts at (Some name) n = tagged_body ts at name n
 
@@ -41,19 +41,19 @@ number_of (Some (d.Value ty)) = struct_number (type_view ty)
 number_of (Some (d.Unsized element)) = None
 number_of (Some (d.Function of parameters)) = None
 
-abbrev pub unnamed : Check (Option ℕ)
-unnamed n = and_then (new_struct (incomplete []) n) (λ number. pure (Some number))
+abbrev pub add_untagged : Check (Option ℕ)
+add_untagged n = and_then (new_struct (incomplete []) n) (λ number. pure (Some number))
 
-abbrev pub numbered : ℕ → List ℕ → Check (Option ℕ)
-numbered at name n = and_then (tagged_struct at name n) (λ ty. pure (number_of ty))
+abbrev pub number_for_tag : ℕ → List ℕ → Check (Option ℕ)
+number_for_tag at name n = and_then (tagged_struct at name n) (λ ty. pure (number_of ty))
 
 abbrev pub no_body : ℕ → Check (Option ℕ)
 no_body at = fault at Redeclared
 
 -- the number of the struct that the body is of, unless this is no body of its tag
-abbrev pub struct_begun : Defined → ℕ → (tag : Option (List ℕ)) → Check (Option ℕ)
-struct_begun ts at None n = unnamed n
-struct_begun ts at (Some name) n = if is_some (find name ts) then no_body at n else numbered at name n
+abbrev pub struct_begun : DefinedTags → ℕ → (tag : Option (List ℕ)) → Check (Option ℕ)
+struct_begun ts at None n = add_untagged n
+struct_begun ts at (Some name) n = if is_some (find name ts) then no_body at n else number_for_tag at name n
 
 -- ---- where the body of a struct ends
 
@@ -100,11 +100,11 @@ too_large at true n = n
 too_large at false n = with_fault at BadType n
 
 -- a struct has the members that are without a fault
-abbrev pub completed : ℕ → (number : ℕ) → Members → Option StructDef → Notes → Notes
-completed at number m None n = too_large at m.faulty n
-completed at number m (Some structure) n = with_struct number structure m.names n
+abbrev pub complete : ℕ → (number : ℕ) → Members → Option StructDef → Notes → Notes
+complete at number m None n = too_large at m.faulty n
+complete at number m (Some structure) n = with_struct number structure m.names n
 
 abbrev pub struct_ended : ℕ → (tag : Option (List ℕ)) → (number : Option ℕ) → Members → Notes → Notes
 struct_ended at tag None m n = n
 struct_ended at tag (Some number) m n =
-    with_untagged at tag number (completed at number m (struct_where n.structs (tag_name tag) m.fields) n)
+    with_untagged at tag number (complete at number m (struct_where n.structs (tag_name tag) m.fields) n)

@@ -1,16 +1,16 @@
 //! Enumeration constants (C99 6.7.2.2).
 
 ghost use Rattle.std.specs.Prelude.{◌≡◌, OnOk, None};
-ghost use Rattle.c_checks.specs.Checks.{Answers, each};
+ghost use Rattle.c_checks.specs.Checks.{Finds, each};
 ghost use Rattle.c_tag_bodies.specs.Enums as spec;
 ghost use Rattle.c_tag_bodies.specs.model.Parts as model;
 
-use c_checks::{Env, Meaning, Notes, declare, note, noted, stands_here};
+use c_checks::{Env, Meaning, Notes, declare, note, note_fault, stands_here};
 use c_constant_rules::values::{given_value, next_value};
 use c_expressions::judge;
 use c_tree::{Constant, Expr};
 use c_type_faults::Kind;
-use c_type_rules::Typed;
+use c_type_rules::TypedExpression;
 use std::alloc::{AllocError, Global};
 
 /// The value of a constant without an expression.
@@ -19,7 +19,7 @@ fn value_behind(
     at: u32,
     before: Option<Option<u64>>,
 ) -> Result<Option<u64>, AllocError>
-    ensures { Answers (spec.value_behind at before notes.old) result notes.new }
+    ensures { Finds (spec.value_behind at before notes.old) result notes.new }
 {
     match before {
         None => Ok(Some(0)),
@@ -27,21 +27,24 @@ fn value_behind(
             None => Ok(None),
             Some(before) => {
                 let ruling = next_value(at, before);
-                noted(notes, ruling)
+                note_fault(notes, ruling)
             }
         },
     }
 }
 
 /// The value that an expression gives.
-fn given(notes: &mut Notes<'_>, a: Option<Typed>) -> Result<Option<u64>, AllocError>
-    ensures { Answers (each a spec.given notes.old) result notes.new }
+fn explicit_value(
+    notes: &mut Notes<'_>,
+    a: Option<TypedExpression>,
+) -> Result<Option<u64>, AllocError>
+    ensures { Finds (each a spec.explicit_value notes.old) result notes.new }
 {
     match a {
         None => Ok(None),
         Some(a) => {
             let ruling = given_value(&a);
-            noted(notes, ruling)
+            note_fault(notes, ruling)
         }
     }
 }
@@ -55,13 +58,13 @@ fn constant_value<'a>(
     value: &'a Option<Expr>,
     before: Option<Option<u64>>,
 ) -> Result<Option<u64>, AllocError>
-    ensures { Answers (model.constant_value at value.now before (env.old, notes.old)) result (env.new, notes.new) }
+    ensures { Finds (model.constant_value at value.now before (env.old, notes.old)) result (env.new, notes.new) }
 {
     match value {
         None => value_behind(notes, at, before),
         Some(e) => {
             let a = judge(alloc, e, env, notes)?;
-            given(notes, a)
+            explicit_value(notes, a)
         }
     }
 }

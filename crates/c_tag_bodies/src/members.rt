@@ -2,7 +2,7 @@
 
 ghost use Rattle.std.specs.Prelude.{◌≡◌, IfOk, OnOk, is_some};
 ghost use Rattle.c_scopes.specs.Names.{find};
-ghost use Rattle.c_checks.specs.Checks.{Answers, each};
+ghost use Rattle.c_checks.specs.Checks.{Finds, each};
 ghost use Rattle.c_tag_bodies.specs.Members as spec;
 
 use c_checks::{Notes, note};
@@ -47,7 +47,7 @@ pub fn is_member(structs: &[StructDef], ty: &CType) -> bool
 }
 
 fn no_member(notes: &mut Notes<'_>, at: u32) -> Result<Option<CType>, AllocError>
-    ensures { Answers (spec.no_member at notes.old) result notes.new }
+    ensures { Finds (spec.no_member at notes.old) result notes.new }
 {
     note(notes, at, Kind::BadType)?;
     Ok(None)
@@ -59,7 +59,7 @@ fn member_type(
     at: u32,
     ty: DeclaredType,
 ) -> Result<Option<CType>, AllocError>
-    ensures { Answers (spec.member_type at ty notes.old) result notes.new }
+    ensures { Finds (spec.member_type at ty notes.old) result notes.new }
 {
     match ty {
         DeclaredType::Value(ty) => {
@@ -78,7 +78,7 @@ fn optional_type(
     at: u32,
     ty: Option<DeclaredType>,
 ) -> Result<Option<CType>, AllocError>
-    ensures { Answers (each ty (spec.member_type at) notes.old) result notes.new }
+    ensures { Finds (each ty (spec.member_type at) notes.old) result notes.new }
 {
     match ty {
         None => Ok(None),

@@ -7,12 +7,12 @@ ghost use Rattle.c_scopes.specs.Names.{find};
 ghost use Rattle.c_typed_tree.specs.Layout.{is_object};
 ghost use Rattle.c_typed_tree.specs.Typing.{depth_of, most_depth};
 ghost use Rattle.c_typed_tree.specs.View.{type_view};
-ghost use Rattle.c_checks.specs.Checks.{Answers};
+ghost use Rattle.c_checks.specs.Checks.{Finds};
 ghost use Rattle.c_tag_bodies.specs.Members.{is_member};
 ghost use Rattle.c_tag_bodies.specs.Structs as spec;
 
 use crate::members::{Members, is_member};
-use c_checks::{Notes, Untagged, add_struct, note};
+use c_checks::{Notes, UntaggedStruct, add_struct, note};
 use c_declared_types::DeclaredType;
 use c_judgements::leaves::{incomplete, tagged_enum, tagged_struct};
 use c_judgements::members::struct_number;
@@ -89,28 +89,28 @@ fn number_of(ty: Option<DeclaredType>) -> Option<u32>
     }
 }
 
-fn unnamed(alloc: Global, notes: &mut Notes<'_>) -> Result<Option<u32>, AllocError>
-    ensures { Answers (spec.unnamed notes.old) result notes.new }
+fn add_untagged(alloc: Global, notes: &mut Notes<'_>) -> Result<Option<u32>, AllocError>
+    ensures { Finds (spec.add_untagged notes.old) result notes.new }
 {
     let structure = incomplete(alloc, &[])?;
     let number = add_struct(alloc, notes, structure)?;
     Ok(Some(number))
 }
 
-fn numbered<'a>(
+fn number_for_tag<'a>(
     alloc: Global,
     notes: &mut Notes<'a>,
     at: u32,
     name: &'a [u8],
 ) -> Result<Option<u32>, AllocError>
-    ensures { Answers (spec.numbered at name.now notes.old) result notes.new }
+    ensures { Finds (spec.number_for_tag at name.now notes.old) result notes.new }
 {
     let ty = tagged_struct(alloc, notes, at, name)?;
     Ok(number_of(ty))
 }
 
 fn no_body(notes: &mut Notes<'_>, at: u32) -> Result<Option<u32>, AllocError>
-    ensures { Answers (spec.no_body at notes.old) result notes.new }
+    ensures { Finds (spec.no_body at notes.old) result notes.new }
 {
     note(notes, at, Kind::Redeclared)?;
     Ok(None)
@@ -124,15 +124,15 @@ pub(crate) fn begin_struct<'a>(
     at: u32,
     tag: &'a Option<Name>,
 ) -> Result<Option<u32>, AllocError>
-    ensures { Answers (spec.struct_begun defined.now at tag.now notes.old) result notes.new }
+    ensures { Finds (spec.struct_begun defined.now at tag.now notes.old) result notes.new }
 {
     match tag {
-        None => unnamed(alloc, notes),
+        None => add_untagged(alloc, notes),
         Some(name) => {
             if is_defined(defined, name.as_slice()) {
                 return no_body(notes, at);
             }
-            numbered(alloc, notes, at, name.as_slice())
+            number_for_tag(alloc, notes, at, name.as_slice())
         }
     }
 }
@@ -216,7 +216,7 @@ fn set_untagged(notes: &mut Notes<'_>, at: u32, tag: &Option<Name>, number: u32)
     ensures { notes.new ≡ spec.with_untagged at tag.now number notes.old }
 {
     match tag {
-        None => notes.untagged = Some(Untagged { at, number }),
+        None => notes.untagged = Some(UntaggedStruct { at, number }),
         Some(_) => {}
     }
 }
@@ -229,7 +229,7 @@ fn complete<'a>(
     structure: Option<StructDef>,
     members: &mut Members<'a>,
 ) -> Result<(), AllocError>
-    ensures { OnOk result (notes.new ≡ spec.completed at number members.old structure notes.old) }
+    ensures { OnOk result (notes.new ≡ spec.complete at number members.old structure notes.old) }
 {
     match structure {
         None => too_large(notes, at, members.faulty),

@@ -1,7 +1,7 @@
 //! The walk over the bodies of a specifier.
 
 ghost use Rattle.std.specs.Prelude.{◌≡◌, OnOk};
-ghost use Rattle.c_checks.specs.Checks.{Answers};
+ghost use Rattle.c_checks.specs.Checks.{Finds};
 ghost use Rattle.c_tag_bodies.specs.Bodies as spec;
 ghost use Rattle.c_tag_bodies.specs.model.Parts as model;
 
@@ -131,7 +131,7 @@ pub fn declared_type<'a>(
     notes: &mut Notes<'a>,
     at: u32,
 ) -> Result<Option<DeclaredType>, AllocError>
-    ensures { Answers (spec.declared_type at node.now (defined.old, (env.old, notes.old)))
+    ensures { Finds (spec.declared_type at node.now (defined.old, (env.old, notes.old)))
         result (defined.new, (env.new, notes.new)) }
 {
     bodies(alloc, node, defined, env, notes)?;

@@ -7,11 +7,11 @@ use Rattle.c_typed_tree.specs.declared.types.CType as t
 use Rattle.c_typed_tree.specs.declared.expressions.TExpr as x
 use Rattle.c_typed_tree.specs.View.{type_view}
 use Rattle.c_type_faults.specs.declared.faults.Kind.TheVariants.{BadOperand, BadConversion}
-use Rattle.c_type_rules.specs.declared.typed.Typed.{Typed}
+use Rattle.c_type_rules.specs.declared.typed.TypedExpression.{TypedExpression}
 use Rattle.c_type_rules.specs.Rulings.{Ruling, fault}
 use Rattle.c_typed_tree.specs.Constants.{is_integer}
 use Rattle.c_typed_tree.specs.Typing.{is_void, is_pointer, is_pointer_to_void}
-use Rattle.c_type_rules.specs.Values.{int, is_same, integer, value, converted, binary_in}
+use Rattle.c_type_rules.specs.Values.{int, is_same, integer, value, convert_tree, binary_in}
 use Rattle.c_type_rules.specs.Arithmetic.{common_type}
 
 -- ---- an array becomes a pointer to its first element (6.3.2.1)
@@ -24,30 +24,30 @@ element (t.Pointer' _ target) = None
 element (t.Array' _ (t.more_of-CType x t.end_of-CType) length) = Some x
 element (t.Struct number) = None
 
-abbrev pub decayed_to : Typed → Option t.CType → Typed
+abbrev pub decayed_to : TypedExpression → Option t.CType → TypedExpression
 decayed_to a None = a
 decayed_to a (Some e) = value a.at (t.Pointer e) (x.Convert (t.Pointer e) a.tree)
 
-abbrev pub decayed : Typed → Typed
-decayed a = decayed_to a (element a.ty)
+abbrev pub decay : TypedExpression → TypedExpression
+decay a = decayed_to a (element a.ty)
 
 -- ---- a value where one of a type is wanted, as an assigned one (6.5.16.1)
 
-abbrev pub as_integer : t.CType → Typed → Ruling x.TExpr
+abbrev pub as_integer : t.CType → TypedExpression → Ruling x.TExpr
 as_integer to v = if is_integer (type_view v.ty) then Ok (x.Convert to v.tree) else fault v.at BadConversion
 
 -- a null pointer constant, or a pointer where one of the two is to void
-abbrev pub is_taken_as_pointer : t.CType → Typed → (null : Bool) → Bool
+abbrev pub is_taken_as_pointer : t.CType → TypedExpression → (null : Bool) → Bool
 is_taken_as_pointer to v null =
     if null then true
     else if is_pointer (type_view v.ty) then is_pointer_to_void (type_view to) || is_pointer_to_void (type_view v.ty)
     else false
 
-abbrev pub as_pointer : t.CType → Typed → (null : Bool) → Ruling x.TExpr
+abbrev pub as_pointer : t.CType → TypedExpression → (null : Bool) → Ruling x.TExpr
 as_pointer to v null = if is_taken_as_pointer to v null then Ok (x.Convert to v.tree) else fault v.at BadConversion
 
-abbrev pub wanted : t.CType → Typed → (null : Bool) → Ruling x.TExpr
-wanted to v null =
+abbrev pub value_for_type : t.CType → TypedExpression → (null : Bool) → Ruling x.TExpr
+value_for_type to v null =
     if is_same to v.ty then Ok v.tree
     else if is_integer (type_view to) then as_integer to v
     else if is_pointer (type_view to) then as_pointer to v null
@@ -55,17 +55,17 @@ wanted to v null =
 
 -- ---- a cast: to void from anything, between integers, between pointers, and of a null pointer constant (6.5.4)
 
-abbrev pub is_castable : t.CType → Typed → (null : Bool) → Bool
+abbrev pub is_castable : t.CType → TypedExpression → (null : Bool) → Bool
 is_castable to a null =
     if is_void (type_view to) then true
     else if is_integer (type_view to) then is_integer (type_view a.ty)
     else if is_pointer (type_view to) then is_pointer (type_view a.ty) || null
     else false
 
-abbrev pub cast_value : ℕ → t.CType → x.TExpr → Typed
+abbrev pub cast_value : ℕ → t.CType → x.TExpr → TypedExpression
 cast_value at to operand = value at to (x.Cast to operand)
 
-abbrev pub cast : ℕ → t.CType → Typed → (null : Bool) → Ruling Typed
+abbrev pub cast : ℕ → t.CType → TypedExpression → (null : Bool) → Ruling TypedExpression
 cast at to a null = if is_castable to a null then Ok (cast_value at to a.tree) else fault at BadConversion
 
 -- ---- the type in which two operands meet of which one is a pointer (6.5.9, 6.5.15): their own; beside a null pointer
@@ -95,38 +95,38 @@ meet a b null_left null_right =
 
 -- ---- `==` and `!=`
 
-abbrev pub equal_pointers : ℕ → BinaryOp → (left right : Typed) → Option t.CType → Ruling Typed
+abbrev pub equal_pointers : ℕ → BinaryOp → (left right : TypedExpression) → Option t.CType → Ruling TypedExpression
 equal_pointers at op a b None = fault at BadOperand
 equal_pointers at op a b (Some ty) = Ok (binary_in at int op ty a b)
 
-abbrev pub equality_of : ℕ → BinaryOp → (left right : Typed) → (null_left null_right : Bool)
-    → Option IntegerType → Option IntegerType → Ruling Typed
+abbrev pub equality_of : ℕ → BinaryOp → (left right : TypedExpression) → (null_left null_right : Bool)
+    → Option IntegerType → Option IntegerType → Ruling TypedExpression
 equality_of at op a b na nb (Some s) (Some u) = Ok (binary_in at int op (common_type s u) a b)
 equality_of at op a b na nb (Some s) None = equal_pointers at op a b (meet a.ty b.ty na nb)
 equality_of at op a b na nb None u = equal_pointers at op a b (meet a.ty b.ty na nb)
 
-abbrev pub equality : ℕ → BinaryOp → (left right : Typed) → (null_left null_right : Bool) → Ruling Typed
+abbrev pub equality : ℕ → BinaryOp → (left right : TypedExpression) → (null_left null_right : Bool) → Ruling TypedExpression
 equality at op a b na nb = equality_of at op a b na nb (integer a) (integer b)
 
 -- ---- `?:`, with its condition
 
-abbrev pub choice_in : ℕ → x.TExpr → t.CType → (holds fails : Typed) → Typed
-choice_in at c ty a b = value at ty (x.Conditional ty c (converted ty a) (converted ty b))
+abbrev pub choice_in : ℕ → x.TExpr → t.CType → (holds fails : TypedExpression) → TypedExpression
+choice_in at c ty a b = value at ty (x.Conditional ty c (convert_tree ty a) (convert_tree ty b))
 
-abbrev pub choice_met : ℕ → x.TExpr → (holds fails : Typed) → Option t.CType → Ruling Typed
+abbrev pub choice_met : ℕ → x.TExpr → (holds fails : TypedExpression) → Option t.CType → Ruling TypedExpression
 choice_met at c a b None = fault at BadOperand
 choice_met at c a b (Some ty) = Ok (choice_in at c ty a b)
 
 -- arms of void, or of one struct, have that type
-abbrev pub choice_apart : ℕ → x.TExpr → (holds fails : Typed) → (null_left null_right : Bool) → Ruling Typed
+abbrev pub choice_apart : ℕ → x.TExpr → (holds fails : TypedExpression) → (null_left null_right : Bool) → Ruling TypedExpression
 choice_apart at c a b na nb =
     if is_same a.ty b.ty then Ok (choice_in at c a.ty a b) else choice_met at c a b (meet a.ty b.ty na nb)
 
-abbrev pub choice_of : ℕ → x.TExpr → (holds fails : Typed) → (null_left null_right : Bool)
-    → Option IntegerType → Option IntegerType → Ruling Typed
+abbrev pub choice_of : ℕ → x.TExpr → (holds fails : TypedExpression) → (null_left null_right : Bool)
+    → Option IntegerType → Option IntegerType → Ruling TypedExpression
 choice_of at c a b na nb (Some s) (Some u) = Ok (choice_in at c (common_type s u) a b)
 choice_of at c a b na nb (Some s) None = choice_apart at c a b na nb
 choice_of at c a b na nb None u = choice_apart at c a b na nb
 
-abbrev pub choice : ℕ → x.TExpr → (holds fails : Typed) → (null_left null_right : Bool) → Ruling Typed
+abbrev pub choice : ℕ → x.TExpr → (holds fails : TypedExpression) → (null_left null_right : Bool) → Ruling TypedExpression
 choice at c a b na nb = choice_of at c a b na nb (integer a) (integer b)

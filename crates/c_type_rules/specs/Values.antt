@@ -10,7 +10,7 @@ use Rattle.c_typed_tree.specs.declared.expressions.TExpr as x
 use Rattle.c_typed_tree.specs.Layout.{integer_of}
 use Rattle.c_typed_tree.specs.View.{type_view}
 use Rattle.c_type_rules.specs.declared.typed.Place.TheVariants as p
-use Rattle.c_type_rules.specs.declared.typed.Typed.{Typed}
+use Rattle.c_type_rules.specs.declared.typed.TypedExpression.{TypedExpression}
 use Rattle.c_typed_tree.specs.Typing.{is_same_type}
 
 abbrev pub integer_type : IntegerType → t.CType
@@ -26,23 +26,23 @@ abbrev pub is_same : t.CType → t.CType → Bool
 is_same a b = is_same_type (type_view a) (type_view b)
 
 -- the integer type of an operand, if it has one
-abbrev pub integer : Typed → Option IntegerType
+abbrev pub integer : TypedExpression → Option IntegerType
 integer a = integer_of (type_view a.ty)
 
 -- what is no place
-abbrev pub value : ℕ → t.CType → x.TExpr → Typed
+abbrev pub value : ℕ → t.CType → x.TExpr → TypedExpression
 value at ty tree = record { at = at; tree = tree; ty = ty; place = p.Nowhere }
 
 -- a value where one of this type is wanted: it is converted where its own is another
-abbrev pub converted : t.CType → Typed → x.TExpr
-converted to a = if is_same to a.ty then a.tree else x.Convert to a.tree
+abbrev pub convert_tree : t.CType → TypedExpression → x.TExpr
+convert_tree to a = if is_same to a.ty then a.tree else x.Convert to a.tree
 
-abbrev pub unary : ℕ → t.CType → UnaryOp → x.TExpr → Typed
+abbrev pub unary : ℕ → t.CType → UnaryOp → x.TExpr → TypedExpression
 unary at ty op operand = value at ty (x.Unary ty op operand)
 
-abbrev pub binary : ℕ → t.CType → BinaryOp → (left right : x.TExpr) → Typed
+abbrev pub binary : ℕ → t.CType → BinaryOp → (left right : x.TExpr) → TypedExpression
 binary at ty op left right = value at ty (x.Binary ty op left right)
 
 -- both operands are converted to one type
-abbrev pub binary_in : ℕ → t.CType → BinaryOp → (to : t.CType) → (left right : Typed) → Typed
-binary_in at ty op to a b = binary at ty op (converted to a) (converted to b)
+abbrev pub binary_in : ℕ → t.CType → BinaryOp → (to : t.CType) → (left right : TypedExpression) → TypedExpression
+binary_in at ty op to a b = binary at ty op (convert_tree to a) (convert_tree to b)

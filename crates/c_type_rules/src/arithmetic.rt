@@ -5,9 +5,9 @@ ghost use Rattle.c_type_rules.specs.Arithmetic as spec;
 ghost use Rattle.c_type_rules.specs.Rulings.{Gives};
 ghost use Rattle.c_type_rules.specs.Values as values;
 
-use crate::refusal::{Refusal, refused};
-use crate::trees::{binary, binary_in, converted, unary};
-use crate::typed::Typed;
+use crate::refusal::{Refusal, refuse};
+use crate::trees::{binary, binary_in, convert_tree, unary};
+use crate::typed::TypedExpression;
 use crate::types::{integer_type, is_integer, is_same, points_to_object};
 use c_arithmetic::integer_type::IntegerType;
 use c_tree::{BinaryOp, UnaryOp};
@@ -19,7 +19,7 @@ use std::alloc::{AllocError, Global};
 fn promoted_type(t: IntegerType) -> CType
     ensures { result ≡ spec.promoted_type t }
 {
-    integer_type(t.promoted())
+    integer_type(t.promote())
 }
 
 fn common_type(s: IntegerType, t: IntegerType) -> CType
@@ -29,14 +29,19 @@ fn common_type(s: IntegerType, t: IntegerType) -> CType
 }
 
 /// `+`, `-` or `~` in front of an integer.
-pub fn unary_arithmetic(alloc: Global, at: u32, op: UnaryOp, a: Typed) -> Result<Typed, Refusal>
+pub fn unary_arithmetic(
+    alloc: Global,
+    at: u32,
+    op: UnaryOp,
+    a: TypedExpression,
+) -> Result<TypedExpression, Refusal>
     ensures { Gives (spec.unary_arithmetic at op a) result }
 {
     match integer_of(&a.ty) {
-        None => Err(refused(at, Kind::BadOperand)),
+        None => Err(refuse(at, Kind::BadOperand)),
         Some(t) => {
             let ty = promoted_type(t);
-            let operand = converted(alloc, &ty, a)?;
+            let operand = convert_tree(alloc, &ty, a)?;
             Ok(unary(alloc, at, ty, op, operand)?)
         }
     }
@@ -47,10 +52,10 @@ fn in_common(
     alloc: Global,
     at: u32,
     op: BinaryOp,
-    a: Typed,
-    b: Typed,
+    a: TypedExpression,
+    b: TypedExpression,
     ty: CType,
-) -> Result<Typed, AllocError>
+) -> Result<TypedExpression, AllocError>
     ensures { IfOk result (λ r. r ≡ values.binary_in at ty op ty a b) }
 {
     let to = ty.copy(alloc)?;
@@ -62,15 +67,15 @@ pub fn arithmetic(
     alloc: Global,
     at: u32,
     op: BinaryOp,
-    a: Typed,
-    b: Typed,
-) -> Result<Typed, Refusal>
+    a: TypedExpression,
+    b: TypedExpression,
+) -> Result<TypedExpression, Refusal>
     ensures { Gives (spec.arithmetic at op a b) result }
 {
     match integer_of(&a.ty) {
-        None => Err(refused(at, Kind::BadOperand)),
+        None => Err(refuse(at, Kind::BadOperand)),
         Some(s) => match integer_of(&b.ty) {
-            None => Err(refused(at, Kind::BadOperand)),
+            None => Err(refuse(at, Kind::BadOperand)),
             Some(t) => Ok(in_common(alloc, at, op, a, b, common_type(s, t))?),
         },
     }
@@ -81,26 +86,32 @@ fn each_promoted(
     alloc: Global,
     at: u32,
     op: BinaryOp,
-    a: Typed,
-    b: Typed,
+    a: TypedExpression,
+    b: TypedExpression,
     left: CType,
     right: CType,
-) -> Result<Typed, AllocError>
-    ensures { IfOk result (λ r. r ≡ values.binary at left op (values.converted left a) (values.converted right b)) }
+) -> Result<TypedExpression, AllocError>
+    ensures { IfOk result (λ r. r ≡ values.binary at left op (values.convert_tree left a) (values.convert_tree right b)) }
 {
-    let a = converted(alloc, &left, a)?;
-    let b = converted(alloc, &right, b)?;
+    let a = convert_tree(alloc, &left, a)?;
+    let b = convert_tree(alloc, &right, b)?;
     binary(alloc, at, left, op, a, b)
 }
 
 /// `<<` or `>>`.
-pub fn shift(alloc: Global, at: u32, op: BinaryOp, a: Typed, b: Typed) -> Result<Typed, Refusal>
+pub fn shift(
+    alloc: Global,
+    at: u32,
+    op: BinaryOp,
+    a: TypedExpression,
+    b: TypedExpression,
+) -> Result<TypedExpression, Refusal>
     ensures { Gives (spec.shift at op a b) result }
 {
     match integer_of(&a.ty) {
-        None => Err(refused(at, Kind::BadOperand)),
+        None => Err(refuse(at, Kind::BadOperand)),
         Some(s) => match integer_of(&b.ty) {
-            None => Err(refused(at, Kind::BadOperand)),
+            None => Err(refuse(at, Kind::BadOperand)),
             Some(t) => Ok(each_promoted(alloc, at, op, a, b, promoted_type(s), promoted_type(t))?),
         },
     }
@@ -111,22 +122,22 @@ pub fn sum(
     alloc: Global,
     structs: &[StructDef],
     at: u32,
-    a: Typed,
-    b: Typed,
-) -> Result<Typed, Refusal>
+    a: TypedExpression,
+    b: TypedExpression,
+) -> Result<TypedExpression, Refusal>
     ensures { Gives (spec.sum structs.now at a b) result }
 {
     if points_to_object(structs, &a.ty) {
         if is_integer(&b.ty) {
             return Ok(binary(alloc, at, a.ty, BinaryOp::Add, a.tree, b.tree)?);
         }
-        return Err(refused(at, Kind::BadOperand));
+        return Err(refuse(at, Kind::BadOperand));
     }
     if points_to_object(structs, &b.ty) {
         if is_integer(&a.ty) {
             return Ok(binary(alloc, at, b.ty, BinaryOp::Add, a.tree, b.tree)?);
         }
-        return Err(refused(at, Kind::BadOperand));
+        return Err(refuse(at, Kind::BadOperand));
     }
     arithmetic(alloc, at, BinaryOp::Add, a, b)
 }
@@ -136,9 +147,9 @@ pub fn difference(
     alloc: Global,
     structs: &[StructDef],
     at: u32,
-    a: Typed,
-    b: Typed,
-) -> Result<Typed, Refusal>
+    a: TypedExpression,
+    b: TypedExpression,
+) -> Result<TypedExpression, Refusal>
     ensures { Gives (spec.difference structs.now at a b) result }
 {
     if points_to_object(structs, &a.ty) {
@@ -149,7 +160,7 @@ pub fn difference(
             let ty = integer_type(IntegerType::Long);
             return Ok(binary(alloc, at, ty, BinaryOp::Subtract, a.tree, b.tree)?);
         }
-        return Err(refused(at, Kind::BadOperand));
+        return Err(refuse(at, Kind::BadOperand));
     }
     arithmetic(alloc, at, BinaryOp::Subtract, a, b)
 }

@@ -4,9 +4,9 @@ ghost use Rattle.std.specs.Prelude.{◌≡◌};
 ghost use Rattle.c_type_rules.specs.Comparisons as spec;
 ghost use Rattle.c_type_rules.specs.Rulings.{Gives};
 
-use crate::refusal::{Refusal, refused};
+use crate::refusal::{Refusal, refuse};
 use crate::trees::{binary, binary_in, unary};
-use crate::typed::Typed;
+use crate::typed::TypedExpression;
 use crate::types::{integer_type, is_pointer, is_same, is_scalar};
 use c_arithmetic::integer_type::IntegerType;
 use c_tree::{BinaryOp, Box, UnaryOp};
@@ -16,28 +16,34 @@ use c_typed_tree::layout::integer_of;
 use std::alloc::Global;
 
 /// A condition. It stands as it is.
-pub fn condition(a: Typed) -> Result<Box<TExpr>, Refusal>
+pub fn condition(a: TypedExpression) -> Result<Box<TExpr>, Refusal>
     ensures { Gives (spec.condition a) result }
 {
     if is_scalar(&a.ty) {
         return Ok(a.tree);
     }
-    Err(refused(a.at, Kind::BadOperand))
+    Err(refuse(a.at, Kind::BadOperand))
 }
 
 /// `!`.
-pub fn negation(alloc: Global, at: u32, a: Typed) -> Result<Typed, Refusal>
+pub fn negation(alloc: Global, at: u32, a: TypedExpression) -> Result<TypedExpression, Refusal>
     ensures { Gives (spec.negation at a) result }
 {
     if is_scalar(&a.ty) {
         let ty = integer_type(IntegerType::Int);
         return Ok(unary(alloc, at, ty, UnaryOp::Not, a.tree)?);
     }
-    Err(refused(at, Kind::BadOperand))
+    Err(refuse(at, Kind::BadOperand))
 }
 
 /// `&&` or `||`.
-pub fn logical(alloc: Global, at: u32, op: BinaryOp, a: Typed, b: Typed) -> Result<Typed, Refusal>
+pub fn logical(
+    alloc: Global,
+    at: u32,
+    op: BinaryOp,
+    a: TypedExpression,
+    b: TypedExpression,
+) -> Result<TypedExpression, Refusal>
     ensures { Gives (spec.logical at op a b) result }
 {
     if is_scalar(&a.ty) {
@@ -45,12 +51,12 @@ pub fn logical(alloc: Global, at: u32, op: BinaryOp, a: Typed, b: Typed) -> Resu
             let ty = integer_type(IntegerType::Int);
             return Ok(binary(alloc, at, ty, op, a.tree, b.tree)?);
         }
-        return Err(refused(at, Kind::BadOperand));
+        return Err(refuse(at, Kind::BadOperand));
     }
-    Err(refused(at, Kind::BadOperand))
+    Err(refuse(at, Kind::BadOperand))
 }
 
-fn are_pointers_of_one_type(a: &Typed, b: &Typed) -> bool
+fn are_pointers_of_one_type(a: &TypedExpression, b: &TypedExpression) -> bool
     ensures { result ≡ spec.are_pointers_of_one_type a.now b.now }
 {
     is_pointer(&a.ty) && is_same(&a.ty, &b.ty)
@@ -61,16 +67,16 @@ fn ordered_pointers(
     alloc: Global,
     at: u32,
     op: BinaryOp,
-    a: Typed,
-    b: Typed,
-) -> Result<Typed, Refusal>
+    a: TypedExpression,
+    b: TypedExpression,
+) -> Result<TypedExpression, Refusal>
     ensures { Gives (spec.ordered_pointers at op a b) result }
 {
     if are_pointers_of_one_type(&a, &b) {
         let ty = integer_type(IntegerType::Int);
         return Ok(binary(alloc, at, ty, op, a.tree, b.tree)?);
     }
-    Err(refused(at, Kind::BadOperand))
+    Err(refuse(at, Kind::BadOperand))
 }
 
 /// `<`, `>`, `<=` or `>=`.
@@ -78,15 +84,15 @@ pub fn comparison(
     alloc: Global,
     at: u32,
     op: BinaryOp,
-    a: Typed,
-    b: Typed,
-) -> Result<Typed, Refusal>
+    a: TypedExpression,
+    b: TypedExpression,
+) -> Result<TypedExpression, Refusal>
     ensures { Gives (spec.comparison at op a b) result }
 {
     match integer_of(&a.ty) {
         None => ordered_pointers(alloc, at, op, a, b),
         Some(s) => match integer_of(&b.ty) {
-            None => Err(refused(at, Kind::BadOperand)),
+            None => Err(refuse(at, Kind::BadOperand)),
             Some(t) => {
                 let ty = integer_type(IntegerType::Int);
                 let to = integer_type(s.common(t));

@@ -6,9 +6,9 @@ ghost use Rattle.std.specs.Prelude.{◌≡◌, IfOk};
 ghost use Rattle.c_type_rules.specs.Conversions as spec;
 ghost use Rattle.c_type_rules.specs.Rulings.{Gives};
 
-use crate::refusal::{Refusal, refused};
-use crate::trees::{binary_in, convert, converted};
-use crate::typed::{Typed, value};
+use crate::refusal::{Refusal, refuse};
+use crate::trees::{binary_in, convert, convert_tree};
+use crate::typed::{TypedExpression, value};
 use crate::types::{integer_type, is_integer, is_pointer, is_pointer_to_void, is_same, is_void};
 use c_arithmetic::integer_type::IntegerType;
 use c_tree::{BinaryOp, Box};
@@ -32,8 +32,8 @@ fn element(alloc: Global, ty: &CType) -> Result<Option<CType>, AllocError>
 }
 
 /// An operand whose value is wanted: an array becomes a pointer to its first element.
-pub fn decayed(alloc: Global, a: Typed) -> Result<Typed, AllocError>
-    ensures { IfOk result (λ r. r ≡ spec.decayed a) }
+pub fn decay(alloc: Global, a: TypedExpression) -> Result<TypedExpression, AllocError>
+    ensures { IfOk result (λ r. r ≡ spec.decay a) }
 {
     match element(alloc, &a.ty)? {
         None => Ok(a),
@@ -45,16 +45,16 @@ pub fn decayed(alloc: Global, a: Typed) -> Result<Typed, AllocError>
     }
 }
 
-fn as_integer(alloc: Global, to: &CType, v: Typed) -> Result<Box<TExpr>, Refusal>
+fn as_integer(alloc: Global, to: &CType, v: TypedExpression) -> Result<Box<TExpr>, Refusal>
     ensures { Gives (spec.as_integer to.now v) result }
 {
     if is_integer(&v.ty) {
         return Ok(convert(alloc, to, v.tree)?);
     }
-    Err(refused(v.at, Kind::BadConversion))
+    Err(refuse(v.at, Kind::BadConversion))
 }
 
-fn is_taken_as_pointer(to: &CType, v: &Typed, null: bool) -> bool
+fn is_taken_as_pointer(to: &CType, v: &TypedExpression, null: bool) -> bool
     ensures { result ≡ spec.is_taken_as_pointer to.now v.now null }
 {
     if null {
@@ -66,18 +66,28 @@ fn is_taken_as_pointer(to: &CType, v: &Typed, null: bool) -> bool
     false
 }
 
-fn as_pointer(alloc: Global, to: &CType, v: Typed, null: bool) -> Result<Box<TExpr>, Refusal>
+fn as_pointer(
+    alloc: Global,
+    to: &CType,
+    v: TypedExpression,
+    null: bool,
+) -> Result<Box<TExpr>, Refusal>
     ensures { Gives (spec.as_pointer to.now v null) result }
 {
     if is_taken_as_pointer(to, &v, null) {
         return Ok(convert(alloc, to, v.tree)?);
     }
-    Err(refused(v.at, Kind::BadConversion))
+    Err(refuse(v.at, Kind::BadConversion))
 }
 
 /// A value where one of a type is wanted: an assigned one, an argument, an initialiser, the operand of `return`.
-pub fn wanted(alloc: Global, to: &CType, v: Typed, null: bool) -> Result<Box<TExpr>, Refusal>
-    ensures { Gives (spec.wanted to.now v null) result }
+pub fn value_for_type(
+    alloc: Global,
+    to: &CType,
+    v: TypedExpression,
+    null: bool,
+) -> Result<Box<TExpr>, Refusal>
+    ensures { Gives (spec.value_for_type to.now v null) result }
 {
     if is_same(to, &v.ty) {
         return Ok(v.tree);
@@ -88,10 +98,10 @@ pub fn wanted(alloc: Global, to: &CType, v: Typed, null: bool) -> Result<Box<TEx
     if is_pointer(to) {
         return as_pointer(alloc, to, v, null);
     }
-    Err(refused(v.at, Kind::BadConversion))
+    Err(refuse(v.at, Kind::BadConversion))
 }
 
-fn is_castable(to: &CType, a: &Typed, null: bool) -> bool
+fn is_castable(to: &CType, a: &TypedExpression, null: bool) -> bool
     ensures { result ≡ spec.is_castable to.now a.now null }
 {
     if is_void(to) {
@@ -106,7 +116,12 @@ fn is_castable(to: &CType, a: &Typed, null: bool) -> bool
     false
 }
 
-fn cast_tree(alloc: Global, at: u32, to: CType, operand: Box<TExpr>) -> Result<Typed, AllocError>
+fn cast_tree(
+    alloc: Global,
+    at: u32,
+    to: CType,
+    operand: Box<TExpr>,
+) -> Result<TypedExpression, AllocError>
     ensures { IfOk result (λ r. r ≡ spec.cast_value at to operand) }
 {
     let ty = to.copy(alloc)?;
@@ -115,13 +130,19 @@ fn cast_tree(alloc: Global, at: u32, to: CType, operand: Box<TExpr>) -> Result<T
 }
 
 /// A cast to a type.
-pub fn cast(alloc: Global, at: u32, to: CType, a: Typed, null: bool) -> Result<Typed, Refusal>
+pub fn cast(
+    alloc: Global,
+    at: u32,
+    to: CType,
+    a: TypedExpression,
+    null: bool,
+) -> Result<TypedExpression, Refusal>
     ensures { Gives (spec.cast at to a null) result }
 {
     if is_castable(&to, &a, null) {
         return Ok(cast_tree(alloc, at, to, a.tree)?);
     }
-    Err(refused(at, Kind::BadConversion))
+    Err(refuse(at, Kind::BadConversion))
 }
 
 fn void_pointer(alloc: Global) -> Result<CType, AllocError>
@@ -200,14 +221,14 @@ fn equal_pointers(
     alloc: Global,
     at: u32,
     op: BinaryOp,
-    a: Typed,
-    b: Typed,
+    a: TypedExpression,
+    b: TypedExpression,
     met: Option<CType>,
-) -> Result<Typed, Refusal>
+) -> Result<TypedExpression, Refusal>
     ensures { Gives (spec.equal_pointers at op a b met) result }
 {
     match met {
-        None => Err(refused(at, Kind::BadOperand)),
+        None => Err(refuse(at, Kind::BadOperand)),
         Some(to) => {
             let ty = integer_type(IntegerType::Int);
             Ok(binary_in(alloc, at, ty, op, &to, a, b)?)
@@ -220,11 +241,11 @@ pub fn equality(
     alloc: Global,
     at: u32,
     op: BinaryOp,
-    a: Typed,
-    b: Typed,
+    a: TypedExpression,
+    b: TypedExpression,
     null_left: bool,
     null_right: bool,
-) -> Result<Typed, Refusal>
+) -> Result<TypedExpression, Refusal>
     ensures { Gives (spec.equality at op a b null_left null_right) result }
 {
     match integer_of(&a.ty) {
@@ -252,13 +273,13 @@ fn choice_in(
     at: u32,
     condition: Box<TExpr>,
     of: CType,
-    a: Typed,
-    b: Typed,
-) -> Result<Typed, AllocError>
+    a: TypedExpression,
+    b: TypedExpression,
+) -> Result<TypedExpression, AllocError>
     ensures { IfOk result (λ r. r ≡ spec.choice_in at condition of a b) }
 {
-    let holds = converted(alloc, &of, a)?;
-    let fails = converted(alloc, &of, b)?;
+    let holds = convert_tree(alloc, &of, a)?;
+    let fails = convert_tree(alloc, &of, b)?;
     let ty = of.copy(alloc)?;
     let tree = Box::new(
         alloc,
@@ -276,14 +297,14 @@ fn choice_met(
     alloc: Global,
     at: u32,
     condition: Box<TExpr>,
-    a: Typed,
-    b: Typed,
+    a: TypedExpression,
+    b: TypedExpression,
     met: Option<CType>,
-) -> Result<Typed, Refusal>
+) -> Result<TypedExpression, Refusal>
     ensures { Gives (spec.choice_met at condition a b met) result }
 {
     match met {
-        None => Err(refused(at, Kind::BadOperand)),
+        None => Err(refuse(at, Kind::BadOperand)),
         Some(ty) => Ok(choice_in(alloc, at, condition, ty, a, b)?),
     }
 }
@@ -293,11 +314,11 @@ fn choice_apart(
     alloc: Global,
     at: u32,
     condition: Box<TExpr>,
-    a: Typed,
-    b: Typed,
+    a: TypedExpression,
+    b: TypedExpression,
     null_left: bool,
     null_right: bool,
-) -> Result<Typed, Refusal>
+) -> Result<TypedExpression, Refusal>
     ensures { Gives (spec.choice_apart at condition a b null_left null_right) result }
 {
     if is_same(&a.ty, &b.ty) {
@@ -313,11 +334,11 @@ pub fn choice(
     alloc: Global,
     at: u32,
     condition: Box<TExpr>,
-    a: Typed,
-    b: Typed,
+    a: TypedExpression,
+    b: TypedExpression,
     null_left: bool,
     null_right: bool,
-) -> Result<Typed, Refusal>
+) -> Result<TypedExpression, Refusal>
     ensures { Gives (spec.choice at condition a b null_left null_right) result }
 {
     match integer_of(&a.ty) {

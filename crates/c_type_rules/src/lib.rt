@@ -12,5 +12,5 @@ pub mod trees;
 mod typed;
 pub mod types;
 
-pub use refusal::{Refusal, refused};
-pub use typed::{Place, Typed, value};
+pub use refusal::{Refusal, refuse};
+pub use typed::{Place, TypedExpression, value};

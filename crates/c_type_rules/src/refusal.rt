@@ -25,7 +25,7 @@ impl From<AllocError> for Refusal {
 }
 
 /// The refusal for a fault.
-pub fn refused(at: u32, kind: Kind) -> Refusal
+pub fn refuse(at: u32, kind: Kind) -> Refusal
     ensures { result ≡ spec.refusal at kind }
 {
     Refusal::Refused(Fault { at, kind })

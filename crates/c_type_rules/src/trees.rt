@@ -4,7 +4,7 @@ ghost use Rattle.std.specs.Prelude.{◌≡◌, IfOk};
 ghost use Rattle.c_typed_tree.specs.declared.expressions.TExpr as x;
 ghost use Rattle.c_type_rules.specs.Values as spec;
 
-use crate::typed::{Typed, value};
+use crate::typed::{TypedExpression, value};
 use crate::types::is_same;
 use c_tree::{BinaryOp, Box, UnaryOp};
 use c_typed_tree::{CType, TExpr};
@@ -19,8 +19,8 @@ pub fn convert(alloc: Global, to: &CType, operand: Box<TExpr>) -> Result<Box<TEx
 }
 
 /// The tree of a value, converted where its type is another.
-pub fn converted(alloc: Global, to: &CType, a: Typed) -> Result<Box<TExpr>, AllocError>
-    ensures { IfOk result (λ r. r ≡ spec.converted to.now a) }
+pub fn convert_tree(alloc: Global, to: &CType, a: TypedExpression) -> Result<Box<TExpr>, AllocError>
+    ensures { IfOk result (λ r. r ≡ spec.convert_tree to.now a) }
 {
     if is_same(to, &a.ty) {
         return Ok(a.tree);
@@ -35,7 +35,7 @@ pub fn unary(
     of: CType,
     op: UnaryOp,
     operand: Box<TExpr>,
-) -> Result<Typed, AllocError>
+) -> Result<TypedExpression, AllocError>
     ensures { IfOk result (λ r. r ≡ spec.unary at of op operand) }
 {
     let ty = of.copy(alloc)?;
@@ -51,7 +51,7 @@ pub fn binary(
     op: BinaryOp,
     left: Box<TExpr>,
     right: Box<TExpr>,
-) -> Result<Typed, AllocError>
+) -> Result<TypedExpression, AllocError>
     ensures { IfOk result (λ r. r ≡ spec.binary at of op left right) }
 {
     let ty = of.copy(alloc)?;
@@ -74,12 +74,12 @@ pub fn binary_in(
     ty: CType,
     op: BinaryOp,
     to: &CType,
-    a: Typed,
-    b: Typed,
-) -> Result<Typed, AllocError>
+    a: TypedExpression,
+    b: TypedExpression,
+) -> Result<TypedExpression, AllocError>
     ensures { IfOk result (λ r. r ≡ spec.binary_in at ty op to.now a b) }
 {
-    let left = converted(alloc, to, a)?;
-    let right = converted(alloc, to, b)?;
+    let left = convert_tree(alloc, to, a)?;
+    let right = convert_tree(alloc, to, b)?;
     binary(alloc, at, ty, op, left, right)
 }

@@ -21,7 +21,7 @@ pub enum Place {
 
 /// An expression without fault, at its first token, with its type.
 #[derive(Drop)]
-pub struct Typed {
+pub struct TypedExpression {
     pub at: u32,
     pub tree: Box<TExpr>,
     pub ty: CType,
@@ -29,10 +29,10 @@ pub struct Typed {
 }
 
 /// A value.
-pub fn value(at: u32, ty: CType, tree: Box<TExpr>) -> Typed
+pub fn value(at: u32, ty: CType, tree: Box<TExpr>) -> TypedExpression
     ensures { result ≡ spec.value at ty tree }
 {
-    Typed {
+    TypedExpression {
         at,
         tree,
         ty,

@@ -4,7 +4,7 @@
 use Rattle.std.specs.Prelude.{ℕ, ◌+◌, nat_le, max, ◌==◌, Bool, true, false, ◌&&◌, ◌||◌, not, List, [], ◌∷◌, slice_get, is_some, Option, Some, None}
 use Rattle.std.specs.Bool.{beq}
 use Rattle.c_arithmetic.specs.declared.integer_type.IntegerType.{IntegerType}
-use Rattle.c_arithmetic.specs.IntegerTypes.{bytes, is_signed, promoted, common}
+use Rattle.c_arithmetic.specs.IntegerTypes.{bytes, is_signed, promote, common}
 use Rattle.c_arithmetic.specs.Words.{is_word}
 use Rattle.c_tree.specs.declared.expressions.UnaryOp.{UnaryOp}
 use Rattle.c_tree.specs.declared.expressions.UnaryOp.TheVariants as u
@@ -67,7 +67,7 @@ is_same_integer t u = bytes t == bytes u && beq (is_signed t) (is_signed u)
 
 abbrev pub is_promoted_integer : Option IntegerType → Bool
 is_promoted_integer None = false
-is_promoted_integer (Some t) = is_same_integer (promoted t) t
+is_promoted_integer (Some t) = is_same_integer (promote t) t
 
 abbrev pub is_promoted : PlainType → Bool
 is_promoted ty = is_promoted_integer (integer_of ty)

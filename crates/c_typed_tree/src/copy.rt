@@ -41,15 +41,20 @@ pub fn copy_expr(alloc: Global, e: &TExpr) -> Result<TExpr, AllocError>
             callee,
             arguments,
         } => make::call(alloc, ty, *callee, copy_exprs(alloc, arguments)?),
-        TExpr::Unary { ty, op, operand } => make::unary(alloc, ty, *op, boxed(alloc, operand)?),
+        TExpr::Unary { ty, op, operand } => make::unary(
+            alloc,
+            ty,
+            *op,
+            copy_in_box(alloc, operand)?,
+        ),
         TExpr::Binary {
             ty,
             op,
             left,
             right,
         } => {
-            let left = boxed(alloc, left)?;
-            make::binary(alloc, ty, *op, left, boxed(alloc, right)?)
+            let left = copy_in_box(alloc, left)?;
+            make::binary(alloc, ty, *op, left, copy_in_box(alloc, right)?)
         }
         TExpr::Assign {
             ty,
@@ -57,8 +62,8 @@ pub fn copy_expr(alloc: Global, e: &TExpr) -> Result<TExpr, AllocError>
             left,
             right,
         } => {
-            let left = boxed(alloc, left)?;
-            make::assign(alloc, ty, *op, left, boxed(alloc, right)?)
+            let left = copy_in_box(alloc, left)?;
+            make::assign(alloc, ty, *op, left, copy_in_box(alloc, right)?)
         }
         TExpr::Conditional {
             ty,
@@ -66,34 +71,39 @@ pub fn copy_expr(alloc: Global, e: &TExpr) -> Result<TExpr, AllocError>
             holds,
             fails,
         } => {
-            let condition = boxed(alloc, condition)?;
-            let holds = boxed(alloc, holds)?;
-            make::conditional(alloc, ty, condition, holds, boxed(alloc, fails)?)
+            let condition = copy_in_box(alloc, condition)?;
+            let holds = copy_in_box(alloc, holds)?;
+            make::conditional(alloc, ty, condition, holds, copy_in_box(alloc, fails)?)
         }
-        TExpr::Cast { ty, operand } => make::cast(alloc, ty, boxed(alloc, operand)?),
-        TExpr::Convert { ty, operand } => make::convert(alloc, ty, boxed(alloc, operand)?),
+        TExpr::Cast { ty, operand } => make::cast(alloc, ty, copy_in_box(alloc, operand)?),
+        TExpr::Convert { ty, operand } => make::convert(alloc, ty, copy_in_box(alloc, operand)?),
         TExpr::Index { ty, left, right } => {
-            let left = boxed(alloc, left)?;
-            make::index(alloc, ty, left, boxed(alloc, right)?)
+            let left = copy_in_box(alloc, left)?;
+            make::index(alloc, ty, left, copy_in_box(alloc, right)?)
         }
         TExpr::Field {
             ty,
             operand,
             member,
-        } => make::field(alloc, ty, boxed(alloc, operand)?, *member),
+        } => make::field(alloc, ty, copy_in_box(alloc, operand)?, *member),
         TExpr::Arrow {
             ty,
             operand,
             member,
-        } => make::arrow(alloc, ty, boxed(alloc, operand)?, *member),
-        TExpr::Postfix { ty, op, operand } => make::postfix(alloc, ty, *op, boxed(alloc, operand)?),
+        } => make::arrow(alloc, ty, copy_in_box(alloc, operand)?, *member),
+        TExpr::Postfix { ty, op, operand } => make::postfix(
+            alloc,
+            ty,
+            *op,
+            copy_in_box(alloc, operand)?,
+        ),
         TExpr::Comma { ty, operands } => make::comma(alloc, ty, copy_exprs(alloc, operands)?),
     }
 }
 
 /// An equal expression in a box.
 #[cycle(copy)]
-fn boxed(alloc: Global, e: &TExpr) -> Result<Box<TExpr>, AllocError>
+fn copy_in_box(alloc: Global, e: &TExpr) -> Result<Box<TExpr>, AllocError>
     ensures { IfOk result (λ r. r ≡ e.now) }
 {
     Box::new(alloc, copy_expr(alloc, e)?)

@@ -72,7 +72,7 @@ pub fn copy_stmt(alloc: Global, statement: &TStmt) -> Result<TStmt, AllocError>
             then,
             otherwise,
         } => {
-            let then = boxed(alloc, then)?;
+            let then = copy_in_box(alloc, then)?;
             let otherwise = copy_else(alloc, otherwise)?;
             let condition = copy_expr(alloc, condition)?;
             Ok(TStmt::If {
@@ -82,12 +82,12 @@ pub fn copy_stmt(alloc: Global, statement: &TStmt) -> Result<TStmt, AllocError>
             })
         }
         TStmt::While { condition, body } => {
-            let body = boxed(alloc, body)?;
+            let body = copy_in_box(alloc, body)?;
             let condition = copy_expr(alloc, condition)?;
             Ok(TStmt::While { condition, body })
         }
         TStmt::Do { body, condition } => {
-            let body = boxed(alloc, body)?;
+            let body = copy_in_box(alloc, body)?;
             let condition = copy_expr(alloc, condition)?;
             Ok(TStmt::Do { body, condition })
         }
@@ -96,7 +96,7 @@ pub fn copy_stmt(alloc: Global, statement: &TStmt) -> Result<TStmt, AllocError>
             condition,
             step,
             body,
-        } => for_around(alloc, first, condition, step, boxed(alloc, body)?),
+        } => for_around(alloc, first, condition, step, copy_in_box(alloc, body)?),
         TStmt::Switch { operand, sections } => {
             let sections = copy_sections(alloc, sections)?;
             let operand = copy_expr(alloc, operand)?;
@@ -113,7 +113,7 @@ pub fn copy_stmt(alloc: Global, statement: &TStmt) -> Result<TStmt, AllocError>
 
 /// An equal statement in a box.
 #[cycle(statement)]
-fn boxed(alloc: Global, statement: &TStmt) -> Result<Box<TStmt>, AllocError>
+fn copy_in_box(alloc: Global, statement: &TStmt) -> Result<Box<TStmt>, AllocError>
     ensures { IfOk result (λ r. r ≡ statement.now) }
 {
     Box::new(alloc, copy_stmt(alloc, statement)?)
@@ -139,7 +139,7 @@ fn copy_else(
 {
     match otherwise {
         None => Ok(None),
-        Some(statement) => Ok(Some(boxed(alloc, statement)?)),
+        Some(statement) => Ok(Some(copy_in_box(alloc, statement)?)),
     }
 }
 

@@ -17,7 +17,7 @@ use Rattle.c_checks.specs.declared.notes.Notes.{Notes}
 use Rattle.c_checks.specs.Notes.{with_fault}
 use Rattle.c_checks.specs.Scopes.{with_name, meaning_of}
 use Rattle.c_judgements.specs.Types.{State}
-use Rattle.c_unit_names.specs.declared.names.Declared.{Declared}
+use Rattle.c_unit_names.specs.declared.names.NameDeclaration.{NameDeclaration}
 use Rattle.c_unit_names.specs.declared.names.UnitNames.{UnitNames}
 use Rattle.c_unit_names.specs.declared.names.PriorMeaning.{PriorMeaning}
 use Rattle.c_unit_names.specs.declared.names.PriorMeaning.TheVariants as g
@@ -43,7 +43,7 @@ is_same_declared (d.Function a xs) (d.Unsized b) = false
 is_same_declared (d.Function a xs) (d.Function b ys) = is_same a b && are_same xs ys
 
 -- of one kind and type, with one initialiser or body at most
-abbrev pub may_follow : (before behind : Declared) → Bool
+abbrev pub may_follow : (before behind : NameDeclaration) → Bool
 may_follow a b =
     beq a.is_typedef b.is_typedef && is_same_declared a.ty b.ty && not (a.has_value && b.has_value)
 
@@ -72,11 +72,11 @@ value_name ds name (d.Unsized element) u = (m.Faulty, u)
 value_name ds name (d.Function ty parameters) u =
     function_name (is_some (find name ds.functions)) ty parameters u
 
-abbrev pub first_meaning : Definitions → List ℕ → Declared → UnitNames → Meaning × UnitNames
+abbrev pub first_meaning : Definitions → List ℕ → NameDeclaration → UnitNames → Meaning × UnitNames
 first_meaning ds name new u =
     if new.is_typedef then (m.Typedef new.ty, u) else value_name ds name new.ty u
 
-abbrev pub with_declared : List ℕ → Declared → UnitNames → UnitNames
+abbrev pub with_declared : List ℕ → NameDeclaration → UnitNames → UnitNames
 with_declared name new u = record {
   declared = record { name = name; value = new } ∷ u.declared;
   functions = u.functions;
@@ -84,53 +84,53 @@ with_declared name new u = record {
   undefined = u.undefined;
 }
 
-abbrev pub named_first : Definitions → List ℕ → Declared → UnitNames → Env → UnitNames × Env
+abbrev pub named_first : Definitions → List ℕ → NameDeclaration → UnitNames → Env → UnitNames × Env
 named_first ds name new u env =
     and_then (first_meaning ds name new u) (λ meaning v. (with_declared name new v, with_name name meaning env))
 
 -- ---- what stands there already
 
-abbrev pub standing : Option Meaning → PriorMeaning
-standing None = g.Nothing
-standing (Some m.Faulty) = g.Faulty
-standing (Some (m.Undefined number)) = g.Other
-standing (Some (m.Local number ty)) = g.Other
-standing (Some (m.Object number ty)) = g.Other
-standing (Some (m.Constant word)) = g.Other
-standing (Some (m.Function callee ty parameters)) = g.Other
-standing (Some (m.Typedef ty)) = g.Other
+abbrev pub meaning_before : Option Meaning → PriorMeaning
+meaning_before None = g.Nothing
+meaning_before (Some m.Faulty) = g.Faulty
+meaning_before (Some (m.Undefined number)) = g.Other
+meaning_before (Some (m.Local number ty)) = g.Other
+meaning_before (Some (m.Object number ty)) = g.Other
+meaning_before (Some (m.Constant word)) = g.Other
+meaning_before (Some (m.Function callee ty parameters)) = g.Other
+meaning_before (Some (m.Typedef ty)) = g.Other
 
-abbrev pub redeclared : ℕ → UnitNames → State → UnitNames × State
-redeclared at u s = (u, (s.0, with_fault at Redeclared s.1))
+abbrev pub redeclare : ℕ → UnitNames → State → UnitNames × State
+redeclare at u s = (u, (s.0, with_fault at Redeclared s.1))
 
 abbrev pub beside : UnitNames × Env → Notes → UnitNames × State
 beside r n = (r.0, (r.1, n))
 
 -- behind a declaration with a fault nothing is judged; every other name that stands there is an enumeration constant
-abbrev pub first_by : PriorMeaning → Definitions → ℕ → List ℕ → Declared → UnitNames → State → UnitNames × State
+abbrev pub first_by : PriorMeaning → Definitions → ℕ → List ℕ → NameDeclaration → UnitNames → State → UnitNames × State
 first_by g.Nothing ds at name new u s = beside (named_first ds name new u s.0) s.1
 first_by g.Faulty ds at name new u s = (u, s)
-first_by g.Other ds at name new u s = redeclared at u s
+first_by g.Other ds at name new u s = redeclare at u s
 
-abbrev pub first_declared : Definitions → ℕ → List ℕ → Declared → UnitNames → State → UnitNames × State
-first_declared ds at name new u s = first_by (standing (meaning_of s.0 name)) ds at name new u s
+abbrev pub first_declared : Definitions → ℕ → List ℕ → NameDeclaration → UnitNames → State → UnitNames × State
+first_declared ds at name new u s = first_by (meaning_before (meaning_of s.0 name)) ds at name new u s
 
 -- whether a declaration may follow what was declared of the name, and whether it has a value then
-abbrev pub follows : Option (ℕ × Declared) → Declared → Option (Option Bool)
+abbrev pub follows : Option (ℕ × NameDeclaration) → NameDeclaration → Option (Option Bool)
 follows None new = None
 follows (Some old) new =
     if may_follow old.1 new then Some (Some (old.1.has_value || new.has_value)) else Some None
 
-abbrev pub with_value : Bool → Declared → Declared
+abbrev pub with_value : Bool → NameDeclaration → NameDeclaration
 with_value has_value new = record { is_typedef = new.is_typedef; ty = new.ty; has_value = has_value }
 
 abbrev pub known_by :
-    Option (Option Bool) → Definitions → ℕ → List ℕ → Declared → UnitNames → State → UnitNames × State
+    Option (Option Bool) → Definitions → ℕ → List ℕ → NameDeclaration → UnitNames → State → UnitNames × State
 known_by None ds at name new u s = first_declared ds at name new u s
-known_by (Some None) ds at name new u s = redeclared at u s
+known_by (Some None) ds at name new u s = redeclare at u s
 known_by (Some (Some has_value)) ds at name new u s = (with_declared name (with_value has_value new) u, s)
 
-abbrev pub known_declared : Definitions → ℕ → List ℕ → Declared → UnitNames → State → UnitNames × State
+abbrev pub known_declared : Definitions → ℕ → List ℕ → NameDeclaration → UnitNames → State → UnitNames × State
 known_declared ds at name new u s = known_by (follows (find name u.declared) new) ds at name new u s
 
 abbrev pub faulty_by : PriorMeaning → List ℕ → Env → Env
@@ -139,9 +139,9 @@ faulty_by g.Faulty name env = env
 faulty_by g.Other name env = env
 
 abbrev pub faulty_name : List ℕ → Env → Env
-faulty_name name env = faulty_by (standing (meaning_of env name)) name env
+faulty_name name env = faulty_by (meaning_before (meaning_of env name)) name env
 
 -- a declaration at file scope, or one that has a fault
-abbrev pub declaration : Definitions → ℕ → List ℕ → Option Declared → UnitNames → State → UnitNames × State
+abbrev pub declaration : Definitions → ℕ → List ℕ → Option NameDeclaration → UnitNames → State → UnitNames × State
 declaration ds at name None u s = (u, (faulty_name name s.0, s.1))
 declaration ds at name (Some new) u s = known_declared ds at name new u s

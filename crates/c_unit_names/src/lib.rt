@@ -6,4 +6,4 @@
 
 mod names;
 
-pub use names::{Declared, UnitNames, declare_in_unit};
+pub use names::{NameDeclaration, UnitNames, declare_in_unit};

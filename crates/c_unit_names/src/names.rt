@@ -3,7 +3,7 @@
 ghost use Rattle.std.specs.Prelude.{◌≡◌, ◌+◌, IfOk, OnOk};
 ghost use Rattle.std.specs.Option.{option_copied};
 ghost use Rattle.c_scopes.specs.Names.{find};
-ghost use Rattle.c_checks.specs.Checks.{Answers};
+ghost use Rattle.c_checks.specs.Checks.{Finds};
 ghost use Rattle.c_unit_names.specs.UnitNames as spec;
 
 use c_checks::{Env, Meaning, Notes, declare, meaning_of, note};
@@ -18,7 +18,7 @@ use std::alloc::{AllocError, Global};
 
 /// What is declared of a name.
 #[derive(Drop)]
-pub struct Declared {
+pub struct NameDeclaration {
     pub is_typedef: bool,
     pub ty: DeclaredType,
     /// Whether it has an initialiser or a body.
@@ -28,7 +28,7 @@ pub struct Declared {
 /// The names that were declared, and how many of them were numbered.
 #[derive(Drop)]
 pub struct UnitNames<'a> {
-    pub declared: Table<'a, Declared>,
+    pub declared: Table<'a, NameDeclaration>,
     /// The functions that the unit defines.
     pub functions: u32,
     /// The objects that it defines.
@@ -81,7 +81,7 @@ fn is_same_declared(a: &DeclaredType, b: &DeclaredType) -> bool
 }
 
 /// Whether a declaration may follow another one of its name.
-fn may_follow(a: &Declared, b: &Declared) -> bool
+fn may_follow(a: &NameDeclaration, b: &NameDeclaration) -> bool
     ensures { result ≡ spec.may_follow a.now b.now }
 {
     a.is_typedef == b.is_typedef && is_same_declared(&a.ty, &b.ty) && !(a.has_value && b.has_value)
@@ -98,7 +98,7 @@ fn next(count: u32) -> Result<u32, AllocError>
 }
 
 fn undefined_name(names: &mut UnitNames<'_>) -> Result<Meaning, AllocError>
-    ensures { Answers (spec.undefined_name names.old) result names.new }
+    ensures { Finds (spec.undefined_name names.old) result names.new }
 {
     let number = names.undefined;
     names.undefined = next(number)?;
@@ -111,7 +111,7 @@ fn object_name(
     defined: bool,
     ty: &CType,
 ) -> Result<Meaning, AllocError>
-    ensures { Answers (spec.object_name defined ty.now names.old) result names.new }
+    ensures { Finds (spec.object_name defined ty.now names.old) result names.new }
 {
     if !defined {
         return undefined_name(names);
@@ -129,7 +129,7 @@ fn function_name(
     of: &CType,
     parameters: &[CType],
 ) -> Result<Meaning, AllocError>
-    ensures { Answers (spec.function_name defined of.now parameters.now names.old) result names.new }
+    ensures { Finds (spec.function_name defined of.now parameters.now names.old) result names.new }
 {
     if !defined {
         return undefined_name(names);
@@ -152,7 +152,7 @@ fn value_name(
     name: &[u8],
     ty: &DeclaredType,
 ) -> Result<Meaning, AllocError>
-    ensures { Answers (spec.value_name definitions.now name.now ty.now names.old) result names.new }
+    ensures { Finds (spec.value_name definitions.now name.now ty.now names.old) result names.new }
 {
     match ty {
         DeclaredType::Value(ty) => {
@@ -173,9 +173,9 @@ fn first_meaning(
     definitions: &Definitions<'_>,
     names: &mut UnitNames<'_>,
     name: &[u8],
-    new: &Declared,
+    new: &NameDeclaration,
 ) -> Result<Meaning, AllocError>
-    ensures { Answers (spec.first_meaning definitions.now name.now new.now names.old) result names.new }
+    ensures { Finds (spec.first_meaning definitions.now name.now new.now names.old) result names.new }
 {
     if new.is_typedef {
         return Ok(Meaning::Typedef(copy_declared(alloc, &new.ty)?));
@@ -190,7 +190,7 @@ fn declare_first<'a>(
     names: &mut UnitNames<'a>,
     env: &mut Env<'a>,
     name: &'a [u8],
-    new: Declared,
+    new: NameDeclaration,
 ) -> Result<(), AllocError>
     ensures { OnOk result ((names.new, env.new) ≡ spec.named_first definitions.now name.now new names.old env.old) }
 {
@@ -207,8 +207,8 @@ pub(crate) enum PriorMeaning {
     Other,
 }
 
-fn standing(meaning: Option<&Meaning>) -> PriorMeaning
-    ensures { result ≡ spec.standing (option_copied meaning.entry) }
+fn meaning_before(meaning: Option<&Meaning>) -> PriorMeaning
+    ensures { result ≡ spec.meaning_before (option_copied meaning.entry) }
 {
     match meaning {
         None => PriorMeaning::Nothing,
@@ -233,12 +233,12 @@ fn declare_new<'a>(
     notes: &mut Notes<'a>,
     at: u32,
     name: &'a [u8],
-    new: Declared,
+    new: NameDeclaration,
 ) -> Result<(), AllocError>
     ensures { OnOk result ((names.new, (env.new, notes.new))
         ≡ spec.first_declared definitions.now at name.now new names.old (env.old, notes.old)) }
 {
-    match standing(meaning_of(env, name)) {
+    match meaning_before(meaning_of(env, name)) {
         PriorMeaning::Nothing => declare_first(alloc, definitions, names, env, name, new),
         PriorMeaning::Faulty => Ok(()),
         PriorMeaning::Other => note(notes, at, Kind::Redeclared),
@@ -246,7 +246,7 @@ fn declare_new<'a>(
 }
 
 /// What was declared of a name: whether another declaration may follow, and whether it has a value then.
-fn follows(names: &UnitNames<'_>, name: &[u8], new: &Declared) -> Option<Option<bool>>
+fn follows(names: &UnitNames<'_>, name: &[u8], new: &NameDeclaration) -> Option<Option<bool>>
     ensures { result ≡ spec.follows (find name.now names.now.declared) new.now }
 {
     match names.declared.find(name) {
@@ -263,7 +263,7 @@ fn follows(names: &UnitNames<'_>, name: &[u8], new: &Declared) -> Option<Option<
 fn declare_faulty<'a>(env: &mut Env<'a>, name: &'a [u8]) -> Result<(), AllocError>
     ensures { OnOk result (env.new ≡ spec.faulty_name name.now env.old) }
 {
-    match standing(meaning_of(env, name)) {
+    match meaning_before(meaning_of(env, name)) {
         PriorMeaning::Nothing => declare(env, name, Meaning::Faulty),
         PriorMeaning::Faulty => Ok(()),
         PriorMeaning::Other => Ok(()),
@@ -278,7 +278,7 @@ fn declare_known<'a>(
     notes: &mut Notes<'a>,
     at: u32,
     name: &'a [u8],
-    new: Declared,
+    new: NameDeclaration,
 ) -> Result<(), AllocError>
     ensures { OnOk result ((names.new, (env.new, notes.new))
         ≡ spec.known_declared definitions.now at name.now new names.old (env.old, notes.old)) }
@@ -287,8 +287,8 @@ fn declare_known<'a>(
         None => declare_new(alloc, definitions, names, env, notes, at, name, new),
         Some(None) => note(notes, at, Kind::Redeclared),
         Some(Some(has_value)) => {
-            let Declared { is_typedef, ty, .. } = new;
-            let joined = Declared {
+            let NameDeclaration { is_typedef, ty, .. } = new;
+            let joined = NameDeclaration {
                 is_typedef,
                 ty,
                 has_value,
@@ -307,7 +307,7 @@ pub fn declare_in_unit<'a>(
     notes: &mut Notes<'a>,
     at: u32,
     name: &'a [u8],
-    new: Option<Declared>,
+    new: Option<NameDeclaration>,
 ) -> Result<(), AllocError>
     ensures { OnOk result ((names.new, (env.new, notes.new))
         ≡ spec.declaration definitions.now at name.now new names.old (env.old, notes.old)) }

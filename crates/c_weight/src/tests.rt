@@ -16,7 +16,7 @@ fn local(number: u32) -> TExpr {
 }
 
 /// The assignment of one struct to another one: itself, two names, and a copy of two words.
-fn copied(alloc: Global) -> Result<TExpr, AllocError> {
+fn copy_tree(alloc: Global) -> Result<TExpr, AllocError> {
     let left = Box::new(alloc, local(1))?;
     let right = Box::new(alloc, local(2))?;
     Ok(TExpr::Assign {
@@ -28,7 +28,7 @@ fn copied(alloc: Global) -> Result<TExpr, AllocError> {
 }
 
 /// A written conversion of a name.
-fn converted(alloc: Global) -> Result<TExpr, AllocError> {
+fn conversion_tree(alloc: Global) -> Result<TExpr, AllocError> {
     let operand = Box::new(alloc, local(0))?;
     Ok(TExpr::Cast {
         ty: CType::Void,
@@ -43,8 +43,8 @@ fn body(alloc: Global) -> Result<TStmt, AllocError> {
         number: 1,
         init: None,
     }))?;
-    list.push(TStmt::Expression(copied(alloc)?))?;
-    list.push(TStmt::Return(Some(converted(alloc)?)))?;
+    list.push(TStmt::Expression(copy_tree(alloc)?))?;
+    list.push(TStmt::Return(Some(conversion_tree(alloc)?)))?;
     Ok(TStmt::Block(list))
 }
 

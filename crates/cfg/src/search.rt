@@ -39,7 +39,7 @@ fn visit_all(marks: &mut [bool], found: &mut Seq<u32>, blocks: &[u32]) -> Result
 }
 
 /// So many marks, none of which is set.
-fn unmarked(alloc: Global, count: usize) -> Result<Vec<bool>, AllocError>
+fn no_marks(alloc: Global, count: usize) -> Result<Vec<bool>, AllocError>
     ensures { IfOk result (λ marks. marks.items ≡ replicate count false) }
 {
     let mut marks = Vec::new(alloc);
@@ -77,7 +77,7 @@ pub(crate) fn reached_marks(alloc: Global, followers: &[Seq<u32>]) -> Result<Vec
     ensures all { IfOk result (λ marks. (block : ℕ) → block < length followers.now → Reached followers.now block →
         slice_get marks.items block ≡ Some true) }
 {
-    let mut marks = unmarked(alloc, followers.len())?;
+    let mut marks = no_marks(alloc, followers.len())?;
     search(marks.as_mut_slice(), alloc, followers)?;
     Ok(marks)
 }

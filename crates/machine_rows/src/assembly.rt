@@ -9,7 +9,7 @@ use row_sheets::escape::unescape;
 use std::alloc::Global;
 
 /// How much an assembly has of what, and its text where that is another than the one that was read.
-fn shown(alloc: Global, text: &[u8], asm: &Asm) -> Result<Vec<u8>> {
+fn text_of(alloc: Global, text: &[u8], asm: &Asm) -> Result<Vec<u8>> {
     let items = asm.items.len();
     let bytes = asm.bytes.len();
     let fixes = asm.fixes.len();
@@ -26,7 +26,7 @@ fn shown(alloc: Global, text: &[u8], asm: &Asm) -> Result<Vec<u8>> {
 pub fn answer(alloc: Global, given: &str) -> Result<Vec<u8>> {
     let text = unescape(alloc, given)?;
     match read_asm(alloc, text.as_slice()) {
-        Ok(asm) => shown(alloc, text.as_slice(), &asm),
+        Ok(asm) => text_of(alloc, text.as_slice(), &asm),
         Err(TextFault::Line { line }) => Ok(format!(in alloc; "line {line}\n")?.into_bytes()),
         Err(TextFault::Data { counted }) => Ok(format!(in alloc; "data {counted}\n")?.into_bytes()),
         Err(TextFault::NoMemory) => bail!("there was no memory"),

@@ -18,7 +18,7 @@ fn push_word(alloc: Global, shown: &mut Vec<u8>, word: u32, times: u64) -> Resul
 }
 
 /// Shows words, equal ones that follow each other in one line.
-fn shown(alloc: Global, words: &[u32]) -> Result<Vec<u8>> {
+fn text_of(alloc: Global, words: &[u32]) -> Result<Vec<u8>> {
     let mut shown = Vec::new(alloc);
     let mut times = 1u64;
     for (at, word) in words.iter().enumerate() {
@@ -38,7 +38,7 @@ pub fn answer(alloc: Global, given: &str) -> Result<Vec<u8>> {
     text.push(b'\n')?;
     let asm = read_asm(alloc, text.as_slice())?;
     match assemble(alloc, &asm) {
-        Ok(image) => shown(alloc, image.words.as_slice()),
+        Ok(image) => text_of(alloc, image.words.as_slice()),
         Err(AsmFault::CodeTooLong { words }) => bail!("{words} words"),
         Err(AsmFault::NoMemory) => bail!("there was no memory"),
     }

@@ -134,7 +134,7 @@ fn quotient(alloc: Global, routine: u32, dividend: u64, divisor: u64) -> Result<
 }
 
 /// The low 32 bits of a word with their sign in all bits above.
-fn extended(word: u64) -> u64 {
+fn extend_sign(word: u64) -> u64 {
     let low = (word & 0xffff_ffff) as u32;
     i64::from(low.cast_signed()).cast_unsigned()
 }
@@ -149,7 +149,7 @@ pub fn answer(alloc: Global, given: &str) -> Result<Vec<u8>> {
         let answer = if routine <= 4 {
             quotient(alloc, routine, dividend, divisor)?
         } else {
-            quotient(alloc, routine, extended(dividend), extended(divisor))?
+            quotient(alloc, routine, extend_sign(dividend), extend_sign(divisor))?
         };
         if routine > 1 {
             shown.push(' ')?;

@@ -99,7 +99,7 @@ pub fn put_line<S: Sink>(sink: &mut S, outcome: &Outcome)
     ensures { TookUnlessFault (line_of outcome.now)
         (S.taken sink.old) (S.taken sink.new) (S.faults sink.old) (S.faults sink.new) }
 {
-    let said = said(outcome).as_bytes();
+    let said = words_of(outcome).as_bytes();
     let _ended = match number(outcome) {
         None => sink.put_slice(said),
         Some(n) => put_with_number(sink, said, n),
@@ -116,7 +116,7 @@ fn put_with_number<S: Sink>(sink: &mut S, said: &[u8], n: u64) -> Result<(), Fai
 }
 
 /// What is said of an outcome: its whole line, or what stands before its number.
-fn said(outcome: &Outcome) -> &'static str
+fn words_of(outcome: &Outcome) -> &'static str
     ensures { result.now ≡ words_of outcome.now }
 {
     match outcome {

@@ -23,7 +23,7 @@ use Rattle.vm_meaning.specs.declared.answer.Answer.TheVariants.{Gives, TrapsWith
 use Rattle.vm_meaning.specs.Operations.{is_value_of, when_value, unary_answer, convert_answer, binary_answer, shift_answer, compare_answer, value_holds, loaded_answer, stored_memory, copied_memory}
 use Rattle.vm_meaning.specs.Effect.{first, second, writes, changes, is_taken, branches, return_act, does, takes_turn}
 use Rattle.vm_meaning.specs.Behave.{FunctionCode, Registers, blocks_in, insn_site, next_site, site_or_next, site_in_function, site_in_block, vm_code}
-use Rattle.suifvm_run.specs.model.Falls.{places, most_places, left_in, places_left, calls_left, insn_in, insn_at, unmarked, steps_left, AreMarked}
+use Rattle.suifvm_run.specs.model.Falls.{places, most_places, left_in, places_left, calls_left, insn_in, insn_at, unless_mark, steps_left, AreMarked}
 
 -- ---- places
 
@@ -75,7 +75,7 @@ left_later : (at : ℕ) (o : Option (List VmInsn)) → left_in (suc at) o ≤ le
 left_later at None = omega arith
 left_later at (Some row) = omega arith
 
-one_at_most : (o : Option VmInsn) → unmarked o ≤ 1
+one_at_most : (o : Option VmInsn) → unless_mark o ≤ 1
 one_at_most None = omega arith
 one_at_most (Some Mark) = omega arith
 one_at_most (Some (LoadConstant ty d w)) = omega arith
@@ -96,7 +96,7 @@ one_at_most (Some Nop) = omega arith
 
 -- ---- turns
 
-mark_turns : (i : VmInsn) → (takes_turn i ≡ true) ⊎ (unmarked (Some i) ≡ 1)
+mark_turns : (i : VmInsn) → (takes_turn i ≡ true) ⊎ (unless_mark (Some i) ≡ 1)
 mark_turns Mark = inl refl
 mark_turns (Call d c args) = inl refl
 mark_turns (LoadConstant ty d w) = inr refl
@@ -128,7 +128,7 @@ taken false m after h =
     clash : (let x : Bool = false in x ≡ true) → ⊥
     clash t = cc
 
-turn_falls : (i : VmInsn) (m after : Meter) → turn_if (takes_turn i) m ≡ Some after → after.turns + 1 ≤ m.turns + unmarked (Some i)
+turn_falls : (i : VmInsn) (m after : Meter) → turn_if (takes_turn i) m ≡ Some after → after.turns + 1 ≤ m.turns + unless_mark (Some i)
 turn_falls i m after h =
     let t = taken (takes_turn i) m after h in
     elim (mark_turns i) [ inl turn ↦ (let one = t.0 turn in omega (arith, one)) | inr one ↦ (let less = t.1 in omega (arith, one, less)) ]
@@ -163,7 +163,7 @@ returns_calm : (value : Option TypedRegister) (vs : List Value) (o : Outer) → 
 returns_calm None vs o = tt
 returns_calm (Some value) vs o = if_calm (is_value_of value.ty (first vs)) (Returns (first vs ∷ []) o) _ tt tt
 
-call_turns : (i : VmInsn) (own : ℕ) (vs : List Value) (o : Outer) → ((takes_turn i ≡ true) × (unmarked (Some i) ≡ 1)) ⊎ NoCall (does i own vs o)
+call_turns : (i : VmInsn) (own : ℕ) (vs : List Value) (o : Outer) → ((takes_turn i ≡ true) × (unless_mark (Some i) ≡ 1)) ⊎ NoCall (does i own vs o)
 call_turns (Call d c args) own vs o = inl (refl, refl)
 call_turns Mark own vs o = inr tt
 call_turns (LoadConstant ty d w) own vs o = inr (writes_calm (when_value ty (Word w)) o)
@@ -200,11 +200,11 @@ either : (a b : Bool) → a || b ≡ true → (a ≡ true) ⊎ (b ≡ true)
 either true b h = inl refl
 either false b h = inr h
 
-marked_at : (row : Option (List VmInsn)) → begins_with_mark row ≡ true → unmarked (insn_in 0 row) ≡ 0
+marked_at : (row : Option (List VmInsn)) → begins_with_mark row ≡ true → unless_mark (insn_in 0 row) ≡ 0
 marked_at None h = absurd (cc)
 marked_at (Some row) h = of_insn (slice_get row 0) h
   where
-    of_insn : (o : Option VmInsn) → first_is_mark o ≡ true → unmarked o ≡ 0
+    of_insn : (o : Option VmInsn) → first_is_mark o ≡ true → unless_mark o ≡ 0
     of_insn (Some Mark) h = refl
     of_insn None h = absurd (cc)
     of_insn (Some (LoadConstant ty d w)) h = absurd (cc)
@@ -253,7 +253,7 @@ module _ (rooms : Rooms) (fs : List FunctionCode) (marked : AreMarked fs) (k : C
     calls = calls_left fs (k.here ∷ k.callers)
 
     abbrev turns : ℕ
-    turns = k.world.meter.turns + unmarked (insn_at fs p)
+    turns = k.world.meter.turns + unless_mark (insn_at fs p)
 
     abbrev Falls : Config Registers → Type 0
     Falls next = steps_left fs next < steps_left fs k
@@ -283,38 +283,38 @@ module _ (rooms : Rooms) (fs : List FunctionCode) (marked : AreMarked fs) (k : C
     passed : (next : Config Registers) → slice_get row p.at ≡ None → step_at Value Registers rooms (vm_code fs) k (Some (next_site p.block)) ≡ Goes next → Falls next
     passed next none is =
         let ahead = forward (suc p.block) (omega arith) in
-        let one : unmarked (insn_at fs p) ≡ 1 = ap unmarked (insn_here ∙ none) in
+        let one : unless_mark (insn_at fs p) ≡ 1 = ap unless_mark (insn_here ∙ none) in
         let most = one_at_most (insn_at fs (record { function = p.function; block = suc p.block; at = 0 })) in
         subst Falls (goes_is _ next is)
-        (same_turns (most_places fs) calls (places_left fs (record { function = p.function; block = suc p.block; at = 0 }) + calls_left fs k.callers) turns (k.world.meter.turns + unmarked (insn_at fs (record { function = p.function; block = suc p.block; at = 0 }))) (omega (arith, ahead)) (omega (arith, one, most)))
+        (same_turns (most_places fs) calls (places_left fs (record { function = p.function; block = suc p.block; at = 0 }) + calls_left fs k.callers) turns (k.world.meter.turns + unless_mark (insn_at fs (record { function = p.function; block = suc p.block; at = 0 }))) (omega (arith, ahead)) (omega (arith, one, most)))
 
     module _ (i : VmInsn) (at : slice_get row p.at ≡ Some i) (m : Meter) (turn : turn_if (takes_turn i) k.world.meter ≡ Some m) where
       within : p.at < length row
       within = slice_get_within row p.at i at
 
       spent_here : m.turns + 1 ≤ turns
-      spent_here = subst (λ o. m.turns + 1 ≤ k.world.meter.turns + unmarked o) (sym (insn_here ∙ at)) (turn_falls i k.world.meter m turn)
+      spent_here = subst (λ o. m.turns + 1 ≤ k.world.meter.turns + unless_mark o) (sym (insn_here ∙ at)) (turn_falls i k.world.meter m turn)
 
       -- the run goes on at a point, with these calls behind it
-      on_same : (q : Point) (rest : ℕ) → places_left fs q + rest < calls → places_left fs q + rest + suc (most_places fs) * (m.turns + unmarked (insn_at fs q)) < calls + suc (most_places fs) * turns
+      on_same : (q : Point) (rest : ℕ) → places_left fs q + rest < calls → places_left fs q + rest + suc (most_places fs) * (m.turns + unless_mark (insn_at fs q)) < calls + suc (most_places fs) * turns
       on_same q rest less =
           let one = one_at_most (insn_at fs q) in
           let turn_less = spent_here in
-          same_turns (most_places fs) calls (places_left fs q + rest) turns (m.turns + unmarked (insn_at fs q)) less (omega (arith, one, turn_less))
+          same_turns (most_places fs) calls (places_left fs q + rest) turns (m.turns + unless_mark (insn_at fs q)) less (omega (arith, one, turn_less))
 
-      on_fewer : (q : Point) (rest : ℕ) → rest ≤ calls → m.turns + unmarked (insn_at fs q) + 1 ≤ turns → places_left fs q + rest + suc (most_places fs) * (m.turns + unmarked (insn_at fs q)) < calls + suc (most_places fs) * turns
+      on_fewer : (q : Point) (rest : ℕ) → rest ≤ calls → m.turns + unless_mark (insn_at fs q) + 1 ≤ turns → places_left fs q + rest + suc (most_places fs) * (m.turns + unless_mark (insn_at fs q)) < calls + suc (most_places fs) * turns
       on_fewer q rest few less =
           let most = point_few fs q in
-          fewer_turns (most_places fs) calls (places_left fs q + rest) turns (m.turns + unmarked (insn_at fs q)) (omega (arith, most, few)) less
+          fewer_turns (most_places fs) calls (places_left fs q + rest) turns (m.turns + unless_mark (insn_at fs q)) (omega (arith, most, few)) less
 
-      wrote : (q : Point) → q ≡ record { function = p.function; block = p.block; at = suc p.at } → places_left fs q + calls_left fs k.callers + suc (most_places fs) * (m.turns + unmarked (insn_at fs q)) < calls + suc (most_places fs) * turns
+      wrote : (q : Point) → q ≡ record { function = p.function; block = p.block; at = suc p.at } → places_left fs q + calls_left fs k.callers + suc (most_places fs) * (m.turns + unless_mark (insn_at fs q)) < calls + suc (most_places fs) * turns
       wrote q is = let less = next_place within in on_same q (calls_left fs k.callers) (subst (λ x. places_left fs x + calls_left fs k.callers < calls) (sym is) (omega (arith, less)))
 
-      went : (c : ℕ) → nat_lt p.block c || begins_with_mark (slice_get f.blocks c) ≡ true → places_left fs (record { function = p.function; block = c; at = 0 }) + calls_left fs k.callers + suc (most_places fs) * (m.turns + unmarked (insn_at fs (record { function = p.function; block = c; at = 0 }))) < calls + suc (most_places fs) * turns
+      went : (c : ℕ) → nat_lt p.block c || begins_with_mark (slice_get f.blocks c) ≡ true → places_left fs (record { function = p.function; block = c; at = 0 }) + calls_left fs k.callers + suc (most_places fs) * (m.turns + unless_mark (insn_at fs (record { function = p.function; block = c; at = 0 }))) < calls + suc (most_places fs) * turns
       went c h = elim (either (nat_lt p.block c) (begins_with_mark (slice_get f.blocks c)) h) [
         | inl ahead ↦ (let less = forward c (ltb-true p.block c ahead) in on_same (record { function = p.function; block = c; at = 0 }) (calls_left fs k.callers) (omega (arith, less)))
         | inr mark ↦ (
-            let none : unmarked (insn_at fs (record { function = p.function; block = c; at = 0 })) ≡ 0 = ap (λ bs. unmarked (insn_in 0 (slice_get bs c))) blocks_are ∙ marked_at (slice_get f.blocks c) mark in
+            let none : unless_mark (insn_at fs (record { function = p.function; block = c; at = 0 })) ≡ 0 = ap (λ bs. unless_mark (insn_in 0 (slice_get bs c))) blocks_are ∙ marked_at (slice_get f.blocks c) mark in
             let turn_less = spent_here in
             on_fewer (record { function = p.function; block = c; at = 0 }) (calls_left fs k.callers) (omega arith) (omega (arith, none, turn_less)))
       ]
@@ -323,7 +323,7 @@ module _ (rooms : Rooms) (fs : List FunctionCode) (marked : AreMarked fs) (k : C
       jumped w meter t None next eq is = absurd (over_goes _ next is)
       jumped w meter t (Some c) next eq is =
           subst Falls (goes_is _ next is)
-          (subst (λ (x : Meter). places_left fs (record { function = p.function; block = c; at = 0 }) + calls_left fs k.callers + suc (most_places fs) * (x.turns + unmarked (insn_at fs (record { function = p.function; block = c; at = 0 }))) < calls + suc (most_places fs) * turns) (sym meter)
+          (subst (λ (x : Meter). places_left fs (record { function = p.function; block = c; at = 0 }) + calls_left fs k.callers + suc (most_places fs) * (x.turns + unless_mark (insn_at fs (record { function = p.function; block = c; at = 0 }))) < calls + suc (most_places fs) * turns) (sym meter)
           (went c (passes (λ target. nat_lt p.block target || begins_with_mark (slice_get f.blocks target)) (targets_of i) t c (marked.marks p.function p.block p.at f row i there block_there at) eq)))
 
       resumed : (w : World) → w.meter.turns ≡ m.turns → (vs : List Value) (c : Frame Registers) (cs : List (Frame Registers)) (site : Option (Site Value Registers)) (next : Config Registers) → calls_left fs k.callers ≡ calls_left fs (c ∷ cs) → resume Value Registers rooms (vm_code fs) c cs w vs site ≡ Goes next → Falls next
@@ -332,21 +332,21 @@ module _ (rooms : Rooms) (fs : List FunctionCode) (marked : AreMarked fs) (k : C
           let less = next_place within in
           let same = left_later c.point.at (slice_get (blocks_in (slice_get fs c.point.function)) c.point.block) in
           subst Falls (goes_is _ next is)
-          (subst (λ n. places_left fs (record { function = c.point.function; block = c.point.block; at = suc c.point.at }) + calls_left fs cs + suc (most_places fs) * (n + unmarked (insn_at fs (record { function = c.point.function; block = c.point.block; at = suc c.point.at }))) < calls + suc (most_places fs) * turns) (sym meter)
+          (subst (λ n. places_left fs (record { function = c.point.function; block = c.point.block; at = suc c.point.at }) + calls_left fs cs + suc (most_places fs) * (n + unless_mark (insn_at fs (record { function = c.point.function; block = c.point.block; at = suc c.point.at }))) < calls + suc (most_places fs) * turns) (sym meter)
           (on_same (record { function = c.point.function; block = c.point.block; at = suc c.point.at }) (calls_left fs cs) (omega (arith, less, eq, same))))
 
       returned : (number : ℕ) (vs : List Value) (w : World) → w.meter.turns ≡ m.turns → (callers : List (Frame Registers)) (next : Config Registers) → calls_left fs k.callers ≡ calls_left fs callers → return_to Value Registers rooms (vm_code fs) number vs w callers ≡ Goes next → Falls next
       returned number vs w meter [] next eq is = absurd (over_goes _ next is)
       returned number vs w meter (c ∷ cs) next eq is = resumed w meter vs c cs ((vm_code fs).site c.point) next eq is
 
-      entered : (q : Point) → (takes_turn i ≡ true) × (unmarked (Some i) ≡ 1) → places_left fs q + calls + suc (most_places fs) * (m.turns + unmarked (insn_at fs q)) < calls + suc (most_places fs) * turns
+      entered : (q : Point) → (takes_turn i ≡ true) × (unless_mark (Some i) ≡ 1) → places_left fs q + calls + suc (most_places fs) * (m.turns + unless_mark (insn_at fs q)) < calls + suc (most_places fs) * turns
       entered q h =
           let one = one_at_most (insn_at fs q) in
           let whole : m.turns + 1 ≡ k.world.meter.turns = (taken (takes_turn i) k.world.meter m turn).0 h.0 in
-          let here_one : unmarked (insn_at fs p) ≡ 1 = ap unmarked (insn_here ∙ at) ∙ h.1 in
+          let here_one : unless_mark (insn_at fs p) ≡ 1 = ap unless_mark (insn_here ∙ at) ∙ h.1 in
           on_fewer q calls (omega arith) (omega (arith, one, whole, here_one))
 
-      acted : (a : Act Value) (next : Config Registers) → ((takes_turn i ≡ true) × (unmarked (Some i) ≡ 1)) ⊎ NoCall a → act_on Value Registers rooms (vm_code fs) k m (insn_site i) a ≡ Goes next → Falls next
+      acted : (a : Act Value) (next : Config Registers) → ((takes_turn i ≡ true) × (unless_mark (Some i) ≡ 1)) ⊎ NoCall a → act_on Value Registers rooms (vm_code fs) k m (insn_site i) a ≡ Goes next → Falls next
       acted (Writes vs o) next c is = subst Falls (goes_is _ next is) (wrote (record { function = p.function; block = p.block; at = suc p.at }) refl)
       acted (Jumps t o) next c is = jumped (world_of o m) refl t (slice_get (targets_of i) t) next refl is
       acted (Calls function vs o) next (inl h) is = subst Falls (goes_is _ next is) (entered (record { function = function; block = 0; at = 0 }) h)

@@ -1,6 +1,6 @@
 //! The places of the nodes of trees, which no printed text shows.
 
-use crate::trees::refused;
+use crate::trees::refusal_line;
 use anyhow::{Result, ensure};
 use c_lexer::TEXT_LIMIT;
 use c_parser::parse;
@@ -258,13 +258,13 @@ impl Places {
             Stmt::Expression(expr) => self.expr(expr),
             Stmt::Empty => Ok(()),
             Stmt::Local(local) => self.local(local),
-            _ => self.nested(statement),
+            _ => self.inner_statements(statement),
         }
     }
 
     /// The statements that others stand in.
     #[cycle(statements)]
-    fn nested(&mut self, statement: &Stmt) -> Answer {
+    fn inner_statements(&mut self, statement: &Stmt) -> Answer {
         match statement {
             Stmt::Block(statements) => self.statements(statements.as_slice()),
             Stmt::If {
@@ -356,7 +356,7 @@ pub fn answer(alloc: Global, given: &str) -> Result<Vec<u8>> {
     ensure!(text.len() <= TEXT_LIMIT, "a text that is too long");
     let unit = match parse(alloc, text.as_slice()) {
         Ok(unit) => unit,
-        Err(fault) => return Ok(refused(alloc, fault)?),
+        Err(fault) => return Ok(refusal_line(alloc, fault)?),
     };
     let mut places = Places {
         alloc,

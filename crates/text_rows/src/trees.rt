@@ -8,7 +8,7 @@ use row_sheets::escape::unescape;
 use std::alloc::{AllocError, Global};
 
 /// A line for what refused a text.
-pub fn refused(alloc: Global, fault: ParseFault) -> Result<Vec<u8>, AllocError> {
+pub fn refusal_line(alloc: Global, fault: ParseFault) -> Result<Vec<u8>, AllocError> {
     let shown = match fault {
         ParseFault::Lex { at } => format!(in alloc; "Lex {at}\n")?,
         ParseFault::Nesting { counted } => format!(in alloc; "Nesting {counted}\n")?,
@@ -24,7 +24,7 @@ pub fn tree(alloc: Global, given: &str) -> Result<Vec<u8>> {
     ensure!(text.len() <= TEXT_LIMIT, "a text that is too long");
     Ok(match parse(alloc, text.as_slice()) {
         Ok(unit) => tree_text(alloc, &unit)?,
-        Err(fault) => refused(alloc, fault)?,
+        Err(fault) => refusal_line(alloc, fault)?,
     })
 }
 
@@ -34,7 +34,7 @@ pub fn is_read(alloc: Global, given: &str) -> Result<Vec<u8>> {
     ensure!(text.len() <= TEXT_LIMIT, "a text that is too long");
     Ok(match parse(alloc, text.as_slice()) {
         Ok(_unit) => "read\n".to_string(alloc)?.into_bytes(),
-        Err(fault) => refused(alloc, fault)?,
+        Err(fault) => refusal_line(alloc, fault)?,
     })
 }
 
@@ -46,7 +46,7 @@ pub fn completion(alloc: Global, given: &str) -> Result<Vec<u8>> {
     ensure!(text.len() <= TEXT_LIMIT, "a text that is too long");
     let at = match parse(alloc, text.as_slice()) {
         Err(ParseFault::Syntax { at }) => at,
-        Err(fault) => return Ok(refused(alloc, fault)?),
+        Err(fault) => return Ok(refusal_line(alloc, fault)?),
         Ok(_unit) => return Ok("read\n".to_string(alloc)?.into_bytes()),
     };
     let front = text.get(..at as usize).context("a place beyond the text")?;
@@ -56,7 +56,7 @@ pub fn completion(alloc: Global, given: &str) -> Result<Vec<u8>> {
     let mut shown = format!(in alloc; "Syntax {at}, ")?.into_bytes();
     match parse(alloc, whole.as_slice()) {
         Ok(_unit) => shown.extend_from_slice(b"read\n")?,
-        Err(fault) => shown.extend_from_slice(refused(alloc, fault)?.as_slice())?,
+        Err(fault) => shown.extend_from_slice(refusal_line(alloc, fault)?.as_slice())?,
     }
     Ok(shown)
 }
@@ -67,6 +67,6 @@ pub fn nesting(alloc: Global, given: &str) -> Result<Vec<u8>> {
     ensure!(text.len() <= TEXT_LIMIT, "a text that is too long");
     Ok(match nest(alloc, text.as_slice()) {
         Ok(counted) => format!(in alloc; "{counted}\n")?.into_bytes(),
-        Err(fault) => refused(alloc, fault)?,
+        Err(fault) => refusal_line(alloc, fault)?,
     })
 }

@@ -7,7 +7,7 @@ use row_sheets::number::quad;
 use std::alloc::Global;
 
 /// The type with a name.
-fn named(name: &str) -> Result<IntegerType> {
+fn type_with_name(name: &str) -> Result<IntegerType> {
     Ok(match name {
         "char" => IntegerType::Char,
         "unsigned-char" => IntegerType::UnsignedChar,
@@ -104,19 +104,22 @@ fn shift(
 pub fn answer(alloc: Global, given: &str) -> Result<Vec<u8>> {
     let parts: Vec<&str> = given.split(' ').collect(alloc)?;
     let shown = match parts.as_slice() {
-        ["promoted", of] => shown_type(alloc, named(of)?.promoted())?,
-        ["common", of, other] => shown_type(alloc, named(of)?.common(named(other)?))?,
+        ["promoted", of] => shown_type(alloc, type_with_name(of)?.promote())?,
+        ["common", of, other] => shown_type(
+            alloc,
+            type_with_name(of)?.common(type_with_name(other)?),
+        )?,
         ["convert", from, to, word] => shown_word(
             alloc,
-            named(from)?.convert(named(to)?, quad(word)?),
+            type_with_name(from)?.convert(type_with_name(to)?, quad(word)?),
         )?,
-        [operation, of, word] => of_one(alloc, operation, named(of)?, quad(word)?)?,
-        [operation, of, a, b] => of_two(alloc, operation, named(of)?, quad(a)?, quad(b)?)?,
+        [operation, of, word] => of_one(alloc, operation, type_with_name(of)?, quad(word)?)?,
+        [operation, of, a, b] => of_two(alloc, operation, type_with_name(of)?, quad(a)?, quad(b)?)?,
         [operation, of, by, a, count] => {
             shift(
                 alloc,
                 operation,
-                (named(of)?, named(by)?),
+                (type_with_name(of)?, type_with_name(by)?),
                 quad(a)?,
                 quad(count)?,
             )?

@@ -117,7 +117,7 @@ fn beside(list: &IndexList<u32>, id: u32, is_forward: bool) -> Result<Option<u32
 }
 
 /// The pairs by the links of one side.
-fn linked(alloc: Global, list: &IndexList<u32>, is_forward: bool) -> Result<String> {
+fn pairs_by_links(alloc: Global, list: &IndexList<u32>, is_forward: bool) -> Result<String> {
     let mut pairs = String::new(alloc);
     let mut at = if is_forward {
         list.first()
@@ -135,7 +135,7 @@ fn linked(alloc: Global, list: &IndexList<u32>, is_forward: bool) -> Result<Stri
 }
 
 /// The pairs in the order of the walk.
-fn walked(alloc: Global, list: &IndexList<u32>) -> Result<String> {
+fn pairs_by_walk(alloc: Global, list: &IndexList<u32>) -> Result<String> {
     let mut pairs = String::new(alloc);
     for (id, item) in list.iter() {
         pairs.push_str(format!(in alloc; " {id}:{item}")?.as_str())?;
@@ -151,9 +151,9 @@ pub fn answer(alloc: Global, given: &str) -> Result<Vec<u8>> {
         let answer = call(&mut list, word.trim())?;
         text.push_str(format!(in alloc; "{answer} ")?.as_str())?;
     }
-    let forward = linked(alloc, &list, true)?;
-    let back = linked(alloc, &list, false)?;
-    let walk = walked(alloc, &list)?;
+    let forward = pairs_by_links(alloc, &list, true)?;
+    let back = pairs_by_links(alloc, &list, false)?;
+    let walk = pairs_by_walk(alloc, &list)?;
     text.push_str(format!(in alloc; "/{forward} /{back} /{walk} / {}\n", list.made())?.as_str())?;
     Ok(text.into_bytes())
 }

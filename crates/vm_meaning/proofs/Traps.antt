@@ -31,7 +31,7 @@ use Rattle.suifvm_ir.specs.declared.insn.TypedRegister.{TypedRegister}
 use Rattle.suifvm_ir.specs.declared.insn.VmInsn.{VmInsn}
 use Rattle.suifvm_ir.specs.declared.insn.VmInsn.TheVariants.{LoadConstant, LoadAddress, Load, Store, Copy, Unary, Binary, Shift, Convert, Compare, Branch, Jump, Call, Return, Mark, Nop}
 use Rattle.suifvm_ir.specs.Insns.{unary_may_trap, binary_may_trap, call_may_trap, may_trap_of}
-use Rattle.vm_meaning.specs.Operations.{Answer, Gives, TrapsWith, Fails, is_set, is_value_of, when_value, integer_of, memory_integer, access_bytes, is_pointer_access, with_sign, without_sign, compared, compare_pointer, shift_by, convert_answer, shift_answer, value_holds, loaded_answer, stored_memory, copied_memory, outcome_answer, value_answer, distance_answer, test_answer, on_number, on_numbers, unary_number, unary_answer, converted, binary_number, pointer_answer, binary_answer, shift_number, compare_answer, load_answer, load_through}
+use Rattle.vm_meaning.specs.Operations.{Answer, Gives, TrapsWith, Fails, is_set, is_value_of, when_value, integer_of, memory_integer, access_bytes, is_pointer_access, with_sign, without_sign, comparison_answer, compare_pointer, shift_by, convert_answer, shift_answer, value_holds, loaded_answer, stored_memory, copied_memory, outcome_answer, value_answer, distance_answer, test_answer, on_number, on_numbers, unary_number, unary_answer, conversion_answer, binary_number, pointer_answer, binary_answer, shift_number, compare_answer, load_answer, load_through}
 use Rattle.vm_meaning.specs.Effect.{fails, first, second, writes, changes, is_taken, branches, puts_char, exits, builtin_act, call_act, return_act, does}
 use Rattle.vm_meaning.specs.Laws.{OnlyTheseTrap}
 
@@ -99,12 +99,12 @@ calm_through m t (Some (Address p)) = calm_loaded t (load_at m p (access_bytes t
 calm_through m t (Some Unset) = tt
 calm_through m t None = tt
 
-calm_converted : (s t : Option IntegerType) (v : Value) → Calm (converted s t v)
-calm_converted (Some s) (Some t) (Word n) = tt
-calm_converted (Some s) (Some t) (Address p) = tt
-calm_converted (Some s) (Some t) Unset = tt
-calm_converted (Some s) None v = tt
-calm_converted None t v = tt
+calm_conversion : (s t : Option IntegerType) (v : Value) → Calm (conversion_answer s t v)
+calm_conversion (Some s) (Some t) (Word n) = tt
+calm_conversion (Some s) (Some t) (Address p) = tt
+calm_conversion (Some s) (Some t) Unset = tt
+calm_conversion (Some s) None v = tt
+calm_conversion None t v = tt
 
 calm_left : (t : IntegerType) (a : ℕ) (k : Option ℕ) → Calm (outcome_answer (left_shift_by t a k))
 calm_left t a (Some k) = tt
@@ -192,10 +192,10 @@ binary_only Or ty m a b o = calm_writes (binary_answer m Or ty a b) o (calm_bina
 binary_only ExclusiveOr ty m a b o = calm_writes (binary_answer m ExclusiveOr ty a b) o (calm_binary ExclusiveOr ty m a b (λ t x y. tt))
 
 calm_compare : (op : CompareOp) (ty : VmType) (m : Memory) (a b : Value) → Calm (compare_answer m op ty a b)
-calm_compare op S32 m a b = calm_numbers Int a b (compared op) (λ x y. tt)
-calm_compare op U32 m a b = calm_numbers UnsignedInt a b (compared op) (λ x y. tt)
-calm_compare op S64 m a b = calm_numbers Long a b (compared op) (λ x y. tt)
-calm_compare op U64 m a b = calm_numbers UnsignedLong a b (compared op) (λ x y. tt)
+calm_compare op S32 m a b = calm_numbers Int a b (comparison_answer op) (λ x y. tt)
+calm_compare op U32 m a b = calm_numbers UnsignedInt a b (comparison_answer op) (λ x y. tt)
+calm_compare op S64 m a b = calm_numbers Long a b (comparison_answer op) (λ x y. tt)
+calm_compare op U64 m a b = calm_numbers UnsignedLong a b (comparison_answer op) (λ x y. tt)
 calm_compare op P64 m a b = calm_test (compare_pointer m op a b)
 
 no_trap_changes : (m : Option Memory) (o : Outer) → NoTrap (changes m o)
@@ -244,7 +244,7 @@ traps_only (Unary op ty destination source) own vs o = unary_only op ty (first v
 traps_only (Binary op ty destination left right) own vs o = binary_only op ty o.memory (first vs) (second vs) o
 traps_only (Shift op ty destination source count) own vs o = calm_writes (shift_answer op ty (first vs) (second vs)) o (calm_shifts op ty (first vs) (second vs))
 traps_only (Convert from to destination source) own vs o =
-    calm_writes (convert_answer from to (first vs)) o (calm_converted (memory_integer from) (integer_of to) (first vs))
+    calm_writes (convert_answer from to (first vs)) o (calm_conversion (memory_integer from) (integer_of to) (first vs))
 traps_only (Compare op ty destination left right) own vs o =
     calm_writes (compare_answer o.memory op ty (first vs) (second vs)) o (calm_compare op ty o.memory (first vs) (second vs))
 traps_only (Branch op ty source block) own vs o = no_trap_branches op (value_holds o.memory ty (first vs)) o

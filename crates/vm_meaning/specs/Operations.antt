@@ -125,12 +125,12 @@ unary_answer op v.P64 a = unary_pointer op a
 unary_answer op ty a = on_number (integer_of ty) a (unary_number op)
 
 -- a conversion takes any word
-abbrev pub converted : Option IntegerType → Option IntegerType → Value → Answer
-converted (Some s) (Some t) (Word n) = word_answer (c.conversion s t n)
-converted _ _ _ = Fails
+abbrev pub conversion_answer : Option IntegerType → Option IntegerType → Value → Answer
+conversion_answer (Some s) (Some t) (Word n) = word_answer (c.conversion s t n)
+conversion_answer _ _ _ = Fails
 
 abbrev pub convert_answer : MemoryType → VmType → Value → Answer
-convert_answer from to a = converted (memory_integer from) (integer_of to) a
+convert_answer from to a = conversion_answer (memory_integer from) (integer_of to) a
 
 -- ---- operations on two values
 
@@ -191,12 +191,12 @@ compare_pointer memory NotEqual a b = option_map not (pointer_eq memory a b)
 compare_pointer memory Less a b = pointer_lt memory a b
 compare_pointer memory LessOrEqual a b = pointer_le memory a b
 
-abbrev pub compared : CompareOp → IntegerType → (a b : ℕ) → Answer
-compared op t a b = word_answer (c.truth (compare_number op t a b))
+abbrev pub comparison_answer : CompareOp → IntegerType → (a b : ℕ) → Answer
+comparison_answer op t a b = word_answer (c.truth (compare_number op t a b))
 
 abbrev pub compare_answer : Memory → CompareOp → VmType → (a b : Value) → Answer
 compare_answer memory op v.P64 a b = test_answer (compare_pointer memory op a b)
-compare_answer memory op ty a b = on_numbers (integer_of ty) a b (compared op)
+compare_answer memory op ty a b = on_numbers (integer_of ty) a b (comparison_answer op)
 
 -- a value is neither zero nor null
 abbrev pub number_holds : Option IntegerType → Value → Option Bool

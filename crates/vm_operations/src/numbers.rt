@@ -140,8 +140,8 @@ pub fn unary(op: UnaryOp, ty: VmType, value: Value) -> Answer
 
 /// A conversion between integer types.
 #[inline(always)]
-fn converted(from: Option<IntegerType>, to: Option<IntegerType>, value: Value) -> Answer
-    ensures { result ≡ operations.converted from to value }
+fn conversion_answer(from: Option<IntegerType>, to: Option<IntegerType>, value: Value) -> Answer
+    ensures { result ≡ operations.conversion_answer from to value }
 {
     match from {
         None => Answer::Fails,
@@ -161,7 +161,7 @@ fn converted(from: Option<IntegerType>, to: Option<IntegerType>, value: Value) -
 pub fn convert(from: MemoryType, to: VmType, value: Value) -> Answer
     ensures { result ≡ operations.convert_answer from to value }
 {
-    converted(memory_integer(from), integer_of(to), value)
+    conversion_answer(memory_integer(from), integer_of(to), value)
 }
 
 /// An operation on two numbers.
@@ -289,7 +289,7 @@ pub fn shift(op: ShiftOp, ty: VmType, value: Value, count: Value) -> Answer
 #[inline(always)]
 #[tactic(auto, using(crate::proofs::Words::on_two, crate::proofs::Words::on_first, crate::proofs::Words::on_second))]
 pub(crate) fn compare_in(op: CompareOp, t: IntegerType, a: Value, b: Value) -> Answer
-    ensures { result ≡ operations.on_numbers (Some t) a b (operations.compared op) }
+    ensures { result ≡ operations.on_numbers (Some t) a b (operations.comparison_answer op) }
 {
     let Some(first) = word_in(t, a) else {
         return Answer::Fails;

@@ -43,7 +43,7 @@ fn is_pointer_access(ty: Option<IntegerType>) -> bool
 }
 
 /// What was loaded, as a register holds it.
-fn extended(ty: Option<IntegerType>, value: Value) -> Value
+fn extend_word(ty: Option<IntegerType>, value: Value) -> Value
     ensures { result ≡ operations.extended_value ty value }
 {
     match ty {
@@ -61,7 +61,7 @@ fn of_load(ty: Option<IntegerType>, loaded: Result<Value, MemFault>) -> Answer
     ensures { result ≡ operations.load_answer ty loaded }
 {
     match loaded {
-        Ok(value) => Answer::Gives(extended(ty, value)),
+        Ok(value) => Answer::Gives(extend_word(ty, value)),
         Err(_) => Answer::Fails,
     }
 }

@@ -5,7 +5,7 @@ ghost use Rattle.vm_operations.specs.Tidy.{IsTidy};
 ghost use Rattle.vm_meaning.specs.Operations as operations;
 
 use crate::numbers::{binary_in, compare_in};
-use crate::pointers::{compare_pointer, is_null, negated, pointer_answer};
+use crate::pointers::{compare_pointer, is_null, negate_test, pointer_answer};
 use c_arithmetic::comparison::truth;
 use c_arithmetic::integer_type::IntegerType;
 use mem_model::memory::Mem;
@@ -75,6 +75,6 @@ pub fn value_holds(memory: &Mem, ty: VmType, value: Value) -> Option<bool>
         VmType::U32 => number_holds(IntegerType::UnsignedInt, value),
         VmType::S64 => number_holds(IntegerType::Long, value),
         VmType::U64 => number_holds(IntegerType::UnsignedLong, value),
-        VmType::P64 => negated(is_null(memory, value)),
+        VmType::P64 => negate_test(is_null(memory, value)),
     }
 }

@@ -29,7 +29,7 @@ fn distance(to: i64, from: i64) -> u64
 }
 
 /// An offset moved by so many bytes, where it stays within 0 to a size.
-fn moved(offset: i64, by: i64, size: u64) -> Option<i64>
+fn move_offset(offset: i64, by: i64, size: u64) -> Option<i64>
     requires { size < 2 ^ 63 }
     ensures { result ≡ pointers.when (pointers.is_offset (offset +ℤ by) size) (offset +ℤ by) }
 {
@@ -67,7 +67,7 @@ fn address_plus(memory: &Mem, p: Ptr, by: i64) -> Option<Ptr>
 {
     match memory.size_of(p.object) {
         None => None,
-        Some(size) => match moved(p.offset, by, size) {
+        Some(size) => match move_offset(p.offset, by, size) {
             None => None,
             Some(offset) => Some(Ptr {
                 object: p.object,
@@ -112,7 +112,7 @@ fn pointer_minus(memory: &Mem, a: Value, b: Value) -> Answer
 }
 
 /// The value that there may be.
-fn given(value: Option<Value>) -> Answer
+fn answer_of(value: Option<Value>) -> Answer
     ensures { result ≡ operations.value_answer value }
 {
     match value {
@@ -127,7 +127,7 @@ fn sum(memory: &Mem, a: Value, b: Value) -> Answer
     ensures { result ≡ operations.pointer_answer memory.now BinaryOp.Add a b }
 {
     match b {
-        Value::Word(word) => given(pointer_plus(memory, a, number_of(word))),
+        Value::Word(word) => answer_of(pointer_plus(memory, a, number_of(word))),
         Value::Address(_) => Answer::Fails,
         Value::Unset => Answer::Fails,
     }
@@ -250,7 +250,7 @@ fn pointer_eq(memory: &Mem, a: Value, b: Value) -> Option<bool>
 }
 
 /// Turns an answer round.
-pub(crate) fn negated(test: Option<bool>) -> Option<bool>
+pub(crate) fn negate_test(test: Option<bool>) -> Option<bool>
     ensures { result ≡ option_map not test }
 {
     match test {
@@ -265,7 +265,7 @@ pub(crate) fn compare_pointer(memory: &Mem, op: CompareOp, a: Value, b: Value) -
 {
     match op {
         CompareOp::Equal => pointer_eq(memory, a, b),
-        CompareOp::NotEqual => negated(pointer_eq(memory, a, b)),
+        CompareOp::NotEqual => negate_test(pointer_eq(memory, a, b)),
         CompareOp::Less => pointer_lt(memory, a, b),
         CompareOp::LessOrEqual => pointer_le(memory, a, b),
     }

@@ -15,7 +15,7 @@ pub struct Line<'a> {
 }
 
 /// The number behind a letter.
-fn numbered(text: &str, letter: &str) -> Result<u32> {
+fn number_behind(text: &str, letter: &str) -> Result<u32> {
     let digits = text
         .strip_prefix(letter)
         .context(format_args!("{text:?} is none of {letter:?}"))?;
@@ -63,7 +63,7 @@ impl<'a> Line<'a> {
 
     /// The block of an operand.
     pub fn block(&self, at: usize) -> Result<u32> {
-        numbered(self.operand(at)?, "B")
+        number_behind(self.operand(at)?, "B")
     }
 
     /// The number of an operand.
@@ -89,15 +89,15 @@ impl<'a> Line<'a> {
 
 /// A register.
 pub fn register(text: &str) -> Result<u32> {
-    numbered(text, "v")
+    number_behind(text, "v")
 }
 
 /// The number of an object of static storage, or none where the text is that of a memory local.
 pub fn global(text: &str) -> Option<u32> {
-    numbered(text, "g").ok()
+    number_behind(text, "g").ok()
 }
 
 /// The number of a memory local.
 pub fn local(text: &str) -> Result<u32> {
-    numbered(text, "m")
+    number_behind(text, "m")
 }

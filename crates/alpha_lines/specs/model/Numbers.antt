@@ -12,12 +12,12 @@ number_of most s =
 abbrev pub negative : ℕ → Option ℤ
 negative n = if n == 0 then None else Some (negsuc (n - 1))
 
-abbrev pub negated : Option ℕ → Option ℤ
-negated None = None
-negated (Some n) = negative n
+abbrev pub negate : Option ℕ → Option ℤ
+negate None = None
+negate (Some n) = negative n
 
 -- the number of 16 bits in two's complement that is spelled so
 unfoldable pub displacement_of : List ℕ → Option ℤ
 displacement_of [] = None
 displacement_of (b ∷ s) =
-    if b == 45 then negated (number_of (2 ^ 15) s) else option_map pos (number_of (2 ^ 15 - 1) (b ∷ s))
+    if b == 45 then negate (number_of (2 ^ 15) s) else option_map pos (number_of (2 ^ 15 - 1) (b ∷ s))

@@ -7,14 +7,14 @@ use Rattle.c_checks.specs.Checks.{and_then, each}
 use Rattle.c_expressions.specs.Expressions.{judge}
 use Rattle.c_judgements.specs.Types.{State, within}
 use Rattle.c_tag_bodies.specs.declared.members.Members.{Members}
-use Rattle.c_tag_bodies.specs.Enums.{given, value_behind, behind, constant_declared}
+use Rattle.c_tag_bodies.specs.Enums.{explicit_value, value_behind, behind, constant_declared}
 use Rattle.c_tag_bodies.specs.Members.{no_members}
 use Rattle.c_tag_bodies.specs.Structs.{with_body}
 use Rattle.c_tag_bodies.specs.Bodies.{Scope, enum_entered, struct_entered, struct_left, member_entered, declared_type}
 
 abbrev pub constant_value : ℕ → Option e.Expr → (before : Option (Option ℕ)) → State → Option ℕ × State
 constant_value at None before s = within s.0 (value_behind at before s.1)
-constant_value at (Some x) before s = and_then (judge x s) (λ a u. within u.0 (each a given u.1))
+constant_value at (Some x) before s = and_then (judge x s) (λ a u. within u.0 (each a explicit_value u.1))
 
 abbrev pub constants : List Constant → (before : Option (Option ℕ)) → State → State
 constants [] before s = s

@@ -41,15 +41,15 @@ abbrev pub insn_at : List FunctionCode → Point → Option VmInsn
 insn_at fs p = insn_in p.at (slice_get (blocks_in (slice_get fs p.function)) p.block)
 
 -- 0 before a mark, and else 1
-abbrev pub unmarked : Option VmInsn → ℕ
-unmarked (Some Mark) = 0
-unmarked _ = 1
+abbrev pub unless_mark : Option VmInsn → ℕ
+unless_mark (Some Mark) = 0
+unless_mark _ = 1
 
 -- between two turns no place of a call is reached twice, but for a mark where a jump goes back
 abbrev pub steps_left : List FunctionCode → Config Registers → ℕ
 steps_left fs k =
     calls_left fs (k.here ∷ k.callers)
-    + suc (most_places fs) * (k.world.meter.turns + unmarked (insn_at fs k.here.point))
+    + suc (most_places fs) * (k.world.meter.turns + unless_mark (insn_at fs k.here.point))
 
 -- the same of a machine
 abbrev pub nothing_hidden : Hidden

@@ -6,8 +6,8 @@ use Rattle.c_expressions.proofs.expressions.+expression.Goals as goal
 
 pub judge-returns-in_ok-found-in-Call : goal.judge-returns-in_ok-found-in-Call
 judge-returns-in_ok-found-in-Call t c =
-    call_done c.args.e.now c.in-Call.at c.in-Call.name c.in-Call.arguments c.as_slice-in-Call.result.now (c.args.env.now, c.args.notes.now) c.judges.new.env c.judges.new.notes c.called.new.notes _ _ c.called.result
-    c.in-Call.is c.as_slice-in-Call.ensures c.in_ok-found-in-Call.ensures (c.meaning_of-meaning.ensures ∙ ap (meaning_of c.judges.new.env) c.as_slice-in-Call-2.ensures) c.called.ensures
+    call_done c.args.e.now c.in-Call.at c.in-Call.name c.in-Call.arguments c.as_slice-in-Call.result.now (c.args.env.now, c.args.notes.now) c.judges.new.env c.judges.new.notes c.call_by_meaning.new.notes _ _ c.call_by_meaning.result
+    c.in-Call.is c.as_slice-in-Call.ensures c.in_ok-found-in-Call.ensures (c.meaning_of-meaning.ensures ∙ ap (meaning_of c.judges.new.env) c.as_slice-in-Call-2.ensures) c.call_by_meaning.ensures
 
 pub judge-returns-in_ok-found-in-Comma : goal.judge-returns-in_ok-found-in-Comma
 judge-returns-in_ok-found-in-Comma t c =
