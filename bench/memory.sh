@@ -96,6 +96,36 @@ fn main(rt: HostRuntime) -> Result<(), anyhow::Error> {
             }
         }
     }
+    if word == "nested" {
+        for _ in 0..200_000_u64 {
+            let first = mem.alloc_object(8, true)?;
+            for _ in 1..100_u64 {
+                let _ = mem.alloc_object(8, true)?;
+            }
+            for k in 0..100_u64 {
+                let object = first.wrapping_add(k);
+                if mem.size_of(object).is_some() {
+                    mem.end_object(object);
+                }
+            }
+        }
+    }
+    if word == "scattered" {
+        let mut numbers = Vec::new(alloc);
+        for _ in 0..1000_u64 {
+            numbers.push(mem.alloc_object(8, true)?)?;
+        }
+        let mut chosen = 0_usize;
+        for _ in 0..20_000_000_u64 {
+            chosen = chosen.wrapping_mul(5).wrapping_add(7) % 1000;
+            if let Some(object) = numbers.get_mut(chosen) {
+                if mem.size_of(*object).is_some() {
+                    mem.end_object(*object);
+                }
+                *object = mem.alloc_object(8, true)?;
+            }
+        }
+    }
     let spent = start.elapsed(&rt)?;
     println!(rt; "{word} {} ms, sum {sum}", spent.as_millis())?;
     Ok(())
@@ -152,6 +182,8 @@ none = run([program, "none"])[2]
 for word in ["making", "bytes", "pointers"]:
     line, status, touched = run([program, word])
     print("an object of 64 MiB, %s: %.2f bytes a cell (status %d)" % (line, (touched - none) / 67108864, status))
-line, status, touched = run([program, "ends"])
-print("20,000,000 objects that begin and end: %s, %.1f bytes each (status %d)" % (line, (touched - none) / 2e7, status))
+for word, order in [("ends", "one by one"), ("nested", "a hundred at a time, the first of them first"),
+                    ("scattered", "of a thousand that live, in no order")]:
+    line, status, touched = run([program, word])
+    print("20,000,000 objects that begin and end, %s: %s, %d bytes (status %d)" % (order, line, touched - none, status))
 PY

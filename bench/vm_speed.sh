@@ -5,7 +5,8 @@
 # where the crates are proved, and reads the program's text with the reader of the rows (vm_rows).
 #
 # The loop has 5 instructions: a mark, a sum of two 64-bit words, a difference of two 32-bit ones that traps where it
-# overflows, a comparison and a branch.
+# overflows, a comparison and a branch. Then it runs 10 million calls, each with an object of its own, and prints the
+# most memory that the program had at once, and that for one such call.
 set -eu
 
 top=$(pwd)
@@ -62,7 +63,11 @@ fn main(rt: HostRuntime) -> Result<()> {
     for path in words.iter().skip(1) {
         let text = fs::read_to_string(&rt, path.as_str())?;
         let mut names = Vec::new(alloc);
-        names.push("main".to_string(alloc)?)?;
+        for line in text.lines() {
+            if let Some(name) = line.strip_prefix("func ") {
+                names.push(name.to_string(alloc)?)?;
+            }
+        }
         let mut reader = Reader::new(alloc, names);
         for line in text.lines() {
             reader.take(line)?;
@@ -96,6 +101,34 @@ B1:
 B2:
 10 ret.s32 v4
 CODE
+
+# 10 million calls, one after another, of a function with an object that it writes and reads
+cat > "$room/calls.vm" <<CODE
+func main
+params 0
+registers 3
+B0:
+0 ldc.s32 v0, 10000000
+1 ldc.s32 v1, 1
+B1:
+2 mrk
+3 cal v2, keep, v0
+4 sub.s32 v0, v0, v1
+5 btrue.s32 v0, B1
+B2:
+6 ret.s32 v2
+func keep
+params 1
+registers 3
+object 8 8
+B0:
+7 lda v1, m0+0
+8 str.s32 v1, 4, v0
+9 lod.s32 v2, v1, 4
+10 ret.s32 v2
+CODE
+# and one
+sed 's/10000000/1/' "$room/calls.vm" > "$room/call.vm"
 
 cat > "$room/plain.c" <<'CODE'
 #include <stdint.h>
@@ -150,4 +183,12 @@ program=$(find "$room/repo/crates/vm_speed/out" -maxdepth 1 -type f -name vm_spe
 for _ in 1 2 3; do
     "$program" "$room/loop.vm"
     "$room/plain" "$rounds"
+done
+for text in calls call; do
+    python3 - "$program" "$room/$text.vm" <<'CODE'
+import os, subprocess, sys
+child = subprocess.Popen(sys.argv[1:])
+_, status, usage = os.wait4(child.pid, 0)
+print(f"most memory of {os.path.basename(sys.argv[2])}: {usage.ru_maxrss} KiB")
+CODE
 done

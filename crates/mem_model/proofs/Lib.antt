@@ -1,6 +1,7 @@
 pub mod Accesses
 pub mod Changes
 pub mod Endings
+pub mod EntryLists
 pub mod Faults
 pub mod FullRows
 pub mod LoadsBack

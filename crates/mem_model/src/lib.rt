@@ -9,6 +9,7 @@
 #![tactic(auto)]
 
 pub mod cells;
+mod entries;
 pub mod laws;
 pub mod memory;
 mod rows;

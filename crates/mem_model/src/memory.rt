@@ -2,31 +2,26 @@
 
 ghost use Rattle.std.specs.Prelude.{◌≡◌, ◌≢◌, ◌⊎◌, ◌+◌, ◌<◌, [], length, IfOk, OnOk, OnErr, IfErr, IfSome, IfNone, IsSome, ◌↔◌, IsTrue, ◌≤◌, ◌^◌, ◌||◌, All, true, false, take, drop, map};
 ghost use Rattle.mem_model.specs.Cells.{value_or_fault, cells_of};
-ghost use Rattle.mem_model.specs.Memory.{Object, begin_object, end_object, object_at, is_within, is_gone, is_outside, is_misaligned, is_read_only, overlaps, place_of, row_at, put_row, load_at, store_at, copy_at, init_at, range_fault, read_fault, write_fault, copy_fault, byte_of, IsByte, IsWidth, IsStorable};
-ghost use Rattle.mem_model.specs.model.Objects.{object_in, with_row_in};
+ghost use Rattle.mem_model.specs.Memory.{begin_object, end_object, no_object, object_at, is_within, is_gone, is_outside, is_misaligned, is_read_only, overlaps, place_of, row_at, put_row, load_at, store_at, copy_at, init_at, range_fault, read_fault, write_fault, copy_fault, byte_of, IsByte, IsWidth, IsStorable};
+ghost use Rattle.mem_model.specs.model.Objects.{object_in, object_of, with_row_in};
 
 use crate::cells::Cells;
+use crate::entries::{Entry, Live, find, make_room, trim};
 use crate::rows::{copy_from, copy_within, load_value, write_bytes, write_value};
 use crate::value::{MemFault, Ptr, Value};
 use std::alloc::{AllocError, Global};
 use std::marker::Model;
 use std::mem;
 
-/// A live object.
-#[derive(Debug, Drop)]
-struct Live {
-    /// Whether a store may write it.
-    writable: bool,
-    /// Its cells.
-    cells: Cells,
-}
-
-/// A memory, which contracts see as the list of all objects ever made. An object that has ended keeps no more
-/// than the place of its box.
+/// A memory, which contracts see as the list of all objects ever made. It takes room for live objects alone, at most
+/// four times as many entries as objects ever lived at once, however many were made.
 #[derive(Debug, Drop)]
 pub struct Mem {
     alloc: Global,
-    objects: Vec<Option<Box<Live>>>,
+    /// How many objects were ever made.
+    made: u64,
+    /// What is kept of them.
+    entries: Vec<Entry>,
 }
 
 impl Model for Mem {
@@ -34,9 +29,11 @@ impl Model for Mem {
 
     ghost Value = { Memory };
 
-    ghost use Rattle.mem_model.specs.model.Objects.{objects_in};
+    ghost use Rattle.mem_model.specs.model.Objects.{objects_in, IsRising};
 
-    ghost view = { λ m. objects_in m.objects.items };
+    ghost view = { λ m. objects_in m.made m.entries.items };
+
+    ghost invariant = { λ m. IsRising 0 m.made m.entries.items };
 }
 
 /// Whether so many bytes from an offset on lie within a length.
@@ -81,26 +78,6 @@ fn place(p: Ptr) -> usize
     ensures bound { result ≤ 2 ^ 63 }
 {
     p.offset.unsigned_abs() as usize
-}
-
-/// What a load from a live object answers.
-fn load_from(
-    slot: &Option<Box<Live>>,
-    at: usize,
-    width: usize,
-    pointer: bool,
-) -> Result<Value, MemFault>
-    requires live { IsTrue (object_in slot.now).live }
-    requires within { at + width ≤ length (object_in slot.now).cells }
-    requires narrow { width ≤ 8 }
-    requires whole { pointer ≡ true → width ≡ 8 }
-    requires fits { at + width < 2 ^ 64 }
-    ensures { result ≡ value_or_fault pointer (take width (drop at (object_in slot.now).cells)) }
-{
-    match slot {
-        Some(object) => load_value(&object.cells, at, width, pointer),
-        None => Err(MemFault::NoObject),
-    }
 }
 
 /// Writes a value into a live object.
@@ -179,22 +156,26 @@ impl Mem {
     {
         Mem {
             alloc,
-            objects: Vec::new(alloc),
+            made: 0,
+            entries: Vec::new(alloc),
         }
     }
 
     /// Makes a live object of so many unwritten cells, and answers its number: how many objects were
-    /// made before it. Where memory is short, the memory is as before.
+    /// made before it. Where memory is short, or no number is left, the memory is as before.
     pub fn alloc_object(&mut self, size: u64, writable: bool) -> Result<u64, AllocError>
         ensures number { IfOk result (λ id. id ≡ length self.old) }
         ensures ok { OnOk result (self.new ≡ begin_object self.old size writable) }
         ensures err { OnErr result (self.new ≡ self.old) }
     {
+        let number = self.made;
+        let made = number.checked_add(1).ok_or(AllocError)?;
         let cells = Cells::new(self.alloc, size as usize)?;
-        let object = Box::new(self.alloc, Live { writable, cells })?;
-        let id = self.objects.len() as u64;
-        self.objects.push(Some(object))?;
-        Ok(id)
+        let object = Some(Box::new(self.alloc, Live { writable, cells })?);
+        make_room(&mut self.entries)?;
+        self.entries.push(Entry { number, object })?;
+        self.made = made;
+        Ok(number)
     }
 
     /// How many cells a live object has; `None` where it was never made or has ended. Takes no memory.
@@ -202,9 +183,20 @@ impl Mem {
         ensures live { IsSome result ↔ IsTrue (object_at self.now id).live }
         ensures size { IfSome result (λ size. size ≡ length (object_at self.now id).cells) }
     {
-        match self.objects.get(id as usize) {
-            Some(Some(object)) => Some(object.cells.len() as u64),
-            _ => None,
+        match self.object(id) {
+            Some(object) => Some(object.cells.len() as u64),
+            None => None,
+        }
+    }
+
+    /// The object with a number; `None` where it was never made or has ended.
+    fn object(&self, id: u64) -> Option<&Live>
+        ensures live { IfSome result (λ live. object_at self.now id ≡ object_of live.now) }
+        ensures gone { IfNone result (object_at self.now id ≡ no_object) }
+    {
+        match find(&self.entries, self.made, id) {
+            Some(at) => self.entries[at].live(),
+            None => None,
         }
     }
 
@@ -213,26 +205,29 @@ impl Mem {
         requires { IsTrue (object_at self.old id).live }
         ensures { self.new ≡ end_object self.old id }
     {
-        self.objects[id as usize] = None;
+        match find(&self.entries, self.made, id) {
+            Some(at) => {
+                self.entries[at].object = None;
+                trim(&mut self.entries);
+            }
+            None => (),
+        }
     }
 
     /// Whether the object of a pointer was never made or has ended.
     fn is_object_gone(&self, p: Ptr) -> bool
         ensures { result ≡ is_gone self.now p }
     {
-        match self.objects.get(p.object as usize) {
-            Some(Some(_)) => false,
-            _ => true,
-        }
+        self.object(p.object).is_none()
     }
 
     /// How many cells the object of a pointer has.
     fn size_at(&self, p: Ptr) -> u64
         ensures { result ≡ length (object_at self.now p.object).cells }
     {
-        match self.objects.get(p.object as usize) {
-            Some(Some(object)) => object.cells.len() as u64,
-            _ => 0,
+        match self.object(p.object) {
+            Some(object) => object.cells.len() as u64,
+            None => 0,
         }
     }
 
@@ -249,9 +244,9 @@ impl Mem {
     fn is_object_read_only(&self, p: Ptr) -> bool
         ensures { result ≡ is_read_only self.now p }
     {
-        match self.objects.get(p.object as usize) {
-            Some(Some(object)) => !object.writable,
-            _ => true,
+        match self.object(p.object) {
+            Some(object) => !object.writable,
+            None => true,
         }
     }
 
@@ -308,12 +303,21 @@ impl Mem {
         let size = u64::from(width);
         match self.read_fault(p, size, size) {
             Some(fault) => Err(fault),
-            None => load_from(
-                &self.objects[p.object as usize],
-                place(p),
-                width as usize,
-                pointer,
-            ),
+            None => self.load_cells(p, width as usize, pointer),
+        }
+    }
+
+    /// What a load that has no other fault answers of its cells.
+    fn load_cells(&self, p: Ptr, width: usize, pointer: bool) -> Result<Value, MemFault>
+        requires free { read_fault self.now p width width ≡ None }
+        requires end { 0 < width → place_of p.offset + width < 2 ^ 64 }
+        requires width { IsWidth width }
+        requires whole { pointer ≡ true → width ≡ 8 }
+        ensures { result ≡ value_or_fault pointer (row_at self.now p width) }
+    {
+        match self.object(p.object) {
+            Some(object) => load_value(&object.cells, place(p), width, pointer),
+            None => Err(MemFault::NoObject),
         }
     }
 
@@ -331,10 +335,23 @@ impl Mem {
         match self.write_fault(p, size, size) {
             Some(fault) => Err(fault),
             None => {
-                let slot = &mut self.objects[p.object as usize];
-                put_value(slot, place(p), width as usize, v);
+                self.store_cells(p, width as usize, v);
                 Ok(())
             }
+        }
+    }
+
+    /// Writes the value of a store that has no fault.
+    fn store_cells(&mut self, p: Ptr, width: usize, v: Value)
+        requires free { write_fault self.old p width width ≡ None }
+        requires end { 0 < width → place_of p.offset + width < 2 ^ 64 }
+        requires width { IsWidth width }
+        requires storable { IsStorable width v }
+        ensures { self.new ≡ put_row self.old p (cells_of width v) }
+    {
+        match find(&self.entries, self.made, p.object) {
+            Some(at) => put_value(&mut self.entries[at].object, place(p), width, v),
+            None => (),
         }
     }
 
@@ -382,7 +399,10 @@ impl Mem {
         if cells.is_empty() {
             return;
         }
-        put_bytes(&mut self.objects[p.object as usize], place(p), cells);
+        match find(&self.entries, self.made, p.object) {
+            Some(at) => put_bytes(&mut self.entries[at].object, place(p), cells),
+            None => (),
+        }
     }
 
     /// Whether one of the two objects of a copy was never made or has ended.
@@ -456,8 +476,15 @@ impl Mem {
             (place_of from.offset + size ≤ place_of to.offset) }
         ensures { self.new ≡ put_row self.old to (row_at self.old from size) }
     {
-        let slot = &mut self.objects[to.object as usize];
-        copy_inside(slot, place(to), place(from), size as usize);
+        match find(&self.entries, self.made, to.object) {
+            Some(at) => copy_inside(
+                &mut self.entries[at].object,
+                place(to),
+                place(from),
+                size as usize,
+            ),
+            None => (),
+        }
     }
 
     /// Copies some cells of an object to another one.
@@ -472,9 +499,15 @@ impl Mem {
         requires end_from { place_of from.offset + size < 2 ^ 64 }
         ensures { self.new ≡ put_row self.old to (row_at self.old from size) }
     {
-        let mut target = mem::replace(&mut self.objects[to.object as usize], None);
-        let source = &self.objects[from.object as usize];
+        let Some(target_at) = find(&self.entries, self.made, to.object) else {
+            return;
+        };
+        let Some(source_at) = find(&self.entries, self.made, from.object) else {
+            return;
+        };
+        let mut target = mem::replace(&mut self.entries[target_at].object, None);
+        let source = &self.entries[source_at].object;
         copy_across(&mut target, place(to), source, place(from), size as usize);
-        self.objects[to.object as usize] = target;
+        self.entries[target_at].object = target;
     }
 }
