@@ -1,12 +1,11 @@
 -- What is noted, and what each note adds.
-use Rattle.std.specs.Prelude.{ℕ, ◌+◌, List, [], ◌∷◌, ◌++◌, Option, length}
+use Rattle.std.specs.Prelude.{ℕ, ◌+◌, List, [], ◌∷◌, ◌++◌, length}
 use Rattle.c_type_faults.specs.declared.faults.Kind.{Kind}
 use Rattle.c_type_faults.specs.declared.faults.Fault.{Fault}
 use Rattle.c_typed_tree.specs.declared.types.StructDef.{StructDef}
 use Rattle.c_type_rules.specs.declared.typed.Place.{Place}
 use Rattle.c_type_rules.specs.declared.typed.Place.TheVariants as p
 use Rattle.c_checks.specs.declared.meanings.Tag.{Tag}
-use Rattle.c_checks.specs.declared.meanings.Use.{Use}
 use Rattle.c_checks.specs.declared.notes.Notes.{Notes}
 
 abbrev pub with_faults : List Fault → Notes → Notes

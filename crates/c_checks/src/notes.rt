@@ -1,6 +1,6 @@
 //! What is noted.
 
-ghost use Rattle.std.specs.Prelude.{◌≡◌, ◌++◌, OnOk, OnErr};
+ghost use Rattle.std.specs.Prelude.{◌≡◌, OnOk};
 ghost use Rattle.c_type_rules.specs.Rulings.{Ruling, Gives};
 ghost use Rattle.c_checks.specs.Checks.{Finds, note_fault};
 ghost use Rattle.c_checks.specs.Notes as spec;

@@ -1,6 +1,6 @@
 //! Address constants (C99 6.6): the address of an object of static storage, or a place within one.
 
-ghost use Rattle.std.specs.Prelude.{◌≡◌, ◌+◌, ◌*◌, ◌-◌, ◌^◌};
+ghost use Rattle.std.specs.Prelude.{◌≡◌};
 ghost use Rattle.c_typed_tree.specs.View.{expr_view, type_view};
 ghost use Rattle.c_typed_tree.specs.Typing as typing;
 ghost use Rattle.c_constant_rules.specs.Addresses as spec;

@@ -1,5 +1,5 @@
 -- The parts of a list that code sees are those of the row that the definitions go over.
-use Rattle.std.proofs.Common.{◌≡◌, ℕ, List, [], ◌∷◌, Option, Some, None, refl, ap, ◌∙◌}
+use Rattle.std.proofs.Common.{◌≡◌, ℕ, List, [], Option, Some, None, refl, ap, ◌∙◌}
 use mathlib.Core.Former.{Count}
 use Rattle.c_tree.specs.declared.expressions.Expr as e
 use Rattle.c_tree.specs.declared.types.TypeNode as t
@@ -8,7 +8,7 @@ use Rattle.c_tree.specs.declared.expressions.Expr.TheBlock as k
 use Rattle.c_declared_types.specs.declared.declared.DeclaredType.{DeclaredType}
 use Rattle.c_typed_tree.specs.declared.types.CType.{CType}
 use Rattle.c_type_rules.specs.declared.typed.TypedExpression.{TypedExpression}
-use Rattle.c_checks.specs.Checks.{pure, and_then, each, both, walk, append_part}
+use Rattle.c_checks.specs.Checks.{pure, and_then, both, walk, append_part}
 use Rattle.c_checks.specs.Scopes.{enter, leave, meaning_of}
 use Rattle.c_judgements.specs.Operators.{commas}
 use Rattle.c_judgements.specs.Calls.{call_by_meaning}

@@ -1,5 +1,5 @@
 -- The types that specifiers give (C99 6.7.2). The body of a struct or enum is declared before, and is no part of this.
-use Rattle.std.specs.Prelude.{ℕ, ◌==◌, if◌then◌else◌, Bool, false, List, [], Option, Some, None}
+use Rattle.std.specs.Prelude.{ℕ, ◌==◌, if◌then◌else◌, false, List, [], Option, Some, None}
 use Rattle.std.specs.Option.{option_map}
 use Rattle.c_scopes.specs.Names.{find}
 use Rattle.c_arithmetic.specs.declared.integer_type.IntegerType.TheVariants as i

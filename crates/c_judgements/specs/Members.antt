@@ -8,7 +8,6 @@ use Rattle.c_typed_tree.specs.Layout.{struct_member}
 use Rattle.c_typed_tree.specs.View.{type_view}
 use Rattle.c_type_rules.specs.declared.typed.TypedExpression.{TypedExpression}
 use Rattle.c_type_rules.specs.Conversions.{decay}
-use Rattle.c_place_rules.specs.declared.members.FoundMember.{FoundMember}
 use Rattle.c_place_rules.specs.Members.{field, arrow}
 use Rattle.c_checks.specs.declared.notes.Notes.{Notes}
 use Rattle.c_checks.specs.Checks.{Check, note_fault}

@@ -4,7 +4,6 @@ ghost use Rattle.std.specs.Prelude.{◌≡◌, IfOk};
 ghost use Rattle.std.specs.Option.{option_copied};
 ghost use Rattle.c_scopes.specs.Names.{find};
 ghost use Rattle.c_checks.specs.Checks.{Finds};
-ghost use Rattle.c_checks.specs.Notes.{with_tag};
 ghost use Rattle.c_judgements.specs.Leaves as spec;
 
 use c_arithmetic::integer_type::IntegerType;

@@ -1,6 +1,6 @@
 //! The members of a body (C99 6.7.2.1).
 
-ghost use Rattle.std.specs.Prelude.{◌≡◌, IfOk, OnOk, is_some};
+ghost use Rattle.std.specs.Prelude.{◌≡◌, OnOk, is_some};
 ghost use Rattle.c_scopes.specs.Names.{find};
 ghost use Rattle.c_checks.specs.Checks.{Finds, each};
 ghost use Rattle.c_tag_bodies.specs.Members as spec;
