@@ -11,7 +11,7 @@ use Rattle.c_typed_tree.specs.declared.units.TypedUnit.{TypedUnit}
 use Rattle.c_mean.specs.Behaviour as b
 use Rattle.c_mean.specs.Behaviour.{Behaviour, output_of}
 use Rattle.c_semantics.specs.Runs.{State}
-use Rattle.c_semantics.specs.Executes.{Flow, Goes, Breaks, Continues, Returns, level, entered, left}
+use Rattle.c_semantics.specs.Executes.{Flow, Goes, Breaks, Continues, Returns, level, enter_function, leave_function}
 use Rattle.c_semantics.specs.Behaves.{world_of, status_of, ended_by, ending_of, run_of, main_of, run, rooms_of, behaviour_of, behave_c}
 use Rattle.c_semantics.specs.Laws.{EndingsStay, OutputsGrow, PeaksRise, OneEnding, TurnsAreOne}
 use Rattle.c_semantics.proofs.Grown.{Starts, starts_same, Later, Reaches, more_turns, Grows}
@@ -48,19 +48,19 @@ ended_world w Goes = refl
 ended_world w Breaks = refl
 ended_world w Continues = refl
 
-later_left : (rooms : Rooms) (n : ℕ) (v w : World) → Later v w → Later v (left rooms n w)
+later_left : (rooms : Rooms) (n : ℕ) (v w : World) → Later v w → Later v (leave_function rooms n w)
 later_left rooms n v w h = record { output = h.output; peak = h.peak }
 
-reaches_ending : (rooms : Rooms) (n : ℕ) (w : World) (r : Evaluation Flow State) → Reaches w r → Later w (ending_world (ending_of (left rooms n) r))
-reaches_ending rooms n w (Gives f s) h = subst (Later w) (sym (ended_world (left rooms n s.world) f)) (later_left rooms n w s.world h)
+reaches_ending : (rooms : Rooms) (n : ℕ) (w : World) (r : Evaluation Flow State) → Reaches w r → Later w (ending_world (ending_of (leave_function rooms n) r))
+reaches_ending rooms n w (Gives f s) h = subst (Later w) (sym (ended_world (leave_function rooms n s.world) f)) (later_left rooms n w s.world h)
 reaches_ending rooms n w (Ends e) h = h
 
-ending_grows : (rooms : Rooms) (n d : ℕ) (r r' : Evaluation Flow State) → Grows d r r' → EndGrows d (ending_of (left rooms n) r) (ending_of (left rooms n) r')
+ending_grows : (rooms : Rooms) (n d : ℕ) (r r' : Evaluation Flow State) → Grows d r r' → EndGrows d (ending_of (leave_function rooms n) r) (ending_of (leave_function rooms n) r')
 ending_grows rooms n d (Gives f s) r' g =
-    subst (λ x. EndGrows d (ended_by (left rooms n s.world) f) (ending_of (left rooms n) x)) (sym g) (ended_grows d (left rooms n s.world) f)
-ending_grows rooms n d (Ends (Done w status)) r' g = ap (ending_of (left rooms n)) g
-ending_grows rooms n d (Ends (Trap w code)) r' g = ap (ending_of (left rooms n)) g
-ending_grows rooms n d (Ends (Undefined w at)) r' g = ap (ending_of (left rooms n)) g
+    subst (λ x. EndGrows d (ended_by (leave_function rooms n s.world) f) (ending_of (leave_function rooms n) x)) (sym g) (ended_grows d (leave_function rooms n s.world) f)
+ending_grows rooms n d (Ends (Done w status)) r' g = ap (ending_of (leave_function rooms n)) g
+ending_grows rooms n d (Ends (Trap w code)) r' g = ap (ending_of (leave_function rooms n)) g
+ending_grows rooms n d (Ends (Undefined w at)) r' g = ap (ending_of (leave_function rooms n)) g
 ending_grows rooms n d (Ends (More w)) r' g = reaches_ending rooms n w r' g
 
 run_of_grows : (unit : TypedUnit) (rooms : Rooms) (n : ℕ) (f : Option TypedFn) (w : World) (m k : ℕ)
@@ -70,7 +70,7 @@ run_of_grows unit rooms n (Some f) w m k =
     ending_grows rooms n k _ _
     ((body_grown unit.structs (level unit rooms (suc m)) (level unit rooms (suc (m + k)))
     (level_grown unit rooms (suc m) (suc (m + k)) (omega arith)) n f []).by
-    (record { registers = λ j. Unset; world = entered rooms n w }) k)
+    (record { registers = λ j. Unset; world = enter_function rooms n w }) k)
 
 run_grows : (unit : TypedUnit) (rooms : Rooms) (input : List ℕ) (n k : ℕ) → EndGrows k (run unit rooms input n) (run unit rooms input (n + k))
 run_grows unit rooms input n k =

@@ -8,11 +8,11 @@ use Rattle.mem_model.specs.Memory.{Memory, begin_object}
 use Rattle.mem_model.specs.World.{Rooms, room_of, with_memory, turn_from}
 use Rattle.mem_model.specs.Ending.{Done, Trap, Undefined, More, Evaluation, Gives, Ends}
 use Rattle.c_semantics.specs.Reasons.{Reason}
-use Rattle.c_semantics.specs.Runs.{State, in_world, Run, and_then, ◌>>=◌, pure, undefined, trap, exit, no_turn, turned, turn, seen, set_memory, used, read_register, write_register}
+use Rattle.c_semantics.specs.Runs.{State, in_world, Run, and_then, ◌>>=◌, pure, undefined, trap, exit, no_turn, spend_turn, turn, on_memory, set_memory, use_value, read_register, write_register}
 use Rattle.c_semantics.specs.Objects.{Scope, with_object, with_local_object}
 use Rattle.c_semantics.specs.Evaluates.{put, get}
-use Rattle.c_semantics.specs.Executes.{entered, within_call}
-use Rattle.c_semantics.specs.Refines.{lowered, WithPeak, GivesBelow, RunRefines, IsBelow}
+use Rattle.c_semantics.specs.Executes.{enter_function, within_call}
+use Rattle.c_semantics.specs.Refines.{lower_peak, WithPeak, GivesBelow, RunRefines, IsBelow}
 use Rattle.c_semantics.proofs.Forms.{Congruence}
 
 -- ---- evaluations
@@ -45,16 +45,16 @@ gives_then c (Ends (More w)) k l h g = record { peak = h.peak; low = h.low; hold
 
 pub below_on : {A : Type 0} {c d e : Run A} → IsBelow c d → IsBelow d e → IsBelow c e
 below_on {c = c} {d = d} {e = e} h g = record {
-  by = λ s p l. gives_on (c (lowered p s)) (d (lowered p s)) (e s) (h.by (lowered p s) p (omega arith)) (g.by s p l);
+  by = λ s p l. gives_on (c (lower_peak p s)) (d (lower_peak p s)) (e s) (h.by (lower_peak p s) p (omega arith)) (g.by s p l);
 }
 
 -- a refinement of a run that does not look at the peak
 pub refines_below : {A : Type 0} {c d : Run A} → IsBelow d d → RunRefines c d → IsBelow c d
 refines_below {c = c} {d = d} g h = record {
-  by = λ s p l. gives_on (c (lowered p s)) (d (lowered p s)) (d s) (h.by (lowered p s)) (g.by s p l);
+  by = λ s p l. gives_on (c (lower_peak p s)) (d (lower_peak p s)) (d s) (h.by (lower_peak p s)) (g.by s p l);
 }
 
-same_state : (s : State) → lowered s.world.meter.peak s ≡ s
+same_state : (s : State) → lower_peak s.world.meter.peak s ≡ s
 same_state s = refl
 
 pub below_refines : {A : Type 0} {c d : Run A} → IsBelow c d → RunRefines c d
@@ -67,7 +67,7 @@ onto {c = c} e h = subst (λ x. IsBelow c x) e h
 
 bind_below : {A B : Type 0} {c d : Run A} {k l : A → Run B} → IsBelow c d → ((a : A) → IsBelow (k a) (l a)) → IsBelow (c >>= k) (d >>= l)
 unfolding ◌>>=◌
-bind_below {c = c} {d = d} {k = k} {l = l} h g = record { by = λ s p m. gives_then (c (lowered p s)) (d s) k l (h.by s p m) g }
+bind_below {c = c} {d = d} {k = k} {l = l} h g = record { by = λ s p m. gives_then (c (lower_peak p s)) (d s) k l (h.by s p m) g }
 
 pure_below : {A : Type 0} (a : A) → IsBelow (pure a) (pure a)
 unfolding pure
@@ -93,7 +93,7 @@ write_below : (k : ℕ) (v : Value) → IsBelow (write_register k v) (write_regi
 unfolding write_register
 write_below k v = record { by = λ s p l. record { peak = p; low = l; holds = refl } }
 
-used_below : (reason : Reason) (v : Value) → IsBelow (used reason v) (used reason v)
+used_below : (reason : Reason) (v : Value) → IsBelow (use_value reason v) (use_value reason v)
 used_below reason (Word n) = pure_below _
 used_below reason (Address p) = pure_below _
 used_below reason Unset = undefined_below reason
@@ -102,8 +102,8 @@ register_below : (k : ℕ) → IsBelow (read_register k) (read_register k)
 unfolding read_register
 register_below k = record { by = λ s p l. (used_below _ (s.registers k)).by s p l }
 
-seen_below : {A : Type 0} {k l : Memory → Run A} → ((m : Memory) → IsBelow (k m) (l m)) → IsBelow (seen k) (seen l)
-unfolding seen
+seen_below : {A : Type 0} {k l : Memory → Run A} → ((m : Memory) → IsBelow (k m) (l m)) → IsBelow (on_memory k) (on_memory l)
+unfolding on_memory
 seen_below g = record { by = λ s p l. (g s.world.outer.memory).by s p l }
 
 pub no_turn_below : {A : Type 0} → IsBelow (no_turn {A = A}) no_turn
@@ -111,7 +111,7 @@ unfolding no_turn
 no_turn_below = record { by = λ s p l. record { peak = p; low = l; holds = refl } }
 
 turned_below : (n p : ℕ) (s : State) → p ≤ s.world.meter.peak
-    → GivesBelow (turned (turn_from n (lowered p s).world.meter) (lowered p s)) (turned (turn_from n s.world.meter) s)
+    → GivesBelow (spend_turn (turn_from n (lower_peak p s).world.meter) (lower_peak p s)) (spend_turn (turn_from n s.world.meter) s)
 unfolding no_turn
 turned_below zero p s l = record { peak = p; low = l; holds = refl }
 turned_below (suc n) p s l = record { peak = p; low = l; holds = refl }
@@ -134,16 +134,16 @@ object_below size k {run = run} {other = other} scope g = record {
   by = λ s p l.
       let o = length s.world.outer.memory in
       let t = in_world s (with_memory s.world (begin_object s.world.outer.memory size true)) in
-      gives_then (run (with_object scope k o) (lowered p t)) (other (with_object scope k o) t) _ _ ((g (with_object scope k o)).by t p l)
+      gives_then (run (with_object scope k o) (lower_peak p t)) (other (with_object scope k o) t) _ _ ((g (with_object scope k o)).by t p l)
       (λ a. record { by = λ u q m. record { peak = q; low = m; holds = refl } });
 }
 
 call_below : {A : Type 0} (rooms : Rooms) (n : ℕ) {run other : Run A} → IsBelow run other → IsBelow (within_call rooms n run) (within_call rooms n other)
 call_below rooms n {run = run} {other = other} g = record {
   by = λ s p l.
-      let t : State = record { registers = λ k. Unset; world = entered rooms n s.world } in
+      let t : State = record { registers = λ k. Unset; world = enter_function rooms n s.world } in
       let q = max p (s.world.meter.room + room_of rooms n) in
-      gives_then (run (lowered q t)) (other t) _ _ (g.by t q (omega (arith, l)))
+      gives_then (run (lower_peak q t)) (other t) _ _ (g.by t q (omega (arith, l)))
       (λ a. record { by = λ u i m. record { peak = i; low = m; holds = refl } });
 }
 
@@ -160,7 +160,7 @@ kept = record {
   memory = memory_below;
   write = write_below;
   register = register_below;
-  seen = seen_below;
+  on_memory = seen_below;
   turn = turn_below;
   put = put_below;
   get = get_below;

@@ -20,9 +20,9 @@ use Rattle.c_typed_tree.specs.Layout.{size_of, align_of}
 use Rattle.c_semantics.specs.Reasons.{Reason, ComparesApart, ComparesAtEnd}
 use Rattle.c_semantics.specs.Runs as r
 use Rattle.c_semantics.specs.Evaluates as w
-use Rattle.c_semantics.specs.Runs.{Run, State, ◌>>=◌, pure, undefined, trap, exit, turn, seen, set_memory, known, used, number, read_register, write_register}
-use Rattle.c_semantics.specs.Objects.{Place, Register, At, Scope, integer_of, accessed, load, store, copied, copy, held, as_held, given, read_at, read, write_at, write, pointer_to, move_reason, move, move_by, local_place, with_local, with_locals, offset_of, no_scope, with_local_object}
-use Rattle.c_semantics.specs.Operators.{unless_dead, outcome, integers, converted, compared, pure_truth, distance, pointers, pointer_and_integer, with_integer, with_pointer, binary, unary, test_in, test, convert, operation_type, combined_in, combined, step_operator, one_type, stepped, operator_of}
+use Rattle.c_semantics.specs.Runs.{Run, State, ◌>>=◌, pure, undefined, trap, exit, turn, on_memory, set_memory, or_undefined, use_value, number, read_register, write_register}
+use Rattle.c_semantics.specs.Objects.{Place, Register, At, Scope, integer_of, access, load, store, copy_cells, copy, as_integer, as_held, call_result, read_at, read, write_at, write, pointer_to, move_reason, move, move_by, local_place, with_local, with_locals, offset_of, no_scope, with_local_object}
+use Rattle.c_semantics.specs.Operators.{unless_dead, outcome, integers, convert_word, compare_by, pure_truth, distance, pointers, pointer_and_integer, with_integer, with_pointer, binary, unary, test_in, test, convert, operation_type, combined_in, combine, step_operator, one_type, step_value, operator_of}
 use Rattle.mem_model.specs.World.{Rooms}
 use Rattle.c_typed_tree.specs.declared.expressions.Builtin.{Builtin}
 use Rattle.c_typed_tree.specs.declared.expressions.Callee.{Callee}
@@ -31,7 +31,7 @@ use Rattle.c_typed_tree.specs.Expressions.{Expr, Number, Global, Call, Unary, Bi
 use Rattle.c_typed_tree.specs.Statements.{Declared, First, Stmt, Else, no_else, else_stmt, Stmts, no_stmts, more_stmts, Sections, no_sections, more_sections}
 use Rattle.c_typed_tree.specs.View.{type_view, stmt_view}
 use Rattle.c_semantics.specs.Evaluates.{put, get, builtin, Functions, call, element, member_at, target_of, update, assign, choose, converted_from, eval, place, evals, last_of}
-use Rattle.c_semantics.specs.Executes.{Flow, Goes, Breaks, Continues, Returns, after_body, and_next, after_switch, declared_in, declared_first, is_label_of, target_in, with_parameters, value_of_call, body_of, holds, condition, step, initialise, declare, declares, first, returned, exec, exec_else, execs, exec_sections, exec_from, within_call, Level, call_of}
+use Rattle.c_semantics.specs.Executes.{Flow, Goes, Breaks, Continues, Returns, after_body, and_next, after_switch, declared_in, declared_first, is_label_of, target_in, with_parameters, value_of_call, body_of, holds, condition, step, initialise, declare, declares, first, return_value, exec, exec_else, execs, exec_sections, exec_from, within_call, Level, call_of}
 use Rattle.c_typed_tree.specs.Lawful.{is_main}
 use Rattle.c_arithmetic.specs.declared.outcome.ArithmeticOutcome.TheVariants as o
 use Rattle.c_tree.specs.declared.expressions.UnaryOp.TheVariants as u
@@ -52,7 +52,7 @@ pub record Congruence (R : (A : Type 0) → Run A → Run A → Type 0) : Type 1
   pub memory : (m : Memory) → R (Unit {0}) (set_memory m) (set_memory m)
   pub write : (k : ℕ) (v : Value) → R (Unit {0}) (write_register k v) (write_register k v)
   pub register : (k : ℕ) → R Value (read_register k) (read_register k)
-  pub seen : {A : Type 0} {k k' : Memory → Run A} → ((m : Memory) → R A (k m) (k' m)) → R A (r.seen k) (r.seen k')
+  pub on_memory : {A : Type 0} {k k' : Memory → Run A} → ((m : Memory) → R A (k m) (k' m)) → R A (r.on_memory k) (r.on_memory k')
   pub turn : R (Unit {0}) r.turn r.turn
   pub put : (n : ℕ) → R Value (w.put n) (w.put n)
   pub get : R Value w.get w.get
@@ -67,11 +67,11 @@ module _ (R : (A : Type 0) → Run A → Run A → Type 0) (kept : Congruence R)
   abbrev pub Itself : {A : Type 0} → Run A → Type 0
   Itself {A} c = R A c c
 
-  pub steady_known : {A : Type 0} (reason : Reason) (o : Option A) → Itself (known reason o)
+  pub steady_known : {A : Type 0} (reason : Reason) (o : Option A) → Itself (or_undefined reason o)
   steady_known reason (Some a) = kept.pure a
   steady_known reason None = kept.undefined reason
 
-  pub steady_used : (reason : Reason) (v : Value) → Itself (used reason v)
+  pub steady_used : (reason : Reason) (v : Value) → Itself (use_value reason v)
   steady_used reason (Word n) = kept.pure _
   steady_used reason (Address p) = kept.pure _
   steady_used reason Unset = kept.undefined reason
@@ -87,32 +87,32 @@ module _ (R : (A : Type 0) → Run A → Run A → Type 0) (kept : Congruence R)
 
   -- ---- access
 
-  pub steady_accessed : {A : Type 0} (r : Result A MemFault) → Itself (accessed r)
+  pub steady_accessed : {A : Type 0} (r : Result A MemFault) → Itself (access r)
   steady_accessed (Ok a) = kept.pure a
   steady_accessed (Err fault) = kept.undefined _
 
   pub steady_load : (width : ℕ) (pointer : Bool) (p : Value) → Itself (load width pointer p)
-  steady_load width pointer (Address p) = kept.seen (λ m. steady_accessed (load_at m p width pointer))
+  steady_load width pointer (Address p) = kept.on_memory (λ m. steady_accessed (load_at m p width pointer))
   steady_load width pointer (Word n) = kept.undefined _
   steady_load width pointer Unset = kept.undefined _
 
   pub steady_store : (width : ℕ) (p v : Value) → Itself (store width p v)
-  steady_store width (Address p) v = kept.seen (λ m. kept.bind (steady_accessed (store_at m p width v)) kept.memory)
+  steady_store width (Address p) v = kept.on_memory (λ m. kept.bind (steady_accessed (store_at m p width v)) kept.memory)
   steady_store width (Word n) v = kept.undefined _
   steady_store width Unset v = kept.undefined _
 
-  pub steady_copied : (m : Memory) (to from : Ptr) (size align : ℕ) → Itself (copied m to from size align)
+  pub steady_copied : (m : Memory) (to from : Ptr) (size align : ℕ) → Itself (copy_cells m to from size align)
   steady_copied m to from size align =
       related_if (overlaps to from size) (kept.undefined _) (kept.bind (steady_accessed (copy_at m to from size align)) kept.memory)
 
   pub steady_copy : (size align : ℕ) (to from : Value) → Itself (copy size align to from)
-  steady_copy size align (Address p) (Address q) = kept.seen (λ m. steady_copied m p q size align)
+  steady_copy size align (Address p) (Address q) = kept.on_memory (λ m. steady_copied m p q size align)
   steady_copy size align (Address p) (Word n) = kept.undefined _
   steady_copy size align (Address p) Unset = kept.undefined _
   steady_copy size align (Word n) v = kept.undefined _
   steady_copy size align Unset v = kept.undefined _
 
-  pub steady_held : (t : IntegerType) (v : Value) → Itself (held t v)
+  pub steady_held : (t : IntegerType) (v : Value) → Itself (as_integer t v)
   steady_held t v = kept.bind (steady_number v) (λ n. kept.pure _)
 
   pub steady_read_at : (ty : PlainType) (p : Value) → Itself (read_at ty p)
@@ -129,7 +129,7 @@ module _ (R : (A : Type 0) → Run A → Run A → Type 0) (kept : Congruence R)
   steady_as_held (Array element n) v = kept.pure v
   steady_as_held (Struct n) v = kept.pure v
 
-  pub steady_given : (ty : PlainType) (v : Value) → Itself (given ty v)
+  pub steady_given : (ty : PlainType) (v : Value) → Itself (call_result ty v)
   steady_given ty Unset = kept.pure _
   steady_given ty (Word n) = steady_as_held ty (Word n)
   steady_given ty (Address p) = steady_as_held ty (Address p)
@@ -154,7 +154,7 @@ module _ (R : (A : Type 0) → Run A → Run A → Type 0) (kept : Congruence R)
   steady_pointer (At p) = kept.pure p
 
   pub steady_move : (p : Value) (by : ℤ) → Itself (move p by)
-  steady_move p by = kept.seen (λ m. steady_known (move_reason m p) (pointer_plus m p by))
+  steady_move p by = kept.on_memory (λ m. steady_known (move_reason m p) (pointer_plus m p by))
 
   pub steady_move_by : (ds : List StructDef) (element : PlainType) (t : IntegerType) (p v : Value) → Itself (move_by ds element t p v)
   steady_move_by ds element t p v = kept.bind (steady_number v) (λ n. steady_move p _)
@@ -173,18 +173,18 @@ module _ (R : (A : Type 0) → Run A → Run A → Type 0) (kept : Congruence R)
   pub steady_integers : (op : BinaryOp) (t c : IntegerType) (v w : Value) → Itself (integers op t c v w)
   steady_integers op t c v w = kept.bind (steady_number v) (λ x. kept.bind (steady_number w) (λ y. steady_outcome _))
 
-  pub steady_converted : (from to : IntegerType) (v : Value) → Itself (converted from to v)
+  pub steady_converted : (from to : IntegerType) (v : Value) → Itself (convert_word from to v)
   steady_converted from to v = kept.bind (steady_number v) (λ n. kept.pure _)
 
-  pub steady_compared : (reason : Reason) (f : Memory → Value → Value → Option Bool) (v w : Value) → Itself (compared reason f v w)
-  steady_compared reason f v w = kept.seen (λ m. steady_known _ (f m v w))
+  pub steady_compared : (reason : Reason) (f : Memory → Value → Value → Option Bool) (v w : Value) → Itself (compare_by reason f v w)
+  steady_compared reason f v w = kept.on_memory (λ m. steady_known _ (f m v w))
 
   pub steady_truth : (c : Bool) → Itself (pure_truth c)
   steady_truth c = kept.pure _
 
   pub steady_distance : (ds : List StructDef) (element : PlainType) (v w : Value) → Itself (distance ds element v w)
   steady_distance ds element v w =
-      kept.bind (kept.seen (λ m. steady_known (unless_dead m v w ComparesApart) (pointer_minus m v w)))
+      kept.bind (kept.on_memory (λ m. steady_known (unless_dead m v w ComparesApart) (pointer_minus m v w)))
       (λ z. related_if (int_eq (int_rem z (pos (size_of ds element))) (pos 0)) (kept.pure _) (kept.undefined _))
 
   pub steady_pointers : (ds : List StructDef) (op : BinaryOp) (element : PlainType) (v w : Value) → Itself (pointers ds op element v w)
@@ -263,7 +263,7 @@ module _ (R : (A : Type 0) → Run A → Run A → Type 0) (kept : Congruence R)
   steady_test_in m Unset = kept.undefined _
 
   pub steady_test : (v : Value) → Itself (test v)
-  steady_test v = kept.seen (λ m. steady_test_in m v)
+  steady_test v = kept.on_memory (λ m. steady_test_in m v)
 
   pub steady_convert : (from to : PlainType) (v : Value) → Itself (convert from to v)
   steady_convert Void Void v = kept.pure _
@@ -296,7 +296,7 @@ module _ (R : (A : Type 0) → Run A → Run A → Type 0) (kept : Congruence R)
   steady_combined_in op t left right v w =
       kept.bind (steady_converted left t v) (λ x. kept.bind (steady_integers op t right x w) (steady_converted t left))
 
-  pub steady_combined : (ds : List StructDef) (op : BinaryOp) (left right : PlainType) (v w : Value) → Itself (combined ds op left right v w)
+  pub steady_combined : (ds : List StructDef) (op : BinaryOp) (left right : PlainType) (v w : Value) → Itself (combine ds op left right v w)
   steady_combined ds op Void right v w = kept.undefined _
   steady_combined ds op (Int n s) right v w =
       steady_combined_in op (operation_type op (integer_of (Int n s)) (integer_of right)) (integer_of (Int n s)) (integer_of right) v w
@@ -304,7 +304,7 @@ module _ (R : (A : Type 0) → Run A → Run A → Type 0) (kept : Congruence R)
   steady_combined ds op (Array element n) right v w = kept.undefined _
   steady_combined ds op (Struct n) right v w = kept.undefined _
 
-  pub steady_stepped : (ds : List StructDef) (op : StepOp) (ty : PlainType) (v : Value) → Itself (stepped ds op ty v)
+  pub steady_stepped : (ds : List StructDef) (op : StepOp) (ty : PlainType) (v : Value) → Itself (step_value ds op ty v)
   steady_stepped ds op ty v = steady_combined ds (step_operator op) ty (one_type ty) v (Word 1)
 
   -- ---- locals
@@ -503,7 +503,7 @@ module _ (R : (A : Type 0) → Run A → Run A → Type 0) (kept : Congruence R)
     first_related scope (q.Value x) = kept.bind (eval_related scope x) (λ _. kept.pure tt)
     first_related scope (q.Locals more) = declares_related scope more
 
-    pub returned_related : (scope : Scope) (x : Option Expr) → Related (returned ds ls f scope x) (returned ds ls f' scope x)
+    pub returned_related : (scope : Scope) (x : Option Expr) → Related (return_value ds ls f scope x) (return_value ds ls f' scope x)
     returned_related scope None = kept.pure _
     returned_related scope (Some x) = kept.bind (kept.bind (eval_related scope x) (steady_used _)) (λ v. kept.pure _)
 

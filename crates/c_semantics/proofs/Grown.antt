@@ -8,9 +8,9 @@ use Rattle.mem_model.specs.Memory.{Memory, end_object, begin_object}
 use Rattle.mem_model.specs.World.{Meter, World, Rooms, with_memory, with_meter, with_turns, turn_from}
 use Rattle.mem_model.specs.Ending.{Done, Trap, Undefined, More, ending_world, Evaluation, Gives, Ends}
 use Rattle.c_semantics.specs.Reasons.{Reason}
-use Rattle.c_semantics.specs.Runs.{State, in_world, Run, and_then, ◌>>=◌, pure, undefined, trap, exit, no_turn, turned, turn, seen, set_memory, known, used, number, read_register, write_register}
+use Rattle.c_semantics.specs.Runs.{State, in_world, Run, and_then, ◌>>=◌, pure, undefined, trap, exit, no_turn, spend_turn, turn, on_memory, set_memory, or_undefined, use_value, number, read_register, write_register}
 use Rattle.c_semantics.specs.Objects.{Scope, with_object, with_local_object}
-use Rattle.c_semantics.specs.Executes.{entered, left, within_call}
+use Rattle.c_semantics.specs.Executes.{enter_function, leave_function, within_call}
 
 -- a list begins with another one
 abbrev pub Starts : List ℕ → List ℕ → Type 0
@@ -121,19 +121,19 @@ pub steady_write : (k : ℕ) (v : Value) → Steady (write_register k v)
 unfolding write_register
 steady_write k v = record { by = λ s d. refl; low = λ s. later_same s.world; high = λ s. later_same s.world }
 
-pub grown_seen : {A : Type 0} {k k' : Memory → Run A} → ((m : Memory) → Grown (k m) (k' m)) → Grown (seen k) (seen k')
-unfolding seen
+pub grown_seen : {A : Type 0} {k k' : Memory → Run A} → ((m : Memory) → Grown (k m) (k' m)) → Grown (on_memory k) (on_memory k')
+unfolding on_memory
 grown_seen g = record {
   by = λ s d. (g s.world.outer.memory).by s d;
   low = λ s. (g s.world.outer.memory).low s;
   high = λ s. (g s.world.outer.memory).high s;
 }
 
-pub steady_known : {A : Type 0} (reason : Reason) (o : Option A) → Steady (known reason o)
+pub steady_known : {A : Type 0} (reason : Reason) (o : Option A) → Steady (or_undefined reason o)
 steady_known reason (Some a) = steady_pure a
 steady_known reason None = steady_undefined reason
 
-pub steady_used : (reason : Reason) (v : Value) → Steady (used reason v)
+pub steady_used : (reason : Reason) (v : Value) → Steady (use_value reason v)
 steady_used reason (Word n) = steady_pure _
 steady_used reason (Address p) = steady_pure _
 steady_used reason Unset = steady_undefined reason
@@ -167,16 +167,16 @@ grown_no_turn c h = record {
   high = h;
 }
 
-reaches_turned : (n : ℕ) (m : Meter) (s : State) → m.peak ≡ s.world.meter.peak → Reaches s.world (turned (turn_from n m) s)
+reaches_turned : (n : ℕ) (m : Meter) (s : State) → m.peak ≡ s.world.meter.peak → Reaches s.world (spend_turn (turn_from n m) s)
 unfolding no_turn
 reaches_turned zero m s e = later_same s.world
 reaches_turned (suc n) m s e = record { output = starts_same s.world.outer.output; peak = omega (arith, e) }
 
 grows_turned : (n d : ℕ) (m : Meter) (s : State) → m.peak ≡ s.world.meter.peak
-    → Grows d (turned (turn_from n m) s) (turned (turn_from (n + d) (with_turns d m)) (with_more d s))
+    → Grows d (spend_turn (turn_from n m) s) (spend_turn (turn_from (n + d) (with_turns d m)) (with_more d s))
 unfolding no_turn
-grows_turned zero d m s e = reaches_on s.world (more_turns d s.world) (turned (turn_from (zero + d) (with_turns d m)) (with_more d s)) (record { output = starts_same s.world.outer.output; peak = omega arith }) (reaches_turned (zero + d) (with_turns d m) (with_more d s) e)
-grows_turned (suc n) d m s e = let step : suc n + d ≡ suc (n + d) = omega arith in ap (λ t. turned (turn_from t (with_turns d m)) (with_more d s)) step
+grows_turned zero d m s e = reaches_on s.world (more_turns d s.world) (spend_turn (turn_from (zero + d) (with_turns d m)) (with_more d s)) (record { output = starts_same s.world.outer.output; peak = omega arith }) (reaches_turned (zero + d) (with_turns d m) (with_more d s) e)
+grows_turned (suc n) d m s e = let step : suc n + d ≡ suc (n + d) = omega arith in ap (λ t. spend_turn (turn_from t (with_turns d m)) (with_more d s)) step
 
 pub steady_turn : Steady turn
 unfolding turn
@@ -222,10 +222,10 @@ grown_object size k {run = run} {run' = run'} scope g = record {
 }
 
 abbrev inside : Rooms → (function : ℕ) → State → State
-inside rooms n s = record { registers = λ k. Unset; world = entered rooms n s.world }
+inside rooms n s = record { registers = λ k. Unset; world = enter_function rooms n s.world }
 
 abbrev behind : {A : Type 0} → Rooms → (function : ℕ) → (ℕ → Value) → A → Run A
-behind rooms n r a = λ t. Gives a (record { registers = r; world = left rooms n t.world })
+behind rooms n r a = λ t. Gives a (record { registers = r; world = leave_function rooms n t.world })
 
 steady_behind : {A : Type 0} (rooms : Rooms) (n : ℕ) (r : ℕ → Value) (a : A) → Steady (behind rooms n r a)
 steady_behind rooms n r a = record {

@@ -23,7 +23,7 @@ use Rattle.c_typed_tree.specs.Weight.{copy_weight, expr_weight, optional_weight,
 use Rattle.c_semantics.specs.Runs.{Run, ◌>>=◌, ◌>>◌, pure, turn}
 use Rattle.c_semantics.specs.Objects.{Scope, with_locals}
 use Rattle.c_semantics.specs.Evaluates.{Functions, choose}
-use Rattle.c_semantics.specs.Executes.{Flow, Goes, after_body, declared_by, declared_in, declared_first, is_label_of, has_label, target_in, holds, condition, step, initialise, declare, declares, first, returned, exec, exec_else, execs, exec_sections, exec_from, calls_of, level, locals_of}
+use Rattle.c_semantics.specs.Executes.{Flow, Goes, after_body, declared_by, declared_in, declared_first, is_label_of, has_label, target_in, holds, condition, step, initialise, declare, declares, first, return_value, exec, exec_else, execs, exec_sections, exec_from, calls_of, level, locals_of}
 use Rattle.c_semantics.specs.Refines as r
 use Rattle.c_semantics.specs.Refines.{IsBelow, IgnorePeak, ExprWithin, OptionWithin, DeclaredWithin, AllDeclaredWithin, FirstWithin, context_at, result_at, IsTypedAt, StmtRefines, StmtWithin, ElseWithin, StmtsWithin, SectionsWithin}
 use Rattle.c_semantics.proofs.Facts.{front, back, also, either_on, along, three, four}
@@ -337,7 +337,7 @@ module _ (c : Context) (f : Functions) (i : IgnorePeak f) where
   first_below scope (r.value_first {y = y} h) p = kept.bind ((within_below h c (typed_value c y p)).value f i scope) (λ v. kept.pure tt)
   first_below scope (r.locals_first h) p = declares_below scope h p
 
-  returned_below : (result : PlainType) (scope : Scope) {x y : Option Expr} → OptionWithin x y → IsTrue (is_returned c result y) → IsBelow (returned ds ls f scope x) (returned ds ls f scope y)
+  returned_below : (result : PlainType) (scope : Scope) {x y : Option Expr} → OptionWithin x y → IsTrue (is_returned c result y) → IsBelow (return_value ds ls f scope x) (return_value ds ls f scope y)
   returned_below result scope r.missing p = kept.pure _
   returned_below result scope (r.present {y = y} h) p =
       kept.bind (kept.bind ((within_below h c (typed_returned c result y p)).value f i scope) (forms.steady_used BelowOf kept _)) (λ v. kept.pure _)

@@ -13,7 +13,7 @@ use Rattle.c_typed_tree.specs.Lawful.{is_main}
 use Rattle.c_typed_tree.specs.Rooms.{room}
 use Rattle.c_mean.specs.Behaviour.{Behaviour, Done, Trap, Undefined, More, Meaning}
 use Rattle.c_semantics.specs.Runs.{State}
-use Rattle.c_semantics.specs.Executes.{Flow, Goes, Breaks, Continues, Returns, level, entered, left, body_of}
+use Rattle.c_semantics.specs.Executes.{Flow, Goes, Breaks, Continues, Returns, level, enter_function, leave_function, body_of}
 
 -- the world before a run: the objects of static storage, the input, and so many turns
 abbrev pub world_of : Memory → (input : List ℕ) → (turns : ℕ) → World
@@ -41,9 +41,9 @@ ending_of leave (Ends e) = e
 abbrev pub run_of : TypedUnit → Rooms → (function : ℕ) → Option TypedFn → World → (turns : ℕ) → Ending
 run_of unit rooms n None w turns = g.Undefined w 0
 run_of unit rooms n (Some f) w turns =
-    ending_of (left rooms n)
+    ending_of (leave_function rooms n)
     (body_of unit.structs (level unit rooms (suc turns)) n f []
-    (record { registers = λ k. Unset; world = entered rooms n w }))
+    (record { registers = λ k. Unset; world = enter_function rooms n w }))
 
 -- how many functions stand before `main`
 abbrev pub place_of_main : List TypedFn → ℕ

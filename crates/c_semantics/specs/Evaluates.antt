@@ -19,9 +19,9 @@ use Rattle.c_typed_tree.specs.Types.{PlainType, Void, Pointer, Array, Struct}
 use Rattle.c_typed_tree.specs.Expressions.{Expr, Number, Global, Call, Unary, Binary, Assign, Conditional, Cast, Convert, Index, Field, Arrow, Postfix, Comma, Exprs, no_exprs, more_exprs, type_of}
 use Rattle.c_typed_tree.specs.Expressions as e
 use Rattle.c_semantics.specs.Reasons.{UsesNoValue, AccessesOutside}
-use Rattle.c_semantics.specs.Runs.{with_outer, Run, ◌>>=◌, ◌>>◌, pure, undefined, trap, exit, turn, used, number}
-use Rattle.c_semantics.specs.Objects.{Place, At, start_of, given, read_at, read, write, pointer_to, move, move_by, offset_of, Scope, local_place, integer_of}
-use Rattle.c_semantics.specs.Operators.{binary, unary, test, convert, operator_of, combined, stepped, pure_truth}
+use Rattle.c_semantics.specs.Runs.{with_outer, Run, ◌>>=◌, ◌>>◌, pure, undefined, trap, exit, turn, use_value, number}
+use Rattle.c_semantics.specs.Objects.{Place, At, start_of, call_result, read_at, read, write, pointer_to, move, move_by, offset_of, Scope, local_place, integer_of}
+use Rattle.c_semantics.specs.Operators.{binary, unary, test, convert, operator_of, combine, step_value, pure_truth}
 
 -- ---- what the world outside does
 
@@ -77,9 +77,9 @@ target_of ty = Void
 -- ---- changes of a place
 
 -- the value of an assignment: that of a struct is the pointer to the left side
-abbrev pub assigned : PlainType → Place → Value → Value
-assigned (Struct n) (At p) v = p
-assigned ty place v = v
+abbrev pub assign_place : PlainType → Place → Value → Value
+assign_place (Struct n) (At p) v = p
+assign_place ty place v = v
 
 -- a place is read and written; the value is picked of the old and the new one
 abbrev pub update : List StructDef → PlainType → (change : Value → Run Value) → (pick : Value → Value → Value) → Place
@@ -94,8 +94,8 @@ old_value old new = old
 
 -- an assignment, where the place and the right side are known
 abbrev pub assign : List StructDef → (left right : PlainType) → Option BinaryOp → Place → Value → Run Value
-assign ds left right None p v = write ds left p v >> pure (assigned left p v)
-assign ds left right (Some op) p v = update ds left (λ old. combined ds op left right old v) new_value p
+assign ds left right None p v = write ds left p v >> pure (assign_place left p v)
+assign ds left right (Some op) p v = update ds left (λ old. combine ds op left right old v) new_value p
 
 -- ---- choices
 
@@ -117,11 +117,11 @@ module _ (ds : List StructDef) (ls : List Local) (functions : Functions) where
     eval scope (Number ty n) = pure (Word n)
     eval scope (e.Local ty k) = local_place scope k (slice_get ls k) >>= read ty
     eval scope (Global ty k) = read_at ty (start_of k)
-    eval scope (Call ty callee es) = evals scope es >>= call functions callee >>= given ty
+    eval scope (Call ty callee es) = evals scope es >>= call functions callee >>= call_result ty
     eval scope (Unary ty u.Address x) = place scope x >>= pointer_to
-    eval scope (Unary ty u.Dereference x) = eval scope x >>= used UsesNoValue >>= read_at ty
-    eval scope (Unary ty u.Increment x) = place scope x >>= update ds ty (stepped ds s.Increment ty) new_value
-    eval scope (Unary ty u.Decrement x) = place scope x >>= update ds ty (stepped ds s.Decrement ty) new_value
+    eval scope (Unary ty u.Dereference x) = eval scope x >>= use_value UsesNoValue >>= read_at ty
+    eval scope (Unary ty u.Increment x) = place scope x >>= update ds ty (step_value ds s.Increment ty) new_value
+    eval scope (Unary ty u.Decrement x) = place scope x >>= update ds ty (step_value ds s.Decrement ty) new_value
     eval scope (Unary ty u.Not x) = eval scope x >>= test >>= choose (pure_truth false) (pure_truth true)
     eval scope (Unary ty u.Plus x) = eval scope x >>= unary u.Plus ty
     eval scope (Unary ty u.Minus x) = eval scope x >>= unary u.Minus ty
@@ -141,7 +141,7 @@ module _ (ds : List StructDef) (ls : List Local) (functions : Functions) where
         eval scope x >>= (λ v. eval scope y >>= element ds (type_of x) (type_of y) v) >>= read_at ty
     eval scope (Field ty x member) = place scope x >>= pointer_to >>= member_at ds (type_of x) member >>= read_at ty
     eval scope (Arrow ty x member) = eval scope x >>= member_at ds (target_of (type_of x)) member >>= read_at ty
-    eval scope (Postfix ty op x) = place scope x >>= update ds ty (stepped ds op ty) old_value
+    eval scope (Postfix ty op x) = place scope x >>= update ds ty (step_value ds op ty) old_value
     eval scope (Comma ty no_exprs) = undefined UsesNoValue
     eval scope (Comma ty (more_exprs x xs)) = last_of scope (eval scope x) xs
 
@@ -149,7 +149,7 @@ module _ (ds : List StructDef) (ls : List Local) (functions : Functions) where
     pub place : Scope → Expr → Run Place
     place scope (e.Local ty k) = local_place scope k (slice_get ls k)
     place scope (Global ty k) = at (start_of k)
-    place scope (Unary ty u.Dereference x) = eval scope x >>= used UsesNoValue >>= at
+    place scope (Unary ty u.Dereference x) = eval scope x >>= use_value UsesNoValue >>= at
     place scope (Index ty x y) =
         eval scope x >>= (λ v. eval scope y >>= element ds (type_of x) (type_of y) v) >>= at
     place scope (Field ty x member) = place scope x >>= pointer_to >>= member_at ds (type_of x) member >>= at
@@ -160,7 +160,7 @@ module _ (ds : List StructDef) (ls : List Local) (functions : Functions) where
     pub evals : Scope → Exprs → Run (List Value)
     evals scope no_exprs = pure []
     evals scope (more_exprs x xs) =
-        eval scope x >>= used UsesNoValue >>= (λ v. evals scope xs >>= (λ vs. pure (v ∷ vs)))
+        eval scope x >>= use_value UsesNoValue >>= (λ v. evals scope xs >>= (λ vs. pure (v ∷ vs)))
 
     -- the last of the operands of commas, of which the first one is given (C99 6.5.17)
     pub last_of : Scope → Run Value → Exprs → Run Value

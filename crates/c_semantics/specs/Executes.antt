@@ -18,7 +18,7 @@ use Rattle.c_typed_tree.specs.View.{type_view, stmt_view}
 use Rattle.c_typed_tree.specs.Layout.{size_of}
 use Rattle.c_typed_tree.specs.Lawful.{is_main}
 use Rattle.c_semantics.specs.Reasons.{UsesNoValue}
-use Rattle.c_semantics.specs.Runs.{Run, and_then, ◌>>=◌, ◌>>◌, pure, undefined, no_turn, turn, used, number, write_register}
+use Rattle.c_semantics.specs.Runs.{Run, and_then, ◌>>=◌, ◌>>◌, pure, undefined, no_turn, turn, use_value, number, write_register}
 use Rattle.c_semantics.specs.Objects.{write, Scope, no_scope, with_local_object, with_locals, local_place}
 use Rattle.c_semantics.specs.Operators.{test}
 use Rattle.c_semantics.specs.Evaluates.{Functions, eval, choose}
@@ -98,16 +98,16 @@ with_parameters ds k (p ∷ ps) (v ∷ vs) run scope =
     else write_register k v >> with_parameters ds (suc k) ps vs run scope
 
 -- a call has registers and a room of its own
-abbrev pub entered : Rooms → (function : ℕ) → World → World
-entered rooms n w = with_meter w (enter_call rooms n w.meter)
+abbrev pub enter_function : Rooms → (function : ℕ) → World → World
+enter_function rooms n w = with_meter w (enter_call rooms n w.meter)
 
-abbrev pub left : Rooms → (function : ℕ) → World → World
-left rooms n w = with_meter w (leave_call rooms n w.meter)
+abbrev pub leave_function : Rooms → (function : ℕ) → World → World
+leave_function rooms n w = with_meter w (leave_call rooms n w.meter)
 
 abbrev pub within_call : {A : Type 0} → Rooms → (function : ℕ) → Run A → Run A
 within_call rooms n run = λ s.
-    and_then (run (record { registers = λ k. Unset; world = entered rooms n s.world }))
-    (λ a t. Gives a (record { registers = s.registers; world = left rooms n t.world }))
+    and_then (run (record { registers = λ k. Unset; world = enter_function rooms n s.world }))
+    (λ a t. Gives a (record { registers = s.registers; world = leave_function rooms n t.world }))
 
 -- the value of a call: of one that ended without a value none, but of `main` 0 (C99 5.1.2.2.3)
 abbrev pub no_value : (main : Bool) → Value
@@ -169,9 +169,9 @@ module _ (ds : List StructDef) (ls : List Local) (functions : Functions) where
   first scope (q.Value x) = eval ds ls functions scope x >> pure tt
   first scope (q.Locals more) = declares scope more
 
-  abbrev pub returned : Scope → Option Expr → Run Flow
-  returned scope None = pure (Returns None)
-  returned scope (Some x) = eval ds ls functions scope x >>= used UsesNoValue >>= (λ v. pure (Returns (Some v)))
+  abbrev pub return_value : Scope → Option Expr → Run Flow
+  return_value scope None = pure (Returns None)
+  return_value scope (Some x) = eval ds ls functions scope x >>= use_value UsesNoValue >>= (λ v. pure (Returns (Some v)))
 
   -- again is what a statement does one level down
   module _ (again : Scope → Stmt → Run Flow) where
@@ -194,7 +194,7 @@ module _ (ds : List StructDef) (ls : List Local) (functions : Functions) where
           >>= (λ n. exec_from scope (target_in n sections) sections) >>= after_switch
       exec scope q.Break = pure Breaks
       exec scope q.Continue = pure Continues
-      exec scope (q.Return x) = returned scope x
+      exec scope (q.Return x) = return_value scope x
       exec scope (q.Expression x) = eval ds ls functions scope x >> pure Goes
       exec scope q.Empty = pure Goes
       exec scope (q.Declare d) = declare scope d >> pure Goes

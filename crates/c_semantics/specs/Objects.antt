@@ -20,7 +20,7 @@ use Rattle.c_typed_tree.specs.Types.{PlainType, Void, Int, Pointer, Array, Struc
 use Rattle.c_typed_tree.specs.View.{type_view}
 use Rattle.c_typed_tree.specs.Layout.{size_of, align_of}
 use Rattle.c_semantics.specs.Reasons.{Reason, AccessesOutside, MovesOutside, UsesDeadObject, UsesNoValue, OverlapsItself, reason_of}
-use Rattle.c_semantics.specs.Runs.{State, in_world, Run, and_then, ◌>>=◌, ◌>>◌, pure, undefined, seen, set_memory, known, used, number, read_register, write_register}
+use Rattle.c_semantics.specs.Runs.{State, in_world, Run, and_then, ◌>>=◌, ◌>>◌, pure, undefined, on_memory, set_memory, or_undefined, use_value, number, read_register, write_register}
 
 -- where a value stands: a local that is no object, or a pointer to it
 pub data Place : Type 0 where
@@ -38,39 +38,39 @@ integer_of _ = i.UnsignedLong
 
 -- ---- access
 
-abbrev pub accessed : {A : Type 0} → Result A MemFault → Run A
-accessed (Ok a) = pure a
-accessed (Err fault) = undefined (reason_of fault)
+abbrev pub access : {A : Type 0} → Result A MemFault → Run A
+access (Ok a) = pure a
+access (Err fault) = undefined (reason_of fault)
 
 -- what stands at a pointer, as a number or as a pointer
 abbrev pub load : (width : ℕ) → (pointer : Bool) → Value → Run Value
-load width pointer (Address p) = seen (λ m. accessed (load_at m p width pointer))
+load width pointer (Address p) = on_memory (λ m. access (load_at m p width pointer))
 load width pointer (Word n) = undefined AccessesOutside
 load width pointer Unset = undefined UsesNoValue
 
 -- a value is put at a pointer
 abbrev pub store : (width : ℕ) → Value → Value → Run (Unit {0})
-store width (Address p) v = seen (λ m. accessed (store_at m p width v) >>= set_memory)
+store width (Address p) v = on_memory (λ m. access (store_at m p width v) >>= set_memory)
 store width (Word n) v = undefined AccessesOutside
 store width Unset v = undefined UsesNoValue
 
 -- the cells of a struct are copied, as they are (C99 6.5.16.1)
-abbrev pub copied : Memory → (to from : Ptr) → (size align : ℕ) → Run (Unit {0})
-copied m to from size align =
-    if overlaps to from size then undefined OverlapsItself else accessed (copy_at m to from size align) >>= set_memory
+abbrev pub copy_cells : Memory → (to from : Ptr) → (size align : ℕ) → Run (Unit {0})
+copy_cells m to from size align =
+    if overlaps to from size then undefined OverlapsItself else access (copy_at m to from size align) >>= set_memory
 
 abbrev pub copy : (size align : ℕ) → (to from : Value) → Run (Unit {0})
-copy size align (Address p) (Address q) = seen (λ m. copied m p q size align)
+copy size align (Address p) (Address q) = on_memory (λ m. copy_cells m p q size align)
 copy size align to from = undefined AccessesOutside
 
 -- a number that was loaded, as its type holds it
-abbrev pub held : IntegerType → Value → Run Value
-held t v = number v >>= (λ n. pure (Word (extension t n)))
+abbrev pub as_integer : IntegerType → Value → Run Value
+as_integer t v = number v >>= (λ n. pure (Word (extension t n)))
 
 -- the value at a pointer, by its type. That of a struct or an array is the pointer
 abbrev pub read_at : PlainType → Value → Run Value
 read_at Void p = undefined UsesNoValue
-read_at (Int bytes signed) p = load bytes false p >>= held (integer_of (Int bytes signed))
+read_at (Int bytes signed) p = load bytes false p >>= as_integer (integer_of (Int bytes signed))
 read_at (Pointer target) p = load 8 true p
 read_at (Array element n) p = pure p
 read_at (Struct n) p = pure p
@@ -78,16 +78,16 @@ read_at (Struct n) p = pure p
 -- a value as its type holds it
 abbrev pub as_held : PlainType → Value → Run Value
 as_held Void v = pure v
-as_held (Int bytes signed) v = held (integer_of (Int bytes signed)) v
+as_held (Int bytes signed) v = as_integer (integer_of (Int bytes signed)) v
 as_held (Pointer target) v = pure v
 as_held (Array element n) v = pure v
 as_held (Struct n) v = pure v
 
 -- what a call gave, which may be nothing
-abbrev pub given : PlainType → Value → Run Value
-given ty Unset = pure Unset
-given ty (Word n) = as_held ty (Word n)
-given ty (Address p) = as_held ty (Address p)
+abbrev pub call_result : PlainType → Value → Run Value
+call_result ty Unset = pure Unset
+call_result ty (Word n) = as_held ty (Word n)
+call_result ty (Address p) = as_held ty (Address p)
 
 -- a register is read by its type too: so an expression gives a word of its type in every state, and not only in those
 -- that a run comes to
@@ -98,13 +98,13 @@ read ty (At p) = read_at ty p
 -- a value is written, by its type; it is used
 abbrev pub write_at : List StructDef → PlainType → Value → Value → Run (Unit {0})
 write_at ds Void p v = undefined UsesNoValue
-write_at ds (Int bytes signed) p v = used UsesNoValue v >>= store bytes p
-write_at ds (Pointer target) p v = used UsesNoValue v >>= store 8 p
+write_at ds (Int bytes signed) p v = use_value UsesNoValue v >>= store bytes p
+write_at ds (Pointer target) p v = use_value UsesNoValue v >>= store 8 p
 write_at ds (Array element n) p v = undefined UsesNoValue
 write_at ds (Struct n) p v = copy (size_of ds (Struct n)) (align_of ds (Struct n)) p v
 
 abbrev pub write : List StructDef → PlainType → Place → Value → Run (Unit {0})
-write ds ty (Register k) v = used UsesNoValue v >>= write_register k
+write ds ty (Register k) v = use_value UsesNoValue v >>= write_register k
 write ds ty (At p) v = write_at ds ty p v
 
 -- the pointer to a place; a local that is no object has none
@@ -122,7 +122,7 @@ move_reason m Unset = UsesNoValue
 
 -- a pointer moved by a number of bytes (C99 6.5.6)
 abbrev pub move : Value → (by : ℤ) → Run Value
-move p by = seen (λ m. known (move_reason m p) (pointer_plus m p by))
+move p by = on_memory (λ m. or_undefined (move_reason m p) (pointer_plus m p by))
 
 -- a pointer moved by a number of elements, as its type has it
 abbrev pub move_by : List StructDef → PlainType → IntegerType → Value → Value → Run Value
@@ -182,4 +182,4 @@ with_locals ds ls (k ∷ ks) run scope = with_local ds k (slice_get ls k) (with_
 abbrev pub local_place : Scope → (local : ℕ) → Option Local → Run Place
 local_place scope k None = undefined AccessesOutside
 local_place scope k (Some l) =
-    if l.in_memory then known UsesDeadObject (scope k) >>= (λ o. pure (At (start_of o))) else pure (Register k)
+    if l.in_memory then or_undefined UsesDeadObject (scope k) >>= (λ o. pure (At (start_of o))) else pure (Register k)

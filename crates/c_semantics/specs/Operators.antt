@@ -25,7 +25,7 @@ use Rattle.c_typed_tree.specs.Types.{PlainType, Void, Int, Pointer}
 use Rattle.c_typed_tree.specs.Layout.{size_of}
 use Rattle.c_typed_tree.specs.Constants.{integers_with}
 use Rattle.c_semantics.specs.Reasons.{Reason, UsesDeadObject, ComparesApart, ComparesAtEnd, ShiftsTooFar, UsesNoValue}
-use Rattle.c_semantics.specs.Runs.{Run, ◌>>=◌, pure, undefined, trap, seen, known, used, number}
+use Rattle.c_semantics.specs.Runs.{Run, ◌>>=◌, pure, undefined, trap, on_memory, or_undefined, use_value, number}
 use Rattle.c_semantics.specs.Objects.{integer_of, move, move_by}
 
 abbrev pub outcome : ArithmeticOutcome → Run Value
@@ -39,8 +39,8 @@ abbrev pub integers : BinaryOp → (t count : IntegerType) → Value → Value �
 integers op t c v w = number v >>= (λ x. number w >>= (λ y. outcome (integers_with op t c x y)))
 
 -- an integer converted from one type to another (C99 6.3.1.3)
-abbrev pub converted : (from to : IntegerType) → Value → Run Value
-converted from to v = number v >>= (λ n. pure (Word (conversion from to n)))
+abbrev pub convert_word : (from to : IntegerType) → Value → Run Value
+convert_word from to v = number v >>= (λ n. pure (Word (conversion from to n)))
 
 -- ---- pointers
 
@@ -53,8 +53,8 @@ is_dead m Unset = false
 abbrev pub unless_dead : Memory → Value → Value → Reason → Reason
 unless_dead m v w reason = if is_dead m v then UsesDeadObject else if is_dead m w then UsesDeadObject else reason
 
-abbrev pub compared : Reason → (Memory → Value → Value → Option Bool) → Value → Value → Run Bool
-compared reason test v w = seen (λ m. known (unless_dead m v w reason) (test m v w))
+abbrev pub compare_by : Reason → (Memory → Value → Value → Option Bool) → Value → Value → Run Bool
+compare_by reason test v w = on_memory (λ m. or_undefined (unless_dead m v w reason) (test m v w))
 
 abbrev pub pure_truth : Bool → Run Value
 pure_truth b = pure (Word (truth b))
@@ -67,17 +67,17 @@ elements bytes size =
 
 abbrev pub distance : List StructDef → (element : PlainType) → Value → Value → Run Value
 distance ds element v w =
-    seen (λ m. known (unless_dead m v w ComparesApart) (pointer_minus m v w)) >>= (λ z. elements z (size_of ds element))
+    on_memory (λ m. or_undefined (unless_dead m v w ComparesApart) (pointer_minus m v w)) >>= (λ z. elements z (size_of ds element))
 
 -- an operator between two pointers to one type of elements
 abbrev pub pointers : List StructDef → BinaryOp → (element : PlainType) → Value → Value → Run Value
 pointers ds b.Subtract element v w = distance ds element v w
-pointers ds b.Less element v w = compared ComparesApart pointer_lt v w >>= pure_truth
-pointers ds b.Greater element v w = compared ComparesApart pointer_lt w v >>= pure_truth
-pointers ds b.LessEqual element v w = compared ComparesApart pointer_le v w >>= pure_truth
-pointers ds b.GreaterEqual element v w = compared ComparesApart pointer_le w v >>= pure_truth
-pointers ds b.Equal element v w = compared ComparesAtEnd pointer_eq v w >>= pure_truth
-pointers ds b.NotEqual element v w = compared ComparesAtEnd pointer_eq v w >>= (λ same. pure_truth (not same))
+pointers ds b.Less element v w = compare_by ComparesApart pointer_lt v w >>= pure_truth
+pointers ds b.Greater element v w = compare_by ComparesApart pointer_lt w v >>= pure_truth
+pointers ds b.LessEqual element v w = compare_by ComparesApart pointer_le v w >>= pure_truth
+pointers ds b.GreaterEqual element v w = compare_by ComparesApart pointer_le w v >>= pure_truth
+pointers ds b.Equal element v w = compare_by ComparesAtEnd pointer_eq v w >>= pure_truth
+pointers ds b.NotEqual element v w = compare_by ComparesAtEnd pointer_eq v w >>= (λ same. pure_truth (not same))
 pointers ds _ element v w = undefined UsesNoValue
 
 -- a pointer and a number of elements
@@ -105,7 +105,7 @@ binary ds op _ right v w = undefined UsesNoValue
 
 -- an operator in front of a value, by its type: `+`, `-` and `~`
 abbrev pub unary : UnaryOp → PlainType → Value → Run Value
-unary u.Plus ty v = used UsesNoValue v
+unary u.Plus ty v = use_value UsesNoValue v
 unary u.Minus ty v = number v >>= (λ n. outcome (negation (integer_of ty) n))
 unary u.Invert ty v = number v >>= (λ n. pure (Word (complement (integer_of ty) n)))
 unary _ ty v = undefined UsesNoValue
@@ -117,7 +117,7 @@ test_in m (Address p) = if is_live m p then pure true else undefined UsesDeadObj
 test_in m Unset = undefined UsesNoValue
 
 abbrev pub test : Value → Run Bool
-test v = seen (λ m. test_in m v)
+test v = on_memory (λ m. test_in m v)
 
 -- ---- conversions
 
@@ -125,8 +125,8 @@ test v = seen (λ m. test_in m v)
 -- where the type is void (C99 6.3)
 abbrev pub convert : (from to : PlainType) → Value → Run Value
 convert from Void v = pure Unset
-convert (Int n s) (Int m r) v = converted (integer_of (Int n s)) (integer_of (Int m r)) v
-convert from to v = used UsesNoValue v
+convert (Int n s) (Int m r) v = convert_word (integer_of (Int n s)) (integer_of (Int m r)) v
+convert from to v = use_value UsesNoValue v
 
 -- ---- assignment
 
@@ -153,16 +153,16 @@ operation_type op left right = right
 
 -- an integer is combined with another one, and the result is an integer of its own type again
 abbrev pub combined_in : BinaryOp → (t left right : IntegerType) → Value → Value → Run Value
-combined_in op t left right v w = converted left t v >>= (λ x. integers op t right x w >>= converted t left)
+combined_in op t left right v w = convert_word left t v >>= (λ x. integers op t right x w >>= convert_word t left)
 
 -- what a compound assignment writes, of what stood there and the right side
-abbrev pub combined : List StructDef → BinaryOp → (left right : PlainType) → Value → Value → Run Value
-combined ds op (Int n s) right v w =
+abbrev pub combine : List StructDef → BinaryOp → (left right : PlainType) → Value → Value → Run Value
+combine ds op (Int n s) right v w =
     let t = integer_of (Int n s) in
     let r = integer_of right in
     combined_in op (operation_type op t r) t r v w
-combined ds op (Pointer element) right v w = pointer_and_integer ds op element (integer_of right) v w
-combined ds op left right v w = undefined UsesNoValue
+combine ds op (Pointer element) right v w = pointer_and_integer ds op element (integer_of right) v w
+combine ds op left right v w = undefined UsesNoValue
 
 -- `++` and `--` add and take away 1 (C99 6.5.2.4, 6.5.3.1)
 abbrev pub step_operator : StepOp → BinaryOp
@@ -174,5 +174,5 @@ abbrev pub one_type : PlainType → PlainType
 one_type (Int n s) = Int (bytes (promote (integer_of (Int n s)))) (is_signed (promote (integer_of (Int n s))))
 one_type _ = Int 4 true
 
-abbrev pub stepped : List StructDef → StepOp → PlainType → Value → Run Value
-stepped ds op ty v = combined ds (step_operator op) ty (one_type ty) v (Word 1)
+abbrev pub step_value : List StructDef → StepOp → PlainType → Value → Run Value
+step_value ds op ty v = combine ds (step_operator op) ty (one_type ty) v (Word 1)

@@ -34,11 +34,11 @@ use Rattle.c_semantics.specs.Behaves.{run}
 -- ---- runs
 
 -- a world, and a state, with another peak
-abbrev pub peaked : (peak : ℕ) → World → World
-peaked p w = with_meter w (record { turns = w.meter.turns; room = w.meter.room; peak = p })
+abbrev pub with_peak : (peak : ℕ) → World → World
+with_peak p w = with_meter w (record { turns = w.meter.turns; room = w.meter.room; peak = p })
 
-abbrev pub lowered : (peak : ℕ) → State → State
-lowered p s = in_world s (peaked p s.world)
+abbrev pub lower_peak : (peak : ℕ) → State → State
+lower_peak p s = in_world s (with_peak p s.world)
 
 -- something holds with a peak that is not above
 pub record WithPeak (most : ℕ) (P : ℕ → Type 0) : Type 0 where
@@ -49,11 +49,11 @@ pub record WithPeak (most : ℕ) (P : ℕ → Type 0) : Type 0 where
 -- the one evaluation is the other, in value, state, ending, output and turns, with a peak that is not above, unless the
 -- other is undefined
 abbrev pub GivesBelow : {A : Type 0} → Evaluation A State → Evaluation A State → Type 0
-GivesBelow c (Gives a t) = WithPeak t.world.meter.peak (λ p. c ≡ Gives a (lowered p t))
-GivesBelow c (Ends (Done w status)) = WithPeak w.meter.peak (λ p. c ≡ Ends (Done (peaked p w) status))
-GivesBelow c (Ends (Trap w code)) = WithPeak w.meter.peak (λ p. c ≡ Ends (Trap (peaked p w) code))
+GivesBelow c (Gives a t) = WithPeak t.world.meter.peak (λ p. c ≡ Gives a (lower_peak p t))
+GivesBelow c (Ends (Done w status)) = WithPeak w.meter.peak (λ p. c ≡ Ends (Done (with_peak p w) status))
+GivesBelow c (Ends (Trap w code)) = WithPeak w.meter.peak (λ p. c ≡ Ends (Trap (with_peak p w) code))
 GivesBelow c (Ends (Undefined w at)) = Unit {0}
-GivesBelow c (Ends (More w)) = WithPeak w.meter.peak (λ p. c ≡ Ends (More (peaked p w)))
+GivesBelow c (Ends (More w)) = WithPeak w.meter.peak (λ p. c ≡ Ends (More (with_peak p w)))
 
 -- the one run is the other, from every state, unless that is undefined
 pub record RunRefines {A : Type 0} (c b : Run A) : Type 0 where
@@ -61,7 +61,7 @@ pub record RunRefines {A : Type 0} (c b : Run A) : Type 0 where
 
 -- the same where the one is run from a state with a lower peak
 pub record IsBelow {A : Type 0} (c b : Run A) : Type 0 where
-  pub by : (s : State) (p : ℕ) → p ≤ s.world.meter.peak → GivesBelow (c (lowered p s)) (b s)
+  pub by : (s : State) (p : ℕ) → p ≤ s.world.meter.peak → GivesBelow (c (lower_peak p s)) (b s)
 
 -- functions that do not look at the peak, as those of every unit
 abbrev pub IgnorePeak : Functions → Type 0
@@ -144,10 +144,10 @@ with_functions unit fs = record { structs = unit.structs; globals = unit.globals
 
 -- the one ending is the other, with a peak that is not above, unless the other is undefined
 abbrev pub EndingRefines : Ending → Ending → Type 0
-EndingRefines e (Done w status) = WithPeak w.meter.peak (λ p. e ≡ Done (peaked p w) status)
-EndingRefines e (Trap w code) = WithPeak w.meter.peak (λ p. e ≡ Trap (peaked p w) code)
+EndingRefines e (Done w status) = WithPeak w.meter.peak (λ p. e ≡ Done (with_peak p w) status)
+EndingRefines e (Trap w code) = WithPeak w.meter.peak (λ p. e ≡ Trap (with_peak p w) code)
 EndingRefines e (Undefined w at) = Unit {0}
-EndingRefines e (More w) = WithPeak w.meter.peak (λ p. e ≡ More (peaked p w))
+EndingRefines e (More w) = WithPeak w.meter.peak (λ p. e ≡ More (with_peak p w))
 
 -- each function weighs no more than its own
 pub data WeighNoMore (unit : TypedUnit) : List TypedFn → List TypedFn → Type 0 where

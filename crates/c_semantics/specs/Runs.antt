@@ -61,30 +61,30 @@ unfoldable pub no_turn : {A : Type 0} → Run A
 no_turn = λ s. Ends (More s.world)
 
 -- a turn is taken, where one is left
-abbrev pub turned : Option Meter → Run (Unit {0})
-turned None = no_turn
-turned (Some m) = λ s. Gives tt (in_world s (with_meter s.world m))
+abbrev pub spend_turn : Option Meter → Run (Unit {0})
+spend_turn None = no_turn
+spend_turn (Some m) = λ s. Gives tt (in_world s (with_meter s.world m))
 
 unfoldable pub turn : Run (Unit {0})
-turn = λ s. turned (take_turn s.world.meter) s
+turn = λ s. spend_turn (take_turn s.world.meter) s
 
 -- what is seen of the memory, and the memory is another one
-unfoldable pub seen : {A : Type 0} → (Memory → Run A) → Run A
-seen k = λ s. k s.world.outer.memory s
+unfoldable pub on_memory : {A : Type 0} → (Memory → Run A) → Run A
+on_memory k = λ s. k s.world.outer.memory s
 
 unfoldable pub set_memory : Memory → Run (Unit {0})
 set_memory m = λ s. Gives tt (in_world s (with_memory s.world m))
 
 -- the value, or the run is undefined
-abbrev pub known : {A : Type 0} → Reason → Option A → Run A
-known reason (Some a) = pure a
-known reason None = undefined reason
+abbrev pub or_undefined : {A : Type 0} → Reason → Option A → Run A
+or_undefined reason (Some a) = pure a
+or_undefined reason None = undefined reason
 
 -- a value that is used
-abbrev pub used : Reason → Value → Run Value
-used reason (Word n) = pure (Word n)
-used reason (Address p) = pure (Address p)
-used reason Unset = undefined reason
+abbrev pub use_value : Reason → Value → Run Value
+use_value reason (Word n) = pure (Word n)
+use_value reason (Address p) = pure (Address p)
+use_value reason Unset = undefined reason
 
 -- the word of a value that is used as a number
 abbrev pub number : Value → Run ℕ
@@ -94,7 +94,7 @@ number Unset = undefined UsesNoValue
 
 -- a register is read, and written
 unfoldable pub read_register : ℕ → Run Value
-read_register k = λ s. used ReadsUnwritten (s.registers k) s
+read_register k = λ s. use_value ReadsUnwritten (s.registers k) s
 
 unfoldable pub write_register : ℕ → Value → Run (Unit {0})
 write_register k v = λ s. Gives tt (with_registers s (with_register s.registers k v))
