@@ -1,2 +1,6 @@
 mod Runs
 mod Making
+mod Prepares
+mod Rows
+mod Reading
+mod Storing

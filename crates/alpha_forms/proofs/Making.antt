@@ -25,7 +25,7 @@ use Rattle.alpha_constants.specs.declared.recipe.Recipe.{Recipe}
 use Rattle.alpha_constants.specs.Recipes.{low_part, high_part, is_zero, near_word, near_length, lower_length, one_unless, finish_word, finish_length, recipe_word, recipe_of}
 use Rattle.alpha_constants.proofs.Choices.{makes_words, are_short}
 use Rattle.alpha_forms.specs.Straight.{PutsContent}
-use Rattle.alpha_forms.specs.Constants.{unless_zero, near_items, lower_items, with_literal, finish_items, recipe_items}
+use Rattle.alpha_forms.specs.Constants.{constant_items, unless_zero, near_items, lower_items, with_literal, finish_items, recipe_items}
 use Rattle.alpha_forms.specs.Laws.{ConstantsAreMade, RecipesHaveLengths, ConstantsAreShort}
 use Rattle.alpha_forms.proofs.Runs.{WritesOne, first_put, then_put}
 
@@ -117,6 +117,7 @@ module _ (widest own : ℕ) (s : Temps) (o : Outer) (d : ℕ) where
   recipe_puts r = finish_puts (near_items d r.near) (near_word r.near) r.finish (near_puts r.near)
 
 pub constants_made : ConstantsAreMade
+unfolding constant_items
 constants_made widest own d n s o small = by_zero (n == 0) refl
   where
     by_zero : (b : Bool) → (n == 0) ≡ b →
@@ -162,6 +163,7 @@ lengths d r =
     ∙ ap (λ k. k + length (finish_items d r.finish)) (near_length_is d r.near) ∙ ap (λ k. near_length r.near + k) (finish_length_is d r.finish)
 
 pub short : ConstantsAreShort
+unfolding constant_items
 short d n = by_zero (n == 0)
   where
     by_zero : (b : Bool) → length (if b then Operate Bis d source.Zero (operand.Literal 0) ∷ [] else recipe_items d (recipe_of n)) ≤ 5

@@ -43,6 +43,6 @@ abbrev pub recipe_items : (d : ℕ) → Recipe → List TempInsn
 recipe_items d r = near_items d r.near ++ finish_items d r.finish
 
 -- a temporary is set to a word
-abbrev pub constant_items : (d word : ℕ) → List TempInsn
+unfoldable pub constant_items : (d word : ℕ) → List TempInsn
 constant_items d word =
     if word == 0 then Operate Bis d source.Zero (operand.Literal 0) ∷ [] else recipe_items d (recipe_of word)

@@ -1,3 +1,6 @@
 pub mod Straight
 pub mod Constants
+pub mod Registers
+pub mod Accesses
+pub mod Operations
 pub mod Laws

@@ -107,6 +107,7 @@ fn put_recipe(out: &mut Block<TempInsn>, destination: u32, recipe: Recipe) -> Re
 }
 
 /// Puts the code that sets a temporary to a word. Where memory is short a part of it may have been put.
+#[tactic(auto, unfolding(crate::specs::Constants::constant_items))]
 pub fn put_constant(
     out: &mut Block<TempInsn>,
     destination: u32,

@@ -1,8 +1,11 @@
 //! Straight code over temporaries for what instructions over virtual registers do.
 //!
-//! `specs/Straight.antt` says what straight code does to what a call holds, `specs/Constants.antt` the code of a
-//! constant, and `specs/Laws.antt` what holds of it.
+//! `specs/Straight.antt` says what straight code does to what a call holds, and `specs/Registers.antt` what code has to
+//! come to. `specs/Constants.antt`, `specs/Accesses.antt` and `specs/Operations.antt` say the code, and `specs/Laws.antt`
+//! what holds of it.
 #![tactic(auto)]
 
+pub mod accesses;
 pub mod constants;
 pub mod laws;
+pub mod operations;
