@@ -10,7 +10,7 @@ use Rattle.mem_model.specs.Laws.{BeginsChange, EndsChange}
 use Rattle.mem_model.proofs.Objects.{no_object_past, begins_change, ends_change}
 use Rattle.flat_memory.specs.Bytes.{Bytes}
 use Rattle.flat_memory.specs.Relation.{Extent, Extents, Owners, ObjectIs, MemoryIs}
-use Rattle.flat_memory.specs.Laws.{MoreExtents, KeepsOwners, KeepsObjects, AreNew}
+use Rattle.flat_memory.specs.Laws.{MoreExtents, KeepsOwners, KeepsLiveBytes, AreNew}
 use Rattle.flat_memory.proofs.Rows.{at-kept, at-empty, at-stays}
 
 -- ---- lists of extents
@@ -45,7 +45,7 @@ length-empty (suc size) = ap suc (length-empty size)
 
 -- ---- bytes that are no object's
 
-pub others_may_change : (xs : Extents) (memory : Memory) (old new : Owners) (m k : Bytes) → MemoryIs xs memory old m → KeepsObjects memory old new m k → MemoryIs xs memory new k
+pub others_may_change : (xs : Extents) (memory : Memory) (old new : Owners) (m k : Bytes) → MemoryIs xs memory old m → KeepsLiveBytes memory old new m k → MemoryIs xs memory new k
 others_may_change xs memory old new m k mem keeps = record {
   each = λ o live.
       let x = mem.each o live in

@@ -119,7 +119,7 @@ KeepsOwners memory old new =
     (y o : ℕ) → (object_at memory o).live ≡ true → old y ≡ OfObject o → new y ≡ OfObject o
 
 -- other bytes may change, and other owners
-pub record KeepsObjects (memory : Memory) (old new : Owners) (m k : Bytes) : Type 0 where
+pub record KeepsLiveBytes (memory : Memory) (old new : Owners) (m k : Bytes) : Type 0 where
   pub owners : KeepsOwners memory old new
   pub same : (y o : ℕ) → (object_at memory o).live ≡ true → old y ≡ OfObject o → k y ≡ m y
   pub bytes : (y : ℕ) → k y < 256
@@ -127,7 +127,7 @@ pub record KeepsObjects (memory : Memory) (old new : Owners) (m k : Bytes) : Typ
 abbrev pub OthersMayChange : Type 0
 OthersMayChange =
     (xs : Extents) (memory : Memory) (old new : Owners) (m k : Bytes) → MemoryIs xs memory old m →
-    KeepsObjects memory old new m k → MemoryIs xs memory new k
+    KeepsLiveBytes memory old new m k → MemoryIs xs memory new k
 
 -- objects begin where nobody's bytes were: with the next numbers, and whatever bytes stand there
 pub record AreNew (memory : Memory) (new : Owners) (extents : Extents) (sizes : List ℕ) : Type 0 where
