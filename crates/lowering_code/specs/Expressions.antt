@@ -1,7 +1,7 @@
 -- The code of expressions, each in front of the code that comes behind it (C99 6.5).
 --
 -- A value comes into the register of its type at a depth, and what stands at lower depths stays.
-use Rattle.std.specs.Prelude.{ℕ, zero, suc, ◌+◌, ◌==◌, pos, Bool, true, false, ◌&&◌, not, List, [], ◌∷◌, slice_get, Option, Some, None, if◌then◌else◌, unwrap_or}
+use Rattle.std.specs.Prelude.{ℕ, zero, suc, ◌+◌, ◌-◌, ◌^◌, min, ◌==◌, pos, Bool, true, false, ◌&&◌, not, List, [], ◌∷◌, slice_get, Option, Some, None, if◌then◌else◌, unwrap_or}
 use Rattle.c_arithmetic.specs.declared.integer_type.IntegerType.{IntegerType}
 use Rattle.c_arithmetic.specs.IntegerTypes.{bytes, is_signed}
 use Rattle.c_tree.specs.declared.expressions.UnaryOp.{UnaryOp}
@@ -76,6 +76,19 @@ is_same_register S64 S64 = true
 is_same_register U64 U64 = true
 is_same_register P64 P64 = true
 is_same_register ty other = false
+
+-- ---- sizes and places as words
+
+-- a number of bytes that an `s64` holds; those of lawful units are far smaller
+abbrev pub capped : ℕ → ℕ
+capped n = min n (2 ^ 63 - 1)
+
+abbrev pub stride : List StructDef → PlainType → ℕ
+stride ds element = capped (size_of ds element)
+
+-- the bytes to a member, and so many more
+abbrev pub member_plus : List StructDef → PlainType → (member plus : ℕ) → ℕ
+member_plus ds ty member plus = capped (offset_of ds ty member + plus)
 
 -- ---- operators between two registers of one type
 
@@ -226,24 +239,24 @@ module _ (locals : ℕ) where
     abbrev pub step_code : BinaryOp → (pointer integer free : ℕ) → (element : PlainType) → (ty : PlainType) → List Item
         → List Item
     step_code b.Subtract o d free element ty rest =
-        scaled_code d free ty (size_of ds element)
+        scaled_code d free ty (stride ds element)
         (negate_code (bytes_register locals d)
         (add_code (address_register locals o) (address_register locals o) (bytes_register locals d) rest))
     step_code op o d free element ty rest =
-        scaled_code d free ty (size_of ds element)
+        scaled_code d free ty (stride ds element)
         (add_code (address_register locals o) (address_register locals o) (bytes_register locals d) rest)
 
     -- an integer at a depth, and the pointer above it, which comes to the lower depth
     abbrev pub step_back_code : (depth free : ℕ) → (element : PlainType) → (ty : PlainType) → List Item → List Item
     step_back_code d free element ty rest =
-        scaled_code d free ty (size_of ds element)
+        scaled_code d free ty (stride ds element)
         (add_code (address_register locals d) (address_register locals (suc d)) (bytes_register locals d) rest)
 
     abbrev pub pointers_code : BinaryOp → (depth : ℕ) → (ty element : PlainType) → List Item → List Item
     pointers_code b.Subtract d ty element rest =
         Plain (n.Binary Subtract P64 (bytes_register locals d) (address_register locals d)
         (address_register locals (suc d)))
-        ∷ divided_code d (suc d) (size_of ds element) rest
+        ∷ divided_code d (suc d) (stride ds element) rest
     pointers_code op d ty element rest =
         Plain (operation_insn (operation_of op false) P64 (value_register locals d ty) (address_register locals d)
         (address_register locals (suc d)))
@@ -289,7 +302,7 @@ module _ (locals : ℕ) where
 
     -- a struct is copied: the pointers to it stand at a depth and above it
     abbrev pub copy_code : (to from : ℕ) → PlainType → List Item → List Item
-    copy_code to from ty rest = Plain (n.Copy to from (size_of ds ty) (alignment_of (align_of ds ty))) ∷ rest
+    copy_code to from ty rest = Plain (n.Copy to from (stride ds ty) (alignment_of (align_of ds ty))) ∷ rest
 
     -- ---- changes of a place
 
@@ -360,8 +373,8 @@ module _ (locals : ℕ) where
       abbrev pub plus_of : Expr → (plus : ℕ) → ℕ
       plus_of (e.Local ty k) plus = 0
       plus_of (Global ty k) plus = 0
-      plus_of (Field ty x member) plus = plus_of x (offset_of ds (type_of x) member + plus)
-      plus_of (Arrow ty x member) plus = offset_of ds (target_of (type_of x)) member + plus
+      plus_of (Field ty x member) plus = plus_of x (member_plus ds (type_of x) member plus)
+      plus_of (Arrow ty x member) plus = member_plus ds (target_of (type_of x)) member plus
       plus_of x plus = plus
 
       abbrev pub named_code : (depth : ℕ) → Place → (plus : ℕ) → List Item → List Item
@@ -450,10 +463,10 @@ module _ (locals : ℕ) where
         expr_code d (Index ty x y) rest =
             expr_code d x (expr_code (suc d) y (element_code d (type_of x) (type_of y) (load_code d ty 0 rest)))
         expr_code d (Field ty x member) rest =
-            place_code d x (offset_of ds (type_of x) member)
-            (load_code d ty (plus_of x (offset_of ds (type_of x) member)) rest)
+            place_code d x (member_plus ds (type_of x) member 0)
+            (load_code d ty (plus_of x (member_plus ds (type_of x) member 0)) rest)
         expr_code d (Arrow ty x member) rest =
-            expr_code d x (load_code d ty (offset_of ds (target_of (type_of x)) member) rest)
+            expr_code d x (load_code d ty (member_plus ds (target_of (type_of x)) member 0) rest)
         expr_code d (Postfix ty op x) rest =
             change_code (register_of x) (λ k. step_register_code op true d ty k rest)
             (place_code d x 0 (step_memory_code op true d (plus_of x 0) ty rest))
@@ -467,7 +480,7 @@ module _ (locals : ℕ) where
         place_code d (Unary ty u.Dereference x) plus rest = expr_code d x rest
         place_code d (Index ty x y) plus rest =
             expr_code d x (expr_code (suc d) y (element_code d (type_of x) (type_of y) rest))
-        place_code d (Field ty x member) plus rest = place_code d x (offset_of ds (type_of x) member + plus) rest
+        place_code d (Field ty x member) plus rest = place_code d x (member_plus ds (type_of x) member plus) rest
         place_code d (Arrow ty x member) plus rest = expr_code d x rest
         place_code d x plus rest = rest
 

@@ -12,16 +12,16 @@ pub enum Item {
     /// An instruction that the next one follows.
     Plain(VmInsn),
     /// A jump to the block with a name. A block begins behind it.
-    Jump(u32),
+    Jump(usize),
     /// A branch to the block with a name. A block begins behind it.
     Branch {
         op: BranchOp,
         ty: VmType,
         source: u32,
-        name: u32,
+        name: usize,
     },
     /// A loop begins with a jump to its test, the block with a name. Its body begins behind it, with a mark.
-    Loop(u32),
+    Loop(usize),
     /// A loop begins with its body, which begins with a mark.
     Enter,
     /// The loop that began last goes on with its body where the register is neither zero nor null. A block begins
