@@ -46,6 +46,8 @@ use Rattle.suifvm_ir.specs.declared.insn.Place.{Place}
 use Rattle.suifvm_ir.specs.declared.insn.Place.TheVariants as p
 use Rattle.suifvm_ir.specs.declared.insn.VmInsn as vm
 use Rattle.suifvm_ir.specs.declared.insn.VmInsn.TheVariants as n
+use Rattle.lowering_code.specs.declared.operation.Operation.{Operation}
+use Rattle.lowering_code.specs.declared.operation.Operation.TheVariants.{Calculates, Shifts, Compares, ComparesBack}
 use Rattle.lowering_code.specs.declared.item.Item.{Item}
 use Rattle.lowering_code.specs.declared.item.Item.TheVariants.{Start, Plain, Jump, Branch}
 use Rattle.lowering_code.specs.Registers.{register_type, memory_type, temporary, value_register, address_register, bytes_register, object_of}
@@ -92,14 +94,6 @@ member_plus ds ty member plus = capped (offset_of ds ty member + plus)
 
 -- ---- operators between two registers of one type
 
--- what an operator becomes
-pub data Operation : Type 0 where
-  Calculates : vb.BinaryOp → Operation
-  Shifts : ShiftOp → Operation
-  -- a comparison, with its operands in order or the other way about
-  Compares : CompareOp → Operation
-  ComparesBack : CompareOp → Operation
-
 abbrev pub right_shift : (signed : Bool) → ShiftOp
 right_shift signed = if signed then ArithmeticRight else LogicalRight
 
@@ -131,19 +125,63 @@ operation_insn (Shifts op) ty destination left right = n.Shift op ty destination
 operation_insn (Compares op) ty destination left right = n.Compare op ty destination left right
 operation_insn (ComparesBack op) ty destination left right = n.Compare op ty destination right left
 
+-- what a pointer points to
+abbrev pub element_of : PlainType → Option PlainType
+element_of (Pointer element) = Some element
+element_of ty = None
+
 abbrev pub is_signed_type : PlainType → Bool
 is_signed_type (Int bytes signed) = signed
 is_signed_type _ = false
 
--- ---- pieces of code; locals is the number of locals
+-- ---- pieces of code
 
+-- an operator between integers of a type in registers
+abbrev pub operate_code : BinaryOp → PlainType → (destination left right : ℕ) → List Item → List Item
+operate_code op ty destination left right rest =
+    Plain (operation_insn (operation_of op (is_signed_type ty)) (register_type ty) destination left right) ∷ rest
+
+-- a value of a type moves from register to register
+abbrev pub move_code : PlainType → (to from : ℕ) → List Item → List Item
+move_code ty to from rest = Plain (n.Unary Move (register_type ty) to from) ∷ rest
+
+-- a scalar is loaded from, and stored to, a pointer moved by so many bytes
+abbrev pub load_from : PlainType → (destination pointer plus : ℕ) → List Item → List Item
+load_from ty destination pointer plus rest = Plain (n.Load (memory_type ty) destination pointer (pos plus)) ∷ rest
+
+abbrev pub store_code : PlainType → (pointer plus value : ℕ) → List Item → List Item
+store_code ty pointer plus value rest = Plain (n.Store (memory_type ty) pointer (pos plus) value) ∷ rest
+
+-- an integer at a depth becomes one of another type: the low bytes of the narrower one, or of the new one where that
+-- has 4 bytes or fewer
+abbrev pub narrow_type : (from to : PlainType) → MemoryType
+narrow_type from (Int bytes signed) = if bytes == 8 then memory_type from else memory_type (Int bytes signed)
+narrow_type from to = memory_type from
+
+-- every value of the register is one of the type
+abbrev pub is_whole : PlainType → Bool
+is_whole (Int bytes signed) = if bytes == 8 then true else bytes == 4
+is_whole ty = true
+
+abbrev pub is_kept : (from to : PlainType) → Bool
+is_kept from to = is_same_register (register_type from) (register_type to) && is_whole to
+
+-- the pointer is moved by the bytes, or back by them
+abbrev pub add_code : (destination pointer bytes : ℕ) → List Item → List Item
+add_code destination pointer bytes rest = Plain (n.Binary Add P64 destination pointer bytes) ∷ rest
+
+abbrev pub negate_code : (bytes : ℕ) → List Item → List Item
+negate_code bytes rest = Plain (n.Unary Negate S64 bytes bytes) ∷ rest
+
+-- a struct is copied
+abbrev pub copy_code : List StructDef → (to from : ℕ) → PlainType → List Item → List Item
+copy_code ds to from ty rest = Plain (n.Copy to from (stride ds ty) (alignment_of (align_of ds ty))) ∷ rest
+
+-- locals is the number of locals
 module _ (locals : ℕ) where
   abbrev pub constant_code : (depth : ℕ) → PlainType → (word : ℕ) → List Item → List Item
   constant_code d ty word rest =
       Plain (n.LoadConstant (register_type ty) (value_register locals d ty) word) ∷ rest
-
-  abbrev pub move_code : PlainType → (to from : ℕ) → List Item → List Item
-  move_code ty to from rest = Plain (n.Unary Move (register_type ty) to from) ∷ rest
 
   -- the pointer at a depth is moved by a number of bytes
   abbrev pub moved_code : (depth plus : ℕ) → List Item → List Item
@@ -157,31 +195,11 @@ module _ (locals : ℕ) where
   abbrev pub load_code : (depth : ℕ) → PlainType → (plus : ℕ) → List Item → List Item
   load_code d Void plus rest = rest
   load_code d (Int bytes signed) plus rest =
-      Plain (n.Load (memory_type (Int bytes signed)) (value_register locals d (Int bytes signed))
-      (address_register locals d) (pos plus))
-      ∷ rest
+      load_from (Int bytes signed) (value_register locals d (Int bytes signed)) (address_register locals d) plus rest
   load_code d (Pointer target) plus rest =
-      Plain (n.Load (memory_type (Pointer target)) (address_register locals d) (address_register locals d) (pos plus))
-      ∷ rest
+      load_from (Pointer target) (value_register locals d (Pointer target)) (address_register locals d) plus rest
   load_code d (Array element length) plus rest = moved_code d plus rest
   load_code d (Struct number) plus rest = moved_code d plus rest
-
-  abbrev pub store_code : PlainType → (pointer plus value : ℕ) → List Item → List Item
-  store_code ty pointer plus value rest = Plain (n.Store (memory_type ty) pointer (pos plus) value) ∷ rest
-
-  -- an integer at a depth becomes one of another type: the low bytes of the narrower one, or of the new one where that
-  -- has 4 bytes or fewer
-  abbrev pub narrow_type : (from to : PlainType) → MemoryType
-  narrow_type from (Int bytes signed) = if bytes == 8 then memory_type from else memory_type (Int bytes signed)
-  narrow_type from to = memory_type from
-
-  -- every value of the register is one of the type
-  abbrev pub is_whole : PlainType → Bool
-  is_whole (Int bytes signed) = if bytes == 8 then true else bytes == 4
-  is_whole ty = true
-
-  abbrev pub is_kept : (from to : PlainType) → Bool
-  is_kept from to = is_same_register (register_type from) (register_type to) && is_whole to
 
   abbrev pub convert_code : (depth : ℕ) → (from to : PlainType) → List Item → List Item
   convert_code d from to rest =
@@ -201,13 +219,6 @@ module _ (locals : ℕ) where
   abbrev pub scaled_code : (depth free : ℕ) → PlainType → (size : ℕ) → List Item → List Item
   scaled_code d free ty size rest = convert_code d ty (Int 8 true) (sized_code d free size rest)
 
-  -- the pointer is moved by the bytes, or back by them
-  abbrev pub add_code : (destination pointer bytes : ℕ) → List Item → List Item
-  add_code destination pointer bytes rest = Plain (n.Binary Add P64 destination pointer bytes) ∷ rest
-
-  abbrev pub negate_code : (bytes : ℕ) → List Item → List Item
-  negate_code bytes rest = Plain (n.Unary Negate S64 bytes bytes) ∷ rest
-
   -- a distance in bytes becomes one in elements
   abbrev pub divided_code : (depth free size : ℕ) → List Item → List Item
   divided_code d free size rest =
@@ -215,6 +226,10 @@ module _ (locals : ℕ) where
       else Plain (n.LoadConstant S64 (bytes_register locals free) size)
       ∷ Plain (n.Binary Divide S64 (bytes_register locals d) (bytes_register locals d) (bytes_register locals free))
       ∷ rest
+
+  -- the address of an object, moved by so many bytes, at a depth
+  abbrev pub address_code : (depth : ℕ) → Place → (plus : ℕ) → List Item → List Item
+  address_code d place plus rest = Plain (n.LoadAddress (address_register locals d) place plus) ∷ rest
 
   abbrev pub unary_code : vu.UnaryOp → (depth : ℕ) → PlainType → List Item → List Item
   unary_code op d ty rest =
@@ -233,6 +248,50 @@ module _ (locals : ℕ) where
   branch_code op d ty name rest = Branch op (register_type ty) (value_register locals d ty) name ∷ rest
 
   -- ---- operators
+
+  -- an operator between integers at a depth and above it
+  abbrev pub integers_code : BinaryOp → (depth : ℕ) → (ty left right : PlainType) → List Item → List Item
+  integers_code op d ty left right rest =
+      operate_code op left (value_register locals d ty) (value_register locals d left)
+      (value_register locals (suc d) right) rest
+
+  -- what a compound assignment makes of the old value at one depth and the right side at another one, by an operator
+  -- in an integer type
+  abbrev pub combine_in : BinaryOp → (t : IntegerType) → (old right : ℕ) → (left ty : PlainType) → List Item
+      → List Item
+  combine_in op t o d left ty rest =
+      convert_code o left (plain_of t)
+      (Plain (operation_insn (operation_of op (is_signed t)) (register_type (plain_of t))
+      (value_register locals o (plain_of t)) (value_register locals o (plain_of t)) (value_register locals d ty))
+      ∷ convert_code o (plain_of t) left rest)
+
+  -- an integer becomes one of another integer type, or a null pointer
+  abbrev pub integer_code : (depth : ℕ) → (from to : PlainType) → List Item → List Item
+  integer_code d from Void rest = rest
+  integer_code d from (Int m s) rest = convert_code d from (Int m s) rest
+  integer_code d from (Pointer target) rest =
+      Plain (n.Unary Move P64 (address_register locals d) (value_register locals d from)) ∷ rest
+  integer_code d from (Array element length) rest = rest
+  integer_code d from (Struct number) rest = rest
+
+  -- a value that was converted, where the operand is no array
+  abbrev pub converted_code : (depth : ℕ) → (from to : PlainType) → List Item → List Item
+  converted_code d Void to rest = rest
+  converted_code d (Int k r) to rest = integer_code d (Int k r) to rest
+  converted_code d (Pointer target) to rest = rest
+  converted_code d (Array element length) to rest = rest
+  converted_code d (Struct number) to rest = rest
+
+  -- a scalar is stored to the pointer at a depth, from above it, and is the value
+  abbrev pub set_scalar_code : (depth plus : ℕ) → PlainType → List Item → List Item
+  set_scalar_code d plus ty rest =
+      store_code ty (address_register locals d) plus (value_register locals (suc d) ty)
+      (move_code ty (value_register locals d ty) (value_register locals (suc d) ty) rest)
+
+  -- the pointer to a struct is moved before it is copied to
+  abbrev pub place_moved_code : PlainType → (depth plus : ℕ) → List Item → List Item
+  place_moved_code (Struct number) d plus rest = moved_code d plus rest
+  place_moved_code ty d plus rest = rest
 
   module _ (ds : List StructDef) where
     -- the pointer at one depth and the integer at another one, by whose elements it is moved
@@ -262,47 +321,37 @@ module _ (locals : ℕ) where
         (address_register locals (suc d)))
         ∷ rest
 
-    -- an operator between a value at a depth and one above it
+    -- an operator between a value at a depth and one above it, by what they point to
+    abbrev pub binary_by : BinaryOp → (depth : ℕ) → (ty left right : PlainType) → (target other : Option PlainType)
+        → List Item → List Item
+    binary_by op d ty left right (Some element) (Some other) rest = pointers_code op d ty element rest
+    binary_by op d ty left right (Some element) None rest = step_code op d (suc d) (suc (suc d)) element right rest
+    binary_by op d ty left right None (Some element) rest = step_back_code d (suc (suc d)) element left rest
+    binary_by op d ty left right None None rest = integers_code op d ty left right rest
+
     abbrev pub binary_code : BinaryOp → (depth : ℕ) → (ty left right : PlainType) → List Item → List Item
-    binary_code op d ty (Pointer element) (Pointer other) rest = pointers_code op d ty element rest
-    binary_code op d ty (Pointer element) right rest = step_code op d (suc d) (suc (suc d)) element right rest
-    binary_code op d ty left (Pointer element) rest = step_back_code d (suc (suc d)) element left rest
-    binary_code op d ty left right rest =
-        Plain (operation_insn (operation_of op (is_signed_type left)) (register_type left)
-        (value_register locals d ty) (value_register locals d left) (value_register locals (suc d) right))
-        ∷ rest
+    binary_code op d ty left right rest = binary_by op d ty left right (element_of left) (element_of right) rest
 
     -- what a compound assignment makes of the old value at one depth and the right side at another one; a free depth
     -- stands above both
-    abbrev pub combine_in : BinaryOp → (t : IntegerType) → (old right free : ℕ) → (left ty : PlainType) → List Item
-        → List Item
-    combine_in op t o d free left ty rest =
-        convert_code o left (plain_of t)
-        (Plain (operation_insn (operation_of op (is_signed t)) (register_type (plain_of t))
-        (value_register locals o (plain_of t)) (value_register locals o (plain_of t)) (value_register locals d ty))
-        ∷ convert_code o (plain_of t) left rest)
+    abbrev pub combine_by : BinaryOp → (old right free : ℕ) → (left ty : PlainType) → (target : Option PlainType)
+        → List Item → List Item
+    combine_by op o d free left ty (Some element) rest = step_code op o d free element ty rest
+    combine_by op o d free left ty None rest =
+        combine_in op (operation_type op (integer_of left) (integer_of ty)) o d left ty rest
 
     abbrev pub combine_code : BinaryOp → (old right free : ℕ) → (left ty : PlainType) → List Item → List Item
-    combine_code op o d free (Pointer element) ty rest = step_code op o d free element ty rest
-    combine_code op o d free left ty rest =
-        combine_in op (operation_type op (integer_of left) (integer_of ty)) o d free left ty rest
+    combine_code op o d free left ty rest = combine_by op o d free left ty (element_of left) rest
 
     -- the place and the index of an element, at a depth and above it; the address comes to the depth
+    abbrev pub element_by : (depth : ℕ) → (left right : PlainType) → (target other : Option PlainType) → List Item
+        → List Item
+    element_by d left right (Some element) other rest = step_code b.Add d (suc d) (suc (suc d)) element right rest
+    element_by d left right None (Some element) rest = step_back_code d (suc (suc d)) element left rest
+    element_by d left right None None rest = rest
+
     abbrev pub element_code : (depth : ℕ) → (left right : PlainType) → List Item → List Item
-    element_code d (Pointer element) right rest = step_code b.Add d (suc d) (suc (suc d)) element right rest
-    element_code d left (Pointer element) rest = step_back_code d (suc (suc d)) element left rest
-    element_code d left right rest = rest
-
-    -- a value that was converted, where the operand is no array
-    abbrev pub converted_code : (depth : ℕ) → (from to : PlainType) → List Item → List Item
-    converted_code d (Int k r) (Int m s) rest = convert_code d (Int k r) (Int m s) rest
-    converted_code d (Int k r) (Pointer target) rest =
-        Plain (n.Unary Move P64 (address_register locals d) (value_register locals d (Int k r))) ∷ rest
-    converted_code d from to rest = rest
-
-    -- a struct is copied: the pointers to it stand at a depth and above it
-    abbrev pub copy_code : (to from : ℕ) → PlainType → List Item → List Item
-    copy_code to from ty rest = Plain (n.Copy to from (stride ds ty) (alignment_of (align_of ds ty))) ∷ rest
+    element_code d left right rest = element_by d left right (element_of left) (element_of right) rest
 
     -- ---- changes of a place
 
@@ -326,36 +375,29 @@ module _ (locals : ℕ) where
     -- in memory, where the pointer stands at the depth
     abbrev pub step_memory_code : StepOp → (postfix : Bool) → (depth plus : ℕ) → PlainType → List Item → List Item
     step_memory_code op false d plus ty rest =
-        Plain (n.Load (memory_type ty) (value_register locals (suc d) ty) (address_register locals d) (pos plus))
-        ∷ stepped_code op (suc d) ty
+        load_from ty (value_register locals (suc d) ty) (address_register locals d) plus
+        (stepped_code op (suc d) ty
         (store_code ty (address_register locals d) plus (value_register locals (suc d) ty)
-        (move_code ty (value_register locals d ty) (value_register locals (suc d) ty) rest))
+        (move_code ty (value_register locals d ty) (value_register locals (suc d) ty) rest)))
     step_memory_code op true d plus ty rest =
-        Plain (n.Load (memory_type ty) (value_register locals (suc d) ty) (address_register locals d) (pos plus))
-        ∷ move_code ty (value_register locals (suc (suc d)) ty) (value_register locals (suc d) ty)
+        load_from ty (value_register locals (suc d) ty) (address_register locals d) plus
+        (move_code ty (value_register locals (suc (suc d)) ty) (value_register locals (suc d) ty)
         (stepped_code op (suc (suc d)) ty
         (store_code ty (address_register locals d) plus (value_register locals (suc (suc d)) ty)
-        (move_code ty (value_register locals d ty) (value_register locals (suc d) ty) rest)))
+        (move_code ty (value_register locals d ty) (value_register locals (suc d) ty) rest))))
 
     -- an assignment to memory: the pointer stands at the depth, the right side above it
-    abbrev pub assign_memory_code : Option BinaryOp → (depth plus : ℕ) → (left right : PlainType) → List Item
-        → List Item
-    assign_memory_code None d plus (Struct number) right rest =
-        copy_code (address_register locals d) (address_register locals (suc d)) (Struct number) rest
-    assign_memory_code None d plus left right rest =
-        store_code left (address_register locals d) plus (value_register locals (suc d) left)
-        (move_code left (value_register locals d left) (value_register locals (suc d) left) rest)
-    assign_memory_code (Some op) d plus left right rest =
-        Plain (n.Load (memory_type left) (value_register locals (suc (suc d)) left) (address_register locals d)
-        (pos plus))
-        ∷ combine_code op (suc (suc d)) (suc d) (suc (suc (suc d))) left right
-        (store_code left (address_register locals d) plus (value_register locals (suc (suc d)) left)
-        (move_code left (value_register locals d left) (value_register locals (suc (suc d)) left) rest))
+    abbrev pub set_memory_code : (depth plus : ℕ) → PlainType → List Item → List Item
+    set_memory_code d plus (Struct number) rest =
+        copy_code ds (address_register locals d) (address_register locals (suc d)) (Struct number) rest
+    set_memory_code d plus ty rest = set_scalar_code d plus ty rest
 
-    -- the pointer to a struct is moved before it is copied to
-    abbrev pub place_moved_code : PlainType → (depth plus : ℕ) → List Item → List Item
-    place_moved_code (Struct number) d plus rest = moved_code d plus rest
-    place_moved_code ty d plus rest = rest
+    abbrev pub combine_memory_code : BinaryOp → (depth plus : ℕ) → (left right : PlainType) → List Item → List Item
+    combine_memory_code op d plus left right rest =
+        load_from left (value_register locals (suc (suc d)) left) (address_register locals d) plus
+        (combine_code op (suc (suc d)) (suc d) (suc (suc (suc d))) left right
+        (store_code left (address_register locals d) plus (value_register locals (suc (suc d)) left)
+        (move_code left (value_register locals d left) (value_register locals (suc (suc d)) left) rest)))
 
     -- ---- expressions; ls are the locals of the function
 
@@ -377,12 +419,9 @@ module _ (locals : ℕ) where
       plus_of (Arrow ty x member) plus = member_plus ds (target_of (type_of x)) member plus
       plus_of x plus = plus
 
-      abbrev pub named_code : (depth : ℕ) → Place → (plus : ℕ) → List Item → List Item
-      named_code d place plus rest = Plain (n.LoadAddress (address_register locals d) place plus) ∷ rest
-
       abbrev pub local_code : (depth : ℕ) → PlainType → (number : ℕ) → Option ℕ → List Item → List Item
       local_code d ty k (Some register) rest = move_code ty (value_register locals d ty) register rest
-      local_code d ty k None rest = named_code d (p.Local (object_of ls k)) 0 (load_code d ty 0 rest)
+      local_code d ty k None rest = address_code d (p.Local (object_of ls k)) 0 (load_code d ty 0 rest)
 
       -- where the result of a call goes
       abbrev pub destination_of : (depth : ℕ) → PlainType → Option ℕ
@@ -407,9 +446,9 @@ module _ (locals : ℕ) where
           value (suc d) (move_code ty (value_register locals d ty) k
           (combine_code op d (suc d) (suc (suc d)) ty right (move_code ty k (value_register locals d ty) rest)))
       assign_code d None ty right plus None place value rest =
-          place (place_moved_code ty d plus (value (suc d) (assign_memory_code None d plus ty right rest)))
+          place (place_moved_code ty d plus (value (suc d) (set_memory_code d plus ty rest)))
       assign_code d (Some op) ty right plus None place value rest =
-          place (value (suc d) (assign_memory_code (Some op) d plus ty right rest))
+          place (value (suc d) (combine_memory_code op d plus ty right rest))
 
       -- a conversion: an array becomes the pointer to its place (C99 6.3.2.1)
       abbrev pub conversion_code : (depth : ℕ) → (from to : PlainType) → (plus : ℕ)
@@ -422,7 +461,7 @@ module _ (locals : ℕ) where
         pub expr_code : (depth : ℕ) → Expr → List Item → List Item
         expr_code d (Number ty word) rest = constant_code d ty word rest
         expr_code d (e.Local ty k) rest = local_code d ty k (register_if k (slice_get ls k)) rest
-        expr_code d (Global ty k) rest = named_code d (p.Global k) 0 (load_code d ty 0 rest)
+        expr_code d (Global ty k) rest = address_code d (p.Global k) 0 (load_code d ty 0 rest)
         expr_code d (Call ty callee xs) rest =
             exprs_code d xs (Plain (n.Call (destination_of d ty) (vm_callee callee) (argument_registers d xs)) ∷ rest)
         expr_code d (Unary ty u.Address x) rest = place_code d x 0 (moved_code d (plus_of x 0) rest)
@@ -475,8 +514,8 @@ module _ (locals : ℕ) where
         -- the pointer to a place, moved by so many bytes, into the register of pointers at the depth: all of it where a
         -- name stands there, else but for `plus_of`
         pub place_code : (depth : ℕ) → Expr → (plus : ℕ) → List Item → List Item
-        place_code d (e.Local ty k) plus rest = named_code d (p.Local (object_of ls k)) plus rest
-        place_code d (Global ty k) plus rest = named_code d (p.Global k) plus rest
+        place_code d (e.Local ty k) plus rest = address_code d (p.Local (object_of ls k)) plus rest
+        place_code d (Global ty k) plus rest = address_code d (p.Global k) plus rest
         place_code d (Unary ty u.Dereference x) plus rest = expr_code d x rest
         place_code d (Index ty x y) plus rest =
             expr_code d x (expr_code (suc d) y (element_code d (type_of x) (type_of y) rest))

@@ -14,7 +14,7 @@ use Rattle.suifvm_ir.specs.declared.insn.VmInsn.TheVariants as n
 use Rattle.suifvm_ir.specs.declared.function.Object.{Object}
 use Rattle.lowering_code.specs.declared.item.Item.{Item}
 use Rattle.lowering_code.specs.Registers.{temporary, address_register, object_of}
-use Rattle.lowering_code.specs.Expressions.{constant_code, store_code, named_code}
+use Rattle.lowering_code.specs.Expressions.{constant_code, store_code, address_code}
 use Rattle.lowering_code.specs.Statements.{stmt_code}
 use Rattle.lowering_code.specs.Layout.{blocks_of}
 
@@ -30,8 +30,8 @@ module _ (locals : ℕ) (ds : List StructDef) (ls : List Local) where
   abbrev pub parameter_code : (number : ℕ) → Local → List Item → List Item
   parameter_code k l rest =
       if l.in_memory
-      then named_code locals ds ls 0 (p.Local (object_of ls k)) 0
-      (store_code locals (type_view l.ty) (address_register locals 0) 0 k rest)
+      then address_code locals 0 (p.Local (object_of ls k)) 0
+      (store_code (type_view l.ty) (address_register locals 0) 0 k rest)
       else rest
 
   abbrev pub parameters_code : (number : ℕ) → List Local → List Item → List Item

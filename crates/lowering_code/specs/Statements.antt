@@ -21,7 +21,7 @@ use Rattle.lowering_code.specs.declared.item.Item.{Item}
 use Rattle.lowering_code.specs.declared.item.Item.TheVariants.{Start, Plain, Jump, Loop, Enter, Again, Repeat, Return}
 use Rattle.lowering_code.specs.Registers.{register_type, temporary, value_register, address_register, object_of}
 use Rattle.lowering_code.specs.Items.{count}
-use Rattle.lowering_code.specs.Expressions.{constant_code, move_code, store_code, branch_code, named_code, copy_code, expr_code}
+use Rattle.lowering_code.specs.Expressions.{constant_code, move_code, store_code, branch_code, address_code, copy_code, expr_code}
 
 -- a label of a `switch` with the name of its block
 pub record Target : Type 0 where
@@ -46,17 +46,17 @@ module _ (locals : ℕ) (ds : List StructDef) (ls : List Local) where
   -- a value that was converted comes into a local: a struct is copied
   abbrev pub put_code : PlainType → (local : ℕ) → List Item → List Item
   put_code (Struct number) k rest =
-      named_code locals ds ls 1 (p.Local (object_of ls k)) 0
-      (copy_code locals ds (address_register locals 1) (address_register locals 0) (Struct number) rest)
+      address_code locals 1 (p.Local (object_of ls k)) 0
+      (copy_code ds (address_register locals 1) (address_register locals 0) (Struct number) rest)
   put_code ty k rest =
-      named_code locals ds ls 1 (p.Local (object_of ls k)) 0
-      (store_code locals ty (address_register locals 1) 0 (value_register locals 0 ty) rest)
+      address_code locals 1 (p.Local (object_of ls k)) 0
+      (store_code ty (address_register locals 1) 0 (value_register locals 0 ty) rest)
 
   abbrev pub put_local_code : (local : ℕ) → Option Local → List Item → List Item
   put_local_code k None rest = rest
   put_local_code k (Some l) rest =
       if l.in_memory then put_code (type_view l.ty) k rest
-      else move_code locals (type_view l.ty) k (value_register locals 0 (type_view l.ty)) rest
+      else move_code (type_view l.ty) k (value_register locals 0 (type_view l.ty)) rest
 
   abbrev pub initialise_code : (local : ℕ) → Option Expr → List Item → List Item
   initialise_code k None rest = rest

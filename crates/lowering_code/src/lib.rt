@@ -6,5 +6,7 @@
 
 pub mod examples;
 pub mod item;
+pub mod operation;
 
 pub use item::Item;
+pub use operation::Operation;

@@ -1,0 +1,143 @@
+//! Code that is made from its end to its start.
+
+ghost use Rattle.std.specs.Prelude.{◌≡◌, [], ◌∷◌, reverse, OnOk};
+ghost use Rattle.lowering_code.specs.Items.{count};
+
+use lowering_code::Item;
+use std::alloc::{AllocError, Global};
+use std::marker::Model;
+use suifvm_ir::insn::{BranchOp, TypedRegister, VmInsn};
+use suifvm_ir::types::VmType;
+
+/// The code so far. Contracts see its items from the first one on; each call puts one in front of them.
+#[derive(Drop)]
+pub struct Code {
+    /// From the last one on.
+    items: Vec<Item>,
+    /// How many blocks begin in it.
+    blocks: usize,
+}
+
+impl Model for Code {
+    ghost use Rattle.std.specs.Prelude.{◌≡◌, List, reverse};
+    ghost use Rattle.lowering_code.specs.declared.item.Item.{Item};
+    ghost use Rattle.lowering_code.specs.Items.{count};
+
+    ghost Value = { List Item };
+
+    ghost view = { λ c. reverse c.items.items };
+
+    ghost invariant = { λ c. c.blocks ≡ count (reverse c.items.items) };
+}
+
+impl Code {
+    /// No code. Takes no memory.
+    pub fn new(alloc: Global) -> Code
+        ensures { result ≡ [] }
+    {
+        Code {
+            items: Vec::new(alloc),
+            blocks: 0,
+        }
+    }
+
+    /// The name of the block that begins with the code so far.
+    pub fn name(&self) -> usize
+        ensures { result ≡ count self.now }
+    {
+        self.blocks
+    }
+
+    /// An instruction that the next one follows.
+    pub fn plain(&mut self, insn: VmInsn) -> Result<(), AllocError>
+        ensures { OnOk result (self.new ≡ Item.Plain insn ∷ self.old) }
+    {
+        self.items.push(Item::Plain(insn))?;
+        Ok(())
+    }
+
+    /// An item behind which, or with which, a block begins.
+    fn begin(&mut self, item: Item) -> Result<(), AllocError>
+        requires { count (item ∷ []) ≡ 1 }
+        ensures { OnOk result (self.new ≡ item ∷ self.old) }
+    {
+        self.items.push(item)?;
+        self.blocks += 1;
+        Ok(())
+    }
+
+    /// A block begins.
+    pub fn start(&mut self) -> Result<(), AllocError>
+        ensures { OnOk result (self.new ≡ Item.Start ∷ self.old) }
+    {
+        self.begin(Item::Start)
+    }
+
+    /// A jump to the block with a name.
+    pub fn jump(&mut self, name: usize) -> Result<(), AllocError>
+        ensures { OnOk result (self.new ≡ Item.Jump name ∷ self.old) }
+    {
+        self.begin(Item::Jump(name))
+    }
+
+    /// A branch to the block with a name.
+    pub fn branch(
+        &mut self,
+        op: BranchOp,
+        ty: VmType,
+        source: u32,
+        name: usize,
+    ) -> Result<(), AllocError>
+        ensures { OnOk result (self.new ≡ Item.Branch op ty source name ∷ self.old) }
+    {
+        self.begin(Item::Branch {
+            op,
+            ty,
+            source,
+            name,
+        })
+    }
+
+    /// A loop begins with a jump to its test.
+    pub fn begin_loop(&mut self, test: usize) -> Result<(), AllocError>
+        ensures { OnOk result (self.new ≡ Item.Loop test ∷ self.old) }
+    {
+        self.begin(Item::Loop(test))
+    }
+
+    /// A loop begins with its body.
+    pub fn enter(&mut self) -> Result<(), AllocError>
+        ensures { OnOk result (self.new ≡ Item.Enter ∷ self.old) }
+    {
+        self.begin(Item::Enter)
+    }
+
+    /// The loop goes on where the register is neither zero nor null.
+    pub fn again(&mut self, ty: VmType, source: u32) -> Result<(), AllocError>
+        ensures { OnOk result (self.new ≡ Item.Again ty source ∷ self.old) }
+    {
+        self.begin(Item::Again { ty, source })
+    }
+
+    /// The loop goes on.
+    pub fn repeat(&mut self) -> Result<(), AllocError>
+        ensures { OnOk result (self.new ≡ Item.Repeat ∷ self.old) }
+    {
+        self.begin(Item::Repeat)
+    }
+
+    /// The call ends.
+    pub fn give(&mut self, value: Option<TypedRegister>) -> Result<(), AllocError>
+        ensures { OnOk result (self.new ≡ Item.Return value ∷ self.old) }
+    {
+        self.begin(Item::Return(value))
+    }
+
+    /// The items, the last one first.
+    pub fn into_items(self) -> Vec<Item>
+        ensures { reverse result.items ≡ self }
+    {
+        let Code { items, .. } = self;
+        items
+    }
+}
