@@ -4,5 +4,4 @@ pub mod Expressions
 pub mod Statements
 pub mod Layout
 pub mod Functions
-pub mod Levels
 pub mod Units
