@@ -4,3 +4,7 @@ mod Prepares
 mod Rows
 mod Reading
 mod Storing
+mod Numbers
+mod Comparing
+mod Converting
+mod Done

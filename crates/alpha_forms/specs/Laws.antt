@@ -1,19 +1,29 @@
 -- The laws of the forms.
-use Rattle.std.specs.Prelude.{◌≡◌, ℕ, ℤ, ◌^◌, ◌<◌, ◌≤◌, length, FitsSigned}
+use Rattle.std.specs.Prelude.{◌≡◌, ℕ, ℤ, ◌^◌, ◌<◌, ◌≤◌, List, length, Some, FitsSigned}
 use Rattle.std.specs.Int.{w64}
 use Rattle.mem_model.specs.declared.value.Value.{Value}
 use Rattle.mem_model.specs.World.{Outer}
 use Rattle.alloc_model.specs.Contents.{Plain, word}
 use Rattle.alloc_model.specs.Effect.{Temp}
 use Rattle.alloc_model.specs.Temporaries.{Temps}
+use Rattle.mem_model.specs.Memory.{Memory}
 use Rattle.suifvm_ir.specs.declared.types.MemoryType.{MemoryType}
+use Rattle.suifvm_ir.specs.declared.types.VmType.{VmType}
+use Rattle.suifvm_ir.specs.declared.insn.UnaryOp.{UnaryOp}
+use Rattle.suifvm_ir.specs.declared.insn.BinaryOp.{BinaryOp}
+use Rattle.suifvm_ir.specs.declared.insn.BinaryOp.TheVariants.{Subtract}
+use Rattle.suifvm_ir.specs.declared.insn.CompareOp.{CompareOp}
+use Rattle.c_arithmetic.specs.declared.integer_type.IntegerType.{IntegerType}
+use Rattle.vm_meaning.specs.declared.answer.Answer.{Answer}
+use Rattle.temp_ir.specs.declared.insn.TempInsn.{TempInsn}
 use Rattle.vm_meaning.specs.Operations as vm
 use Rattle.alpha_constants.specs.declared.recipe.Recipe.{Recipe}
 use Rattle.alpha_constants.specs.Recipes.{recipe_length}
 use Rattle.alpha_forms.specs.Straight.{runs, PutsContent}
 use Rattle.alpha_forms.specs.Constants.{recipe_items, constant_items}
-use Rattle.alpha_forms.specs.Registers.{IsOfRegister, HasBytes, ComesTo, ComesToMemory}
+use Rattle.alpha_forms.specs.Registers.{IsOfRegister, IsHeld, HasBytes, ComesTo, ComesToMemory}
 use Rattle.alpha_forms.specs.Accesses.{load_items, store_items}
+use Rattle.alpha_forms.specs.Operations.{unary_items, binary_items, compare_items, convert_items}
 
 -- the code of a constant puts the word into the temporary, whatever was held before
 abbrev pub ConstantsAreMade : Type 0
@@ -41,3 +51,34 @@ StoresAreDone =
     (widest own p a : ℕ) (ty : MemoryType) (plus : ℤ) (s : Temps) (o : Outer) (v w : Value) → IsOfRegister p
     → IsOfRegister a → FitsSigned w64 plus → s (Temp p) ≡ Plain v → s (Temp a) ≡ Plain w →
     ComesToMemory s o (vm.stored_memory o.memory ty v plus w) (runs widest (store_items ty p plus a) own s o)
+
+-- code for an operation on the value of a register, and on the values of two, comes to what the operation answers
+abbrev pub OneIsDone : (items : (d a : ℕ) → List TempInsn) (answer : Value → Answer) → Type 0
+OneIsDone items answer =
+    (widest own d a : ℕ) (s : Temps) (o : Outer) (v : Value) → IsOfRegister a → IsHeld v → s (Temp a) ≡ Plain v →
+    ComesTo s o d (answer v) (runs widest (items d a) own s o)
+
+abbrev pub TwoAreDone : (items : (d a b : ℕ) → List TempInsn) (answer : Memory → (v w : Value) → Answer) → Type 0
+TwoAreDone items answer =
+    (widest own d a b : ℕ) (s : Temps) (o : Outer) (v w : Value) → IsOfRegister a → IsOfRegister b
+    → s (Temp a) ≡ Plain v → s (Temp b) ≡ Plain w →
+    ComesTo s o d (answer o.memory v w) (runs widest (items d a b) own s o)
+
+-- so it is with each operator, of every type
+abbrev pub UnaryIsDone : UnaryOp → Type 0
+UnaryIsDone op = (ty : VmType) → OneIsDone (unary_items op ty) (vm.unary_answer op ty)
+
+abbrev pub BinaryIsDone : BinaryOp → Type 0
+BinaryIsDone op = (ty : VmType) → TwoAreDone (binary_items op ty) (λ m v w. vm.binary_answer m op ty v w)
+
+-- the difference of two numbers
+abbrev pub DifferencesAreDone : Type 0
+DifferencesAreDone =
+    (ty : VmType) (t : IntegerType) → vm.integer_of ty ≡ Some t →
+    TwoAreDone (binary_items Subtract ty) (λ m v w. vm.binary_answer m Subtract ty v w)
+
+abbrev pub CompareIsDone : CompareOp → Type 0
+CompareIsDone op = (ty : VmType) → TwoAreDone (compare_items op ty) (λ m v w. vm.compare_answer m op ty v w)
+
+abbrev pub ConversionsAreDone : Type 0
+ConversionsAreDone = (from : MemoryType) (to : VmType) → OneIsDone (convert_items from to) (vm.convert_answer from to)

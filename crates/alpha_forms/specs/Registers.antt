@@ -1,6 +1,7 @@
 -- The temporaries that stand for virtual registers, and what code for one instruction has to come to.
-use Rattle.std.specs.Prelude.{◌≡◌, ℕ, ◌≤◌, ◌<◌, ◌==◌, false, List, [], ◌∷◌, Option, Some, None}
+use Rattle.std.specs.Prelude.{◌≡◌, ℕ, ◌^◌, ◌≤◌, ◌<◌, ◌==◌, false, List, [], ◌∷◌, Option, Some, None}
 use Rattle.mem_model.specs.declared.value.Value.{Value}
+use Rattle.mem_model.specs.declared.value.Value.TheVariants.{Word, Address, Unset}
 use Rattle.mem_model.specs.declared.value.Cell.{Cell}
 use Rattle.mem_model.specs.declared.value.Cell.TheVariants.{Empty, Byte, Part}
 use Rattle.mem_model.specs.Memory.{Memory, object_at}
@@ -19,6 +20,12 @@ scratch_count = 4
 
 abbrev pub IsOfRegister : ℕ → Type 0
 IsOfRegister t = scratch_count ≤ t
+
+-- a register holds words of 64 bits
+abbrev pub IsHeld : Value → Type 0
+IsHeld (Word n) = n < 2 ^ 64
+IsHeld (Address p) = Unit {0}
+IsHeld Unset = Unit {0}
 
 -- the code goes on with a value in a temporary, and what stands for the other registers holds what it held
 pub record PutsValue (s : Temps) (o : Outer) (d : ℕ) (v : Value) (ran : Ran) : Type 0 where

@@ -1,6 +1,9 @@
 //! The laws of the forms, each the contract of a function that does nothing.
 
-ghost use Rattle.alpha_forms.specs.Laws.{ConstantsAreMade, RecipesHaveLengths, ConstantsAreShort, LoadsAreDone, StoresAreDone};
+ghost use Rattle.suifvm_ir.specs.declared.insn.UnaryOp.TheVariants.{Move, Negate, Complement};
+ghost use Rattle.suifvm_ir.specs.declared.insn.BinaryOp.TheVariants.{Add, Multiply, And, Or, ExclusiveOr};
+ghost use Rattle.suifvm_ir.specs.declared.insn.CompareOp.TheVariants.{Equal, NotEqual, Less, LessOrEqual};
+ghost use Rattle.alpha_forms.specs.Laws.{ConstantsAreMade, RecipesHaveLengths, ConstantsAreShort, LoadsAreDone, StoresAreDone, UnaryIsDone, BinaryIsDone, DifferencesAreDone, CompareIsDone, ConversionsAreDone};
 
 /// The code of a constant puts the word into its temporary and changes nothing else, in five instructions at most.
 pub fn constants_are_made()
@@ -14,4 +17,30 @@ pub fn constants_are_made()
 pub fn accesses_are_done()
     ensures loads { LoadsAreDone }
     ensures stores { StoresAreDone }
+{}
+
+/// The code of a copy, a negation, a complement or a conversion comes to what that answers.
+pub fn operations_on_one_are_done()
+    ensures moves { UnaryIsDone Move }
+    ensures negations { UnaryIsDone Negate }
+    ensures complements { UnaryIsDone Complement }
+    ensures conversions { ConversionsAreDone }
+{}
+
+/// So does that of an operation on two values; of a difference where they are numbers.
+pub fn operations_on_two_are_done()
+    ensures sums { BinaryIsDone Add }
+    ensures differences { DifferencesAreDone }
+    ensures products { BinaryIsDone Multiply }
+    ensures conjunctions { BinaryIsDone And }
+    ensures disjunctions { BinaryIsDone Or }
+    ensures exclusive { BinaryIsDone ExclusiveOr }
+{}
+
+/// And that of a comparison.
+pub fn comparisons_are_done()
+    ensures equal { CompareIsDone Equal }
+    ensures unlike { CompareIsDone NotEqual }
+    ensures less { CompareIsDone Less }
+    ensures at_most { CompareIsDone LessOrEqual }
 {}
