@@ -1,0 +1,4 @@
+pub mod Cells
+pub mod Values
+pub mod Parts
+pub mod model
