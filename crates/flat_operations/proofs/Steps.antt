@@ -1,5 +1,5 @@
 -- Loads and stores as steps of the machine.
-use Rattle.std.proofs.Common.{◌≡◌, ◌≢◌, ℕ, ◌+◌, ◌-◌, ◌%◌, ◌<◌, ◌≤◌, ◌⊎◌, length, Some, sym, ap, ◌∙◌, subst, arith, inl, inr, ⊎_elim}
+use Rattle.std.proofs.Common.{◌≡◌, ◌≢◌, ℕ, ◌+◌, ◌-◌, ◌%◌, ◌^◌, ◌<◌, ◌≤◌, ◌⊎◌, length, Some, sym, ap, ◌∙◌, subst, arith, inl, inr, ⊎_elim}
 use Rattle.std.specs.Prelude.{ℤ}
 use Rattle.std.specs.Int.{w8, w16, w32, w64, from_le_bytes}
 use Rattle.std.proofs.lemmas.Bool.{cases_lt}
@@ -17,12 +17,23 @@ use Rattle.alloc_model.specs.Contents.{Content, load_width, store_width, loaded_
 use Rattle.flat_memory.specs.Bytes.{Bytes, bytes_from, low_bytes, number_from}
 use Rattle.flat_memory.specs.Relation.{Extents, Owners, OfObject, Nobody, MemoryIs}
 use Rattle.flat_memory.specs.Machine.{memory_bytes, IsReached}
-use Rattle.flat_memory.proofs.Numbers.{low_bytes-length, put-out}
+use Rattle.alpha_isa.proofs.Arithmetic.{sign_extended-below}
+use Rattle.flat_memory.proofs.Numbers.{number_from-low, bytes_from-length, bytes_from-are, low_bytes-length, put-out}
 use Rattle.flat_memory.proofs.Machine.{loads_read_bytes, stores_put_bytes, numbers_of_accesses}
 use Rattle.flat_operations.specs.Contents.{ContentIs}
 use Rattle.flat_operations.specs.Laws.{loaded_word}
 use Rattle.flat_operations.specs.Steps.{HasMemory, IsLoadStep, IsStoreStep}
 use Rattle.flat_operations.proofs.Accesses.{load-width, store-width, loads_correspond, stores_correspond}
+
+-- the word of a load
+bytes-below : (m : Bytes) (a count : ℕ) → ((y : ℕ) → m y < 256) → number_from (bytes_from m a count) < 256 ^ count
+bytes-below m a count small = subst (λ k. number_from (bytes_from m a count) < 256 ^ k) (bytes_from-length m a count) (number_from-low (bytes_from m a count) (bytes_from-are m small a count))
+
+loaded-below : (op : LoadOp) (n : ℕ) → n < 256 ^ load_width op → loaded_word op n < 2 ^ 64
+loaded-below Ldbu n h = let k : n < 256 = h in omega (arith, k)
+loaded-below Ldwu n h = let k : n < 256 ^ 2 = h in omega (arith, k)
+loaded-below Ldl n h = sign_extended-below w32 n (omega arith)
+loaded-below Ldq n h = let k : n < 256 ^ 8 = h in omega (arith, k)
 
 module _ (xs : Extents) (memory : Memory) (owner : Owners) (p : Program) (s : State) (h : HasMemory xs memory owner p s) where
   -- what an object owns may be accessed
@@ -45,6 +56,8 @@ module _ (xs : Extents) (memory : Memory) (owner : Owners) (p : Program) (s : St
       record {
         word = loaded_word op (number_from (bytes_from (memory_bytes p s) (address s rb plus) (load_width op)));
         goes = loaded op ra rb plus (loads_read_bytes p s h.parts (address s rb plus) (load_width op) (load-width op) reach);
+        small = loaded-below op (number_from (bytes_from (memory_bytes p s) (address s rb plus) (load_width op)))
+            (bytes-below (memory_bytes p s) (address s rb plus) (load_width op) h.memory_is.bytes);
         content = l.content;
       }
 

@@ -1,5 +1,5 @@
 -- Loads and stores as steps of the machine.
-use Rattle.std.specs.Prelude.{◌≡◌, ◌≢◌, ℕ, ℤ, true, Some}
+use Rattle.std.specs.Prelude.{◌≡◌, ◌≢◌, ℕ, ◌^◌, ◌<◌, ℤ, true, Some}
 use Rattle.alpha_isa.specs.Program.{Program}
 use Rattle.alpha_isa.specs.State.{State, register, with_register}
 use Rattle.alpha_isa.specs.Step.{Goes, memory_step, next_instruction, next_pc}
@@ -23,6 +23,7 @@ pub record IsLoadStep (xs : Extents) (p : Program) (op : LoadOp) (ra rb : ℕ) (
     Type 0 where
   pub word : ℕ
   pub goes : memory_step p (load_op op) ra rb plus s ≡ next_instruction (with_register ra word s)
+  pub small : word < 2 ^ 64
   pub content : ContentIs xs c word
 
 abbrev pub LoadsStep : Type 0

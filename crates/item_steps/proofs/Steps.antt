@@ -1,5 +1,5 @@
 -- What the machine does where items stand.
-use Rattle.std.proofs.Common.{◌≡◌, ◌≢◌, ℕ, zero, suc, ◌+◌, ◌*◌, ◌/◌, ◌%◌, ◌^◌, ◌<◌, ◌≤◌, Bool, true, false, not, eqb, List, [], ◌∷◌, length, Some, None, refl, sym, ap, ◌∙◌, arith, inl, inr, length-set}
+use Rattle.std.proofs.Common.{◌≡◌, ◌≢◌, ℕ, zero, suc, ◌+◌, ◌*◌, ◌/◌, ◌%◌, ◌^◌, ◌<◌, ◌≤◌, Bool, true, false, not, eqb, List, [], ◌∷◌, length, Some, None, refl, sym, ap, ◌∙◌, subst, arith, inl, inr, length-set}
 use Rattle.std.specs.Prelude.{ℤ, pos, negsuc, ◌-ℤ◌, ◌*ℤ◌, slice_get, slice_set, slice_index, option_and_then, if◌then◌else◌}
 use Rattle.std.proofs.lemmas.Int.{ints}
 use Rattle.std.proofs.lemmas.Bool.{cases_eq, cases_lt, eq-eqb, ne_eqb}
@@ -23,7 +23,7 @@ use Rattle.alpha_items.specs.declared.item.AsmItem.TheVariants.{Plain, Branch, T
 use Rattle.alpha_items.specs.Layout.{item_words, displacement}
 use Rattle.alpha_items.specs.Words.{item_insns, address_insns, high_of, inverse, far_insns}
 use Rattle.item_steps.specs.Standing.{Labels, InsnsAt, ItemsAt}
-use Rattle.item_steps.specs.Steps.{Comes, StandsAt, ComesBehind, SameElse, HasAddress, AddressDone, BranchDone}
+use Rattle.item_steps.specs.Steps.{Comes, StandsAt, ComesBehind, SameElse, HasAddress, AddressDone, HoldsWords, BranchDone}
 use Rattle.item_steps.proofs.Standing.{insn-at}
 
 -- ---- runs
@@ -117,6 +117,16 @@ read-lost r q v s e = ap (λ n. if eqb q 31 then 0 else n) (split (eqb r 31) (eq
     split : (b : Bool) → b ≡ true → slice_index (if b then s else record s { registers = slice_set s.registers r v }).registers q ≡ slice_index s.registers q
     split true t = refl
     split false t = absurd (cc)
+
+-- a word more in a register
+pub words-with : (r v : ℕ) (s : State) → r < 32 → length s.registers ≡ 32 → v < 2 ^ 64 → HoldsWords s → HoldsWords (with_register r v s)
+words-with r v s lt len small words q = elim (cases_eq r 31) [
+  | inl e ↦ subst (λ n. n < 2 ^ 64) (sym (read-lost r q v s e)) (words q)
+  | inr kept ↦ elim (cases_eq q r) [
+    | inl is ↦ subst (λ k. register (with_register r v s) k < 2 ^ 64) (sym is) (subst (λ n. n < 2 ^ 64) (sym (read-same r v s (omega arith) len)) small)
+    | inr ne ↦ subst (λ n. n < 2 ^ 64) (sym (read-other r q v s ne)) (words q)
+  ]
+]
 
 pub same-through : (s t u : State) → SameElse s t → SameElse t u → SameElse s u
 same-through s t u a b = record {
@@ -227,6 +237,10 @@ module _ (p : Program) (there : Labels) (w ra l : ℕ) (items : List AsmItem) (e
   link-same true v = same-with ra v s
   link-same false v = record { registers = refl; data_bytes = refl; stack_bytes = refl; input = refl; output = refl }
 
+  link-words : (b : Bool) (v : ℕ) → v < 2 ^ 64 → HoldsWords s → HoldsWords (if b then with_register ra v s else s)
+  link-words true v small words = words-with ra v s r32 len small words
+  link-words false v small words = words
+
   near-done : (op : BranchOp) → InsnsAt p w (fields.Branch op ra (displacement w (there l)) ∷ []) → ItemsAt p there (w + 1) items end → BranchDone p there op ra l items end s
   near-done op h rest =
       let none : w + 0 ≡ w = omega arith in
@@ -245,6 +259,7 @@ module _ (p : Program) (there : Labels) (w ra l : ℕ) (items : List AsmItem) (e
         items_at = rest;
         pc = chosen (is_taken op (register s ra)) target behind;
         registers = λ r ne. ap (λ v. register (if links op then with_register ra v s else s) r) behind;
+        words = link-words (links op) (next_pc s) (omega (arith, behind, below, n));
         same = same-through s linked t (link-same (links op) (next_pc s)) (same-at linked t.pc);
       }
     where
@@ -263,6 +278,7 @@ module _ (p : Program) (there : Labels) (w ra l : ℕ) (items : List AsmItem) (e
     comes : Comes p u to
     pc : to.pc ≡ word_address (there l)
     registers : (r : ℕ) → r ≢ 28 → register to r ≡ register (with_register link (word_address v) u) r
+    words : HoldsWords u → HoldsWords to
     same : SameElse u to
 
   jumped : (op : JumpOp) (link from : ℕ) (u : State) → link < 32 → length u.registers ≡ 32 → u.pc ≡ word_address from → InsnsAt p from (far_jump op link) → JumpDone link (from + 3) u
@@ -274,14 +290,23 @@ module _ (p : Program) (there : Labels) (w ra l : ℕ) (items : List AsmItem) (e
       let behind : next_pc a.to ≡ word_address (from + 3) = ap (λ k. k + 4) a.pc ∙ (let e : word_address (from + 2) + 4 ≡ word_address (from + 3) = omega arith in e) in
       let target : register a.to 28 / 4 * 4 ≡ word_address (there l) = ap (λ k. k / 4 * 4) a.has.here ∙ (let e : word_address (there l) / 4 * 4 ≡ word_address (there l) = omega arith in e) in
       let agree = λ (q : ℕ) (ne : q ≢ 28). a.has.others q ne in
+      let below = within-text p from (far_jump op link) h (omega arith) in
+      let n = lawful_image.words in
       record {
         to = t;
         comes = steps_add_up p u a.to t a.comes (one-step p a.to t (fields.Jump op link 28) (fetched p from 2 (far_jump op link) (fields.Jump op link 28) (a.to).pc h (omega arith) refl a.pc) refl);
         pc = target;
         registers = λ r ne. ap (λ v. register (with_register link v a.to) r) behind ∙ with-agree link (word_address (from + 3)) u a.to link32 ulen alen agree r ne;
+        words = λ words. words-with link (next_pc a.to) a.to link32 alen (omega (arith, behind, below, n)) (loaded-words a.to a.has words);
         same = same-through u a.to t a.has.same (same-through a.to (with_register link (next_pc a.to) a.to) t (same-with link (next_pc a.to) a.to) (same-at (with_register link (next_pc a.to) a.to) t.pc));
       }
     where
+      loaded-words : (t : State) → HasAddress 28 (word_address (there l)) u t → HoldsWords u → HoldsWords t
+      loaded-words t has words q = elim (cases_eq q 28) [
+        | inl e ↦ subst (λ k. register t k < 2 ^ 64) (sym e) (subst (λ k. k < 2 ^ 64) (sym has.here) (omega (arith, label_small)))
+        | inr ne ↦ subst (λ k. k < 2 ^ 64) (sym (has.others q ne)) (words q)
+      ]
+
       front : (k : ℕ) → k < 2 → slice_get (far_jump op link) k ≡ slice_get (address_insns 28 (word_address (there l))) k
       front zero lt = refl
       front (suc zero) lt = refl
@@ -298,6 +323,7 @@ module _ (p : Program) (there : Labels) (w ra l : ℕ) (items : List AsmItem) (e
         items_at = rest;
         pc = j.pc ∙ ap (λ b. word_address (if b then there l else w + 3)) (sym taken);
         registers = λ r ne. j.registers r ne ∙ ap (λ b. register (if b then with_register ra (word_address (w + 3)) s else s) r) (sym linked);
+        words = j.words;
         same = j.same;
       }
 
@@ -307,6 +333,7 @@ module _ (p : Program) (there : Labels) (w ra l : ℕ) (items : List AsmItem) (e
     comes : Comes p s to
     pc : to.pc ≡ word_address (if is_taken op (register s ra) then there l else w + 4)
     registers : (r : ℕ) → r ≢ 28 → register to r ≡ register s r
+    words : HoldsWords s → HoldsWords to
     same : SameElse s to
 
   conditional-far : (op : BranchOp) → links (inverse op) ≡ false → (b : Bool) → is_taken op (register s ra) ≡ b → is_taken (inverse op) (register s ra) ≡ not b → InsnsAt p w (fields.Branch (inverse op) ra (pos 3) ∷ far_jump Jmp 31) → FarDone op
@@ -332,6 +359,7 @@ module _ (p : Program) (there : Labels) (w ra l : ℕ) (items : List AsmItem) (e
         comes = first;
         pc = tpc ∙ at ∙ over ∙ ap (λ x. word_address (if x then there l else w + 4)) (sym taken);
         registers = λ r ne. regs r;
+        words = λ words r. subst (λ k. k < 2 ^ 64) (sym (regs r)) (words r);
         same = same;
       }
       by_test true taken at over behind t first same regs tpc =
@@ -341,6 +369,7 @@ module _ (p : Program) (there : Labels) (w ra l : ℕ) (items : List AsmItem) (e
             comes = steps_add_up p s t j.to first j.comes;
             pc = j.pc ∙ ap (λ x. word_address (if x then there l else w + 4)) (sym taken);
             registers = λ r ne. j.registers r ne ∙ read-lost 31 r (word_address (w + 1 + 3)) t refl ∙ regs r;
+            words = λ words. j.words (λ r. subst (λ k. k < 2 ^ 64) (sym (regs r)) (words r));
             same = same-through s t j.to same j.same;
           }
 
@@ -352,6 +381,7 @@ module _ (p : Program) (there : Labels) (w ra l : ℕ) (items : List AsmItem) (e
     items_at = rest;
     pc = f.pc;
     registers = λ r ne. f.registers r ne ∙ sym (ap (λ x. register (if x then with_register ra (word_address (w + 4)) s else s) r) no_link);
+    words = f.words;
     same = f.same;
   }
 

@@ -1,5 +1,5 @@
 -- What the machine does where items stand.
-use Rattle.std.specs.Prelude.{◌≡◌, ◌≢◌, ℕ, ◌+◌, ◌<◌, ◌≤◌, List, ◌∷◌, length, if◌then◌else◌}
+use Rattle.std.specs.Prelude.{◌≡◌, ◌≢◌, ℕ, ◌+◌, ◌^◌, ◌<◌, ◌≤◌, List, ◌∷◌, length, if◌then◌else◌}
 use Rattle.alpha_isa.specs.declared.insn.Fields.{Fields}
 use Rattle.alpha_isa.specs.declared.insn.BranchOp.{BranchOp}
 use Rattle.alpha_isa.specs.Program.{Program, IsLawful, data_start, word_address}
@@ -75,6 +75,10 @@ pub record AddressesStep : Type 0 where
       StandsAt p there w (DataAddress ra offset) items end s → ra < 31 → data_start p + offset < 2147450880 →
       AddressDone p there w items end ra (data_start p + offset) s
 
+-- each register holds a word
+abbrev pub HoldsWords : State → Type 0
+HoldsWords s = (r : ℕ) → register s r < 2 ^ 64
+
 -- a branch is taken or passed. A far one leaves its target in register 28
 pub record BranchDone (p : Program) (there : Labels) (op : BranchOp) (ra l : ℕ) (items : List AsmItem) (end : ℕ)
     (s : State) : Type 0 where
@@ -85,6 +89,7 @@ pub record BranchDone (p : Program) (there : Labels) (op : BranchOp) (ra l : ℕ
   pub pc : to.pc ≡ word_address (if is_taken op (register s ra) then there l else next)
   pub registers : (r : ℕ) → r ≢ 28 →
       register to r ≡ register (if links op then with_register ra (word_address next) s else s) r
+  pub words : HoldsWords s → HoldsWords to
   pub same : SameElse s to
 
 abbrev pub BranchesStep : Type 0
