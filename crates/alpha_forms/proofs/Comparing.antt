@@ -39,7 +39,7 @@ equal_bits : (t : IntegerType) (x y : ℕ) → extension t x ≡ x → extension
 equal_bits t x y e k =
     sym (equal-words t x y ∙ ap (λ n. n == extension t y) e ∙ ap (λ n. x == n) k)
 
-signed_as : (t : IntegerType) (x : ℕ) → is_signed t ≡ true → extension t x ≡ x → signed_value w64 x ≡ value t x
+pub signed_as : (t : IntegerType) (x : ℕ) → is_signed t ≡ true → extension t x ≡ x → signed_value w64 x ≡ value t x
 signed_as t x s e = ap (λ n. value Long n) (sym e) ∙ value-long t x s
 
 less_signed : (t : IntegerType) (x y : ℕ) → is_signed t ≡ true → extension t x ≡ x → extension t y ≡ y →

@@ -27,14 +27,14 @@ from_short : (z : ℤ) → FitsSigned w16 z → FitsSigned w32 z
 from_short (pos n) f = record { sfits = omega (arith, f.sfits) }
 from_short (negsuc n) f = record { sfits = omega (arith, f.sfits) }
 
-long_word : (z : ℤ) → FitsSigned w64 z → residue z % 2 ^ 64 ≡ word_from z
+pub long_word : (z : ℤ) → FitsSigned w64 z → residue z % 2 ^ 64 ≡ word_from z
 long_word z f = ap (λ n. n % 2 ^ 64) (residue-fits z f) ∙ in_word z f
   where
     in_word : (z : ℤ) → FitsSigned w64 z → word_from z % 2 ^ 64 ≡ word_from z
     in_word (pos n) g = omega (arith, g.sfits)
     in_word (negsuc n) g = omega arith
 
-int_word : (z : ℤ) → FitsSigned w32 z → sign_extension w32 (residue z) ≡ word_from z
+pub int_word : (z : ℤ) → FitsSigned w32 z → sign_extension w32 (residue z) ≡ word_from z
 int_word z f =
     ap (λ n. sign_extension w32 n) (residue-fits z (wider z f)) ∙ ap word_from (signed-word_from w32 z (omega arith) f)
 

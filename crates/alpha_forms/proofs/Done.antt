@@ -39,7 +39,7 @@ use Rattle.alpha_forms.proofs.Converting.{IsInt, IsUnsignedInt, IsLong, IsUnsign
 
 module _ (widest own : ℕ) (s : Temps) (o : Outer) (d : ℕ) where
   -- code of one instruction
-  two_comes : (op : Operation) (a b : ℕ) (x y : Value) (w : vm.Answer) → s (Temp a) ≡ Plain x → s (Temp b) ≡ Plain y →
+  pub two_comes : (op : Operation) (a b : ℕ) (x y : Value) (w : vm.Answer) → s (Temp a) ≡ Plain x → s (Temp b) ≡ Plain y →
       Matches w (operate_answer o.memory op (Plain x) (Plain y)) → ComesTo s o d w (runs widest (on_two op d a b ∷ []) own s o)
   two_comes op a b x y w ha hb m =
       finish widest own s o [] (s (Temp 0)) (nothing_yet widest own s o) (on_two op d a b) d (operate_answer o.memory op (Plain x) (Plain y)) w

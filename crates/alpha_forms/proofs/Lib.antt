@@ -8,3 +8,4 @@ mod Numbers
 mod Comparing
 mod Converting
 mod Done
+mod Moving

@@ -12,6 +12,7 @@ use Rattle.suifvm_ir.specs.declared.types.VmType.{VmType}
 use Rattle.suifvm_ir.specs.declared.insn.UnaryOp.{UnaryOp}
 use Rattle.suifvm_ir.specs.declared.insn.BinaryOp.{BinaryOp}
 use Rattle.suifvm_ir.specs.declared.insn.BinaryOp.TheVariants.{Subtract}
+use Rattle.suifvm_ir.specs.declared.insn.ShiftOp.{ShiftOp}
 use Rattle.suifvm_ir.specs.declared.insn.CompareOp.{CompareOp}
 use Rattle.c_arithmetic.specs.declared.integer_type.IntegerType.{IntegerType}
 use Rattle.vm_meaning.specs.declared.answer.Answer.{Answer}
@@ -23,7 +24,7 @@ use Rattle.alpha_forms.specs.Straight.{runs, PutsContent}
 use Rattle.alpha_forms.specs.Constants.{recipe_items, constant_items}
 use Rattle.alpha_forms.specs.Registers.{IsOfRegister, IsHeld, HasBytes, ComesTo, ComesToMemory}
 use Rattle.alpha_forms.specs.Accesses.{load_items, store_items}
-use Rattle.alpha_forms.specs.Operations.{unary_items, binary_items, compare_items, convert_items}
+use Rattle.alpha_forms.specs.Operations.{unary_items, binary_items, shift_items, compare_items, convert_items}
 
 -- the code of a constant puts the word into the temporary, whatever was held before
 abbrev pub ConstantsAreMade : Type 0
@@ -76,6 +77,9 @@ abbrev pub DifferencesAreDone : Type 0
 DifferencesAreDone =
     (ty : VmType) (t : IntegerType) → vm.integer_of ty ≡ Some t →
     TwoAreDone (binary_items Subtract ty) (λ m v w. vm.binary_answer m Subtract ty v w)
+
+abbrev pub ShiftIsDone : ShiftOp → Type 0
+ShiftIsDone op = (ty : VmType) → TwoAreDone (shift_items op ty) (λ m v w. vm.shift_answer op ty v w)
 
 abbrev pub CompareIsDone : CompareOp → Type 0
 CompareIsDone op = (ty : VmType) → TwoAreDone (compare_items op ty) (λ m v w. vm.compare_answer m op ty v w)

@@ -2,8 +2,9 @@
 
 ghost use Rattle.suifvm_ir.specs.declared.insn.UnaryOp.TheVariants.{Move, Negate, Complement};
 ghost use Rattle.suifvm_ir.specs.declared.insn.BinaryOp.TheVariants.{Add, Multiply, And, Or, ExclusiveOr};
+ghost use Rattle.suifvm_ir.specs.declared.insn.ShiftOp.TheVariants.{ArithmeticRight, Left, LogicalRight};
 ghost use Rattle.suifvm_ir.specs.declared.insn.CompareOp.TheVariants.{Equal, NotEqual, Less, LessOrEqual};
-ghost use Rattle.alpha_forms.specs.Laws.{ConstantsAreMade, RecipesHaveLengths, ConstantsAreShort, LoadsAreDone, StoresAreDone, UnaryIsDone, BinaryIsDone, DifferencesAreDone, CompareIsDone, ConversionsAreDone};
+ghost use Rattle.alpha_forms.specs.Laws.{ConstantsAreMade, RecipesHaveLengths, ConstantsAreShort, LoadsAreDone, StoresAreDone, UnaryIsDone, BinaryIsDone, DifferencesAreDone, ShiftIsDone, CompareIsDone, ConversionsAreDone};
 
 /// The code of a constant puts the word into its temporary and changes nothing else, in five instructions at most.
 pub fn constants_are_made()
@@ -35,6 +36,13 @@ pub fn operations_on_two_are_done()
     ensures conjunctions { BinaryIsDone And }
     ensures disjunctions { BinaryIsDone Or }
     ensures exclusive { BinaryIsDone ExclusiveOr }
+{}
+
+/// So does that of a shift.
+pub fn shifts_are_done()
+    ensures arithmetic { ShiftIsDone ArithmeticRight }
+    ensures left { ShiftIsDone Left }
+    ensures logical { ShiftIsDone LogicalRight }
 {}
 
 /// And that of a comparison.
