@@ -11,7 +11,7 @@ pub mod operation;
 pub mod program;
 mod references;
 mod text;
-mod text_parts;
+pub mod text_parts;
 mod words;
 
 pub use copy::copy_fn;

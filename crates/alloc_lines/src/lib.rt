@@ -1,0 +1,13 @@
+//! The text of allocations, and of their journals.
+//!
+//! `specs/Registers.antt` puts the registers that an allocation states into an instruction, and `specs/Text.antt` says
+//! what the lines are.
+#![tactic(auto)]
+
+mod lines;
+mod registers;
+#[cfg(test)]
+mod tests;
+mod text;
+
+pub use text::{alloc_text, journal_text, put_allocation};
