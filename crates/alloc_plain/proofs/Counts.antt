@@ -7,7 +7,7 @@ use Rattle.temp_ir.specs.declared.insn.TempInsn.{TempInsn}
 use Rattle.temp_ir.specs.Insns.{reads_of, writes_of}
 use Rattle.alloc_model.specs.declared.allocation.Transfer.{Transfer}
 use Rattle.alloc_model.specs.declared.allocation.Transfer.TheVariants.{Store, Load}
-use Rattle.alloc_plain.specs.model.Plain.{loads, stores}
+use Rattle.alloc_plain.specs.Plain.{loads, stores}
 use Rattle.alloc_plain.proofs.Registers.{few}
 
 nothing : (xs : List ℕ) → None ≡ slice_get xs 0 → xs ≡ []
@@ -71,8 +71,11 @@ pub two_loads : (out : List Transfer) (x : TempInsn) (a b : ℕ) → Some a ≡ 
 two_loads out x a b first second =
     append_assoc out (Load a 1 ∷ []) (Load b 2 ∷ []) ∙ sym (ap (λ ts. out ++ loads ts 1) (only_two (reads_of x) a b (few x).0 first second))
 
-pub no_store : (x : TempInsn) (r : ℕ) → None ≡ slice_get (writes_of x) 0 → [] ≡ stores (writes_of x) r
-no_store x r first = sym (ap (λ ts. stores ts r) (nothing (writes_of x) first))
+pub nothing_stored : (out : List Transfer) → out ≡ out ++ stores [] 1
+nothing_stored out = sym (append-nil out)
 
-pub one_store : (x : TempInsn) (r a : ℕ) → Some a ≡ slice_get (writes_of x) 0 → Store a r ∷ [] ≡ stores (writes_of x) r
-one_store x r a first = sym (ap (λ ts. stores ts r) (single (writes_of x) a (few x).1 first))
+pub no_store : (out : List Transfer) (x : TempInsn) (r : ℕ) → None ≡ slice_get (writes_of x) 0 → out ≡ out ++ stores (writes_of x) r
+no_store out x r first = sym (append-nil out) ∙ sym (ap (λ ts. out ++ stores ts r) (nothing (writes_of x) first))
+
+pub one_store : (out : List Transfer) (x : TempInsn) (r a : ℕ) → Some a ≡ slice_get (writes_of x) 0 → out ++ Store a r ∷ [] ≡ out ++ stores (writes_of x) r
+one_store out x r a first = sym (ap (λ ts. out ++ stores ts r) (single (writes_of x) a (few x).1 first))

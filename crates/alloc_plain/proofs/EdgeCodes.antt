@@ -11,7 +11,7 @@ use Rattle.alloc_model.specs.declared.allocation.EdgeCode.{EdgeCode}
 use Rattle.alloc_model.specs.declared.allocation.Transfer.{Transfer}
 use Rattle.alloc_model.specs.Places.{code_in}
 use Rattle.alloc_model.specs.Faithful.{rising, edges_from}
-use Rattle.alloc_plain.specs.model.Plain.{stores_behind, edge_code, edges_behind, all_edges}
+use Rattle.alloc_plain.specs.Plain.{stores_behind, edge_code, edges_behind, all_edges}
 use Rattle.alloc_plain.proofs.Sets.{test_or_not}
 
 abbrev leads : (from to : ℕ) → EdgeCode → Bool

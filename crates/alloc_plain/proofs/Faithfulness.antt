@@ -21,7 +21,7 @@ use Rattle.alloc_model.specs.Lifetimes.{Blocks, is_live}
 use Rattle.alloc_model.specs.Needs.{named_place, place_at_top, IsNeeded}
 use Rattle.alloc_model.specs.Needs.IsNeeded.{Relied, Handed}
 use Rattle.alloc_model.specs.Faithful.{Held, Includes, move_all, MovesAsk, ReadsAsk, FixedAsk, behind_insn, at_top, at_entry, at_start, at_bottom, before, KeepsEdge, IsGiven, IsGivenOrScratch, IsStanding, HasLists, Faithful}
-use Rattle.alloc_plain.specs.model.Plain.{loads, registers_of, writes_in, first_in, stores_behind, transfers_from, plain_plan}
+use Rattle.alloc_plain.specs.Plain.{loads, registers_of, writes_in, first_in, stores_behind, transfers_from, plain_plan}
 use Rattle.alloc_plain.proofs.Sets.{same_or_not, slot_no_register, stores_ask, stores_done, stores_keep_slots}
 use Rattle.alloc_plain.proofs.Registers.{and_first, and_second, has_contains, arguments_high}
 use Rattle.alloc_plain.proofs.Lists.{there, read_in_block, length_of_blocks, block_there, previous, settled_at, previous_next, settled_next, settled_reads, previous_last, transfers_length, transfers_get, registers_get, range_length}

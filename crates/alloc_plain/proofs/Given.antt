@@ -9,7 +9,7 @@ use Rattle.temp_ir.specs.Insns.{reads_of, writes_of, targets_of, flows_on_of}
 use Rattle.alloc_model.specs.declared.allocation.EdgeCode.{EdgeCode}
 use Rattle.alloc_model.specs.declared.allocation.Transfer.TheVariants.{Store, Load}
 use Rattle.alloc_model.specs.Faithful.{given_registers, IsGiven, IsGivenOrScratch, IsTransfer, rising}
-use Rattle.alloc_plain.specs.model.Plain.{loads, stores, registers_of, stores_behind, transfers_from, edge_code, edges_behind, all_edges}
+use Rattle.alloc_plain.specs.Plain.{loads, stores, registers_of, stores_behind, transfers_from, edge_code, edges_behind, all_edges}
 use Rattle.alloc_plain.proofs.Registers.{few}
 
 given : (r : ℕ) → 1 ≤ r → r ≤ 3 → IsGiven r

@@ -8,7 +8,7 @@ use Rattle.suifvm_ir.specs.Functions.{count_of, insn_in, last_of}
 use Rattle.temp_ir.specs.declared.insn.TempInsn.{TempInsn}
 use Rattle.temp_ir.specs.Insns.{reads_of}
 use Rattle.temp_ir.specs.Fixed.{fixed_reads_of, has_number, written_behind, is_settled_block}
-use Rattle.alloc_plain.specs.model.Plain.{loads, registers_of, stores_behind, transfers_from}
+use Rattle.alloc_plain.specs.Plain.{loads, registers_of, stores_behind, transfers_from}
 use Rattle.alloc_plain.proofs.Registers.{and_first, and_second}
 
 module _ {A : Type 0} where

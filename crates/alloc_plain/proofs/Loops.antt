@@ -9,7 +9,7 @@ use Rattle.temp_ir.specs.declared.insn.TempInsn.{TempInsn}
 use Rattle.temp_ir.specs.Insns.{reads_of, targets_of, flows_on_of}
 use Rattle.alloc_model.specs.declared.allocation.Transfer.{Transfer}
 use Rattle.alloc_model.specs.Faithful.{rising}
-use Rattle.alloc_plain.specs.model.Plain.{loads, registers_of, stores_behind, transfers_from, edge_code, edges_behind, all_edges}
+use Rattle.alloc_plain.specs.Plain.{loads, registers_of, stores_behind, transfers_from, edge_code, edges_behind, all_edges}
 
 pub transfers_next : (out : List (List Transfer)) (p : Option TempInsn) (i : TempInsn) (rest all : List (ℕ × TempInsn)) (id : ℕ) → all ≡ (id, i) ∷ rest → (out ++ (stores_behind p ++ loads (reads_of i) 1) ∷ []) ++ transfers_from (Some i) (items rest) ≡ out ++ transfers_from p (items all)
 transfers_next out p i rest all id is =

@@ -8,7 +8,7 @@ use Rattle.alloc_model.specs.declared.allocation.Transfer.{Transfer}
 use Rattle.alloc_model.specs.Effect.{Holder, Temp, Fixed, Incoming, Outgoing}
 use Rattle.alloc_model.specs.Places.{Place, Reg, Slot, In, Out, home_of}
 use Rattle.alloc_model.specs.Faithful.{Held, stands, write_all, move_all, MovesAsk, ReadsAsk, FixedAsk}
-use Rattle.alloc_plain.specs.model.Plain.{loads, stores}
+use Rattle.alloc_plain.specs.Plain.{loads, stores}
 
 -- ---- what is the same
 

@@ -12,7 +12,7 @@ use Rattle.alloc_model.specs.Effect.{Temp, Fixed, places_written, others_written
 use Rattle.alloc_model.specs.Places.{Reg, Slot, home_of, is_ended}
 use Rattle.alloc_model.specs.Lifetimes.{Blocks, is_live}
 use Rattle.alloc_model.specs.Faithful.{Held, write_all, end_all, move_all, MovesAsk, ReadsAsk, FixedAsk, behind_insn}
-use Rattle.alloc_plain.specs.model.Plain.{loads, registers_of, writes_in, first_in, stores_behind}
+use Rattle.alloc_plain.specs.Plain.{loads, registers_of, writes_in, first_in, stores_behind}
 use Rattle.alloc_plain.proofs.Sets.{same_or_not, moves_in_turn, asks_in_turn, reads_kept, stores_keep_registers, stores_keep_slots, stores_ask, stores_done, loads_keep_slots, loads_keep_others, loads_ask, loads_read, written, written_fresh, written_slot, written_keeps, written_fixed, fixed_ask}
 use Rattle.alloc_plain.proofs.Registers.{IsHigh, behind_either, written_high, all_has, lawful, few}
 use Rattle.alloc_plain.proofs.Lists.{range_behind}

@@ -2,7 +2,7 @@
 
 ghost use Rattle.std.specs.Prelude.{◌≡◌, ◌++◌, [], map, flat_map, None, IfOk, OnOk};
 ghost use Rattle.suifvm_ir.specs.Functions.{last_of};
-ghost use Rattle.alloc_plain.specs.model.Plain.{registers_of, transfers_from};
+ghost use Rattle.alloc_plain.specs.Plain.{registers_of, transfers_from};
 
 use crate::insns::{registers, transfers};
 use alloc_model::allocation::{Standing, Transfer};

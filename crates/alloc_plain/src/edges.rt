@@ -5,8 +5,8 @@ ghost use Rattle.suifvm_ir.specs.Functions.{last_of};
 ghost use Rattle.temp_ir.specs.Insns.{targets_of, flows_on_of};
 ghost use Rattle.cfg.specs.Edges.{successors_from};
 ghost use Rattle.alloc_model.specs.Faithful.{rising};
-ghost use Rattle.alloc_plain.specs.model.Plain.{stores_behind, edge_code};
-ghost use Rattle.alloc_plain.specs.model.Plain as model;
+ghost use Rattle.alloc_plain.specs.Plain.{stores_behind, edge_code};
+ghost use Rattle.alloc_plain.specs.Plain as lists;
 
 use crate::blocks::last_insn;
 use crate::insns::stores_of;
@@ -88,7 +88,7 @@ pub(crate) fn all_edges(
 ) -> Result<Seq<EdgeCode>, AllocError>
     requires few { length blocks.now < 2 ^ 30 }
     requires edges { followers.now ≡ successors_from targets_of flows_on_of 0 blocks.now }
-    ensures { IfOk result (λ edges. edges ≡ model.all_edges 0 blocks.now) }
+    ensures { IfOk result (λ edges. edges ≡ lists.all_edges 0 blocks.now) }
 {
     let mut edges = Seq::new(alloc);
     for (number, block) in blocks.iter().enumerate() {

@@ -2,7 +2,7 @@
 
 ghost use Rattle.std.specs.Prelude.{◌≡◌, ◌+◌, ◌++◌, ◌≤◌, length, IfOk, OnOk};
 ghost use Rattle.temp_ir.specs.Insns.{reads_of, writes_of};
-ghost use Rattle.alloc_plain.specs.model.Plain.{loads, stores, registers_of, stores_behind, writes_in};
+ghost use Rattle.alloc_plain.specs.Plain.{loads, stores, registers_of, stores_behind, writes_in};
 
 use alloc_model::allocation::Transfer;
 use c_tree::Seq;
@@ -71,21 +71,28 @@ fn put_loads(out: &mut Seq<Transfer>, insn: &TempInsn) -> Result<(), AllocError>
     }
 }
 
-/// The stores of what an instruction wrote.
+/// Puts the stores of what an instruction wrote.
 #[tactic(auto, using(crate::proofs::Counts::no_store, crate::proofs::Counts::one_store))]
-fn insn_stores(alloc: Global, insn: &TempInsn) -> Result<Seq<Transfer>, AllocError>
-    ensures { IfOk result (λ found. found ≡ stores (writes_of insn.now) (1 + length (reads_of insn.now))) }
+fn put_insn_stores(out: &mut Seq<Transfer>, insn: &TempInsn) -> Result<(), AllocError>
+    ensures { OnOk result (out.new ≡ out.old ++ stores (writes_of insn.now) (1 + length (reads_of insn.now))) }
 {
-    let mut found = Seq::new(alloc);
     match insn.write_at(0) {
-        None => Ok(found),
-        Some(temp) => {
-            found.push(Transfer::Store {
-                temp,
-                reg: 1 + read_count(insn),
-            })?;
-            Ok(found)
-        }
+        None => Ok(()),
+        Some(temp) => out.push(Transfer::Store {
+            temp,
+            reg: 1 + read_count(insn),
+        }),
+    }
+}
+
+/// Puts the stores of what an instruction wrote, if there is one.
+#[tactic(auto, using(crate::proofs::Counts::nothing_stored))]
+fn put_stores(out: &mut Seq<Transfer>, insn: Option<TempInsn>) -> Result<(), AllocError>
+    ensures { OnOk result (out.new ≡ out.old ++ stores_behind insn) }
+{
+    match insn {
+        None => Ok(()),
+        Some(insn) => put_insn_stores(out, &insn),
     }
 }
 
@@ -93,10 +100,9 @@ fn insn_stores(alloc: Global, insn: &TempInsn) -> Result<Seq<Transfer>, AllocErr
 pub(crate) fn stores_of(alloc: Global, insn: Option<TempInsn>) -> Result<Seq<Transfer>, AllocError>
     ensures { IfOk result (λ found. found ≡ stores_behind insn) }
 {
-    match insn {
-        None => Ok(Seq::new(alloc)),
-        Some(insn) => insn_stores(alloc, &insn),
-    }
+    let mut found = Seq::new(alloc);
+    put_stores(&mut found, insn)?;
+    Ok(found)
 }
 
 /// The transfers before an instruction: the stores of what the one before it wrote, and its own loads.
@@ -107,7 +113,8 @@ pub(crate) fn transfers(
 ) -> Result<Seq<Transfer>, AllocError>
     ensures { IfOk result (λ found. found ≡ stores_behind before ++ loads (reads_of insn.now) 1) }
 {
-    let mut found = stores_of(alloc, before)?;
+    let mut found = Seq::new(alloc);
+    put_stores(&mut found, before)?;
     put_loads(&mut found, insn)?;
     Ok(found)
 }

@@ -1,7 +1,7 @@
 -- The transfers of the blocks so far.
 use Rattle.std.proofs.Common.{◌≡◌, take, None}
 use Rattle.std.specs.Prelude.{flat_map}
-use Rattle.alloc_plain.specs.model.Plain.{transfers_from}
+use Rattle.alloc_plain.specs.Plain.{transfers_from}
 use Rattle.alloc_plain.proofs.blocks.all_transfers.Given as goal
 
 abbrev pub invariant-loop-block : goal.invariant-loop-block

@@ -1,6 +1,6 @@
 -- The edges of the blocks so far.
 use Rattle.std.proofs.Common.{◌≡◌, take}
-use Rattle.alloc_plain.specs.model.Plain.{all_edges}
+use Rattle.alloc_plain.specs.Plain.{all_edges}
 use Rattle.alloc_plain.proofs.edges.all_edges.Given as goal
 
 abbrev pub invariant-loop-number : goal.invariant-loop-number

@@ -1,6 +1,6 @@
 -- The edges so far.
 use Rattle.std.proofs.Common.{◌≡◌, ◌++◌, take, map}
-use Rattle.alloc_plain.specs.model.Plain.{stores_behind, edge_code}
+use Rattle.alloc_plain.specs.Plain.{stores_behind, edge_code}
 use Rattle.alloc_plain.proofs.edges.put_edges.Given as goal
 
 abbrev pub invariant-loop-to : goal.invariant-loop-to
