@@ -1,5 +1,6 @@
 -- Why an assembly has no image.
 use Rattle.std.specs.Prelude.{◌≡◌, ℕ, ◌<◌, ◌≤◌, List, Bool}
+use Rattle.bk_memory.specs.Shortage.{MemoryIsShort}
 use Rattle.alpha_isa.specs.Program.{most_words}
 use Rattle.alpha_items.specs.Assembly.{Assembly}
 use Rattle.alpha_items.specs.Layout.{text_words, IsLeastFar}
@@ -16,7 +17,7 @@ pub record HasWords (a : Assembly) (n : ℕ) : Type 0 where
 pub record HasFewWords (a : Assembly) : Type 0 where
   pub most : (n : ℕ) → HasWords a n → n ≤ most_words
 
--- the text has this number of words, which is more than an image may have. Want of memory has no cause here
+-- the text has this number of words, which is more than an image may have, or memory is short
 abbrev pub IsFaultOf : Assembly → AsmFault → Type 0
 IsFaultOf a (CodeTooLong n) = HasWords a n × (most_words < n)
-IsFaultOf a NoMemory = Unit {0}
+IsFaultOf a NoMemory = MemoryIsShort

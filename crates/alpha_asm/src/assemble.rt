@@ -1,6 +1,7 @@
 //! The image of an assembly.
 
 ghost use Rattle.std.specs.Prelude.{◌≡◌, ℕ, [], ◌+◌, ◌-◌, ◌*◌, ◌<◌, ◌≤◌, ◌^◌, length, map, slice_index, IfOk, IfErr};
+ghost use Rattle.bk_memory.specs.Shortage.{MemoryIsShort};
 ghost use Rattle.alpha_isa.specs.Program.{IsLawful, most_words, next_part, text_start};
 ghost use Rattle.alpha_isa.specs.Words.{word_of};
 ghost use Rattle.alpha_items.specs.Assembly.{IsFix, IsWhole};
@@ -18,6 +19,7 @@ use crate::words::put_text;
 use alpha_isa::image::Image;
 use alpha_items::asm::Asm;
 use alpha_items::item::{AsmItem, Fix};
+use bk_memory::memory_is_short;
 use std::alloc::{AllocError, Global};
 
 /// The most words of an image.
@@ -33,9 +35,10 @@ pub enum AsmFault {
 }
 
 impl From<AllocError> for AsmFault {
-    ghost from_gives = { λ _ fault. fault ≡ NoMemory };
+    ghost from_gives = { λ _ fault. (fault ≡ NoMemory) × MemoryIsShort };
 
-    fn from(_error: AllocError) -> AsmFault {
+    fn from(error: AllocError) -> AsmFault {
+        memory_is_short(error);
         AsmFault::NoMemory
     }
 }

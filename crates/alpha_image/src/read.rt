@@ -3,14 +3,17 @@
 ghost use Rattle.std.specs.Prelude.{◌≡◌, ◌+◌, ◌*◌, ◌-◌, ◌≤◌, ◌<◌, ◌++◌, ◌^◌, ◌==◌, List, ℕ, Some, None, IfOk, IfErr, OnOk, IsOk, IsErrOf, IsTrue, MatchResult, MatchOption, slice_get, nat_eq, length, drop, take, flat_map, nat_lt, if◌then◌else◌};
 ghost use Rattle.std.specs.Option.{option_eq};
 ghost use Rattle.std.specs.Int.{w32, from_le_bytes};
+ghost use Rattle.bk_memory.specs.Shortage.{MemoryIsShort};
 ghost use Rattle.alpha_isa.specs.Program.{Program, most_words, most_bytes};
 ghost use Rattle.alpha_isa.specs.ImageFormat.{mark, IsImage, number as number_bytes};
+ghost use Rattle.alpha_image.specs.declared.read.ImageFault.TheVariants.{NoMemory};
 ghost use Rattle.alpha_image.specs.ImageFault as spec;
 ghost use Rattle.alpha_image.specs.ReadImage.{IsFault};
 ghost use Rattle.alpha_image.specs.ImageFault.{differs_at, number_at, version_of, word_count, byte_count, entry_of, zeros_of, text_offset, due_length, version_part_fault, zeros_fault, header_fault, image_fault};
 
 use crate::write::MARK;
 use alpha_isa::image::Image;
+use bk_memory::memory_is_short;
 use std::alloc::{AllocError, Global};
 use thiserror::Error;
 
@@ -23,6 +26,15 @@ pub enum ImageFault {
     /// There was no memory.
     #[error("there was no memory")]
     NoMemory,
+}
+
+impl From<AllocError> for ImageFault {
+    ghost from_gives = { λ _ fault. (fault ≡ NoMemory) × MemoryIsShort };
+
+    fn from(error: AllocError) -> ImageFault {
+        memory_is_short(error);
+        ImageFault::NoMemory
+    }
 }
 
 /// The greatest count of words, and of bytes of data.
@@ -222,11 +234,12 @@ pub fn read_image(alloc: Global, bytes: &[u8]) -> Result<Image, ImageFault>
         None => {}
     }
     let count = header.words as usize;
-    let Ok(words) = read_numbers(alloc, bytes, header.text, count) else {
-        return Err(ImageFault::NoMemory);
+    let words = match read_numbers(alloc, bytes, header.text, count) {
+        Ok(words) => words,
+        Err(error) => return Err(ImageFault::from(error)),
     };
     match Vec::from_slice(alloc, &bytes[header.text + 4 * count..]) {
         Ok(bytes) => Ok(Image::new(words, bytes, header.zeros, header.entry)),
-        Err(_) => Err(ImageFault::NoMemory),
+        Err(error) => Err(ImageFault::from(error)),
     }
 }

@@ -14,14 +14,14 @@ use Rattle.alpha_text.proofs.Steps.{reaches_here, reaches_join}
 pub fault_from : (text : List ℕ) (st : Standing) (p : List ℕ × ℕ) (f : TextFault) → Reaches (lines_of text) Nothing (text, 0) st p → IsFaultFrom (lines_of text) st p f → IsFault text f
 fault_from text st p (fault.Line n) r h = r.wrong n h
 fault_from text st p (fault.Data n) r h = absurd h
-fault_from text st p fault.NoMemory r h = tt
+fault_from text st p fault.NoMemory r h = h
 
 -- the fault of a line that was judged
 pub said_fault : {T E : Type 0} (all : List (List ℕ)) (st : Standing) (start : List ℕ × ℕ) (found : Result (Option T) E) (line : ℕ) (f : TextFault) → IsFaultOf found line f
     → (found ≡ Ok None → WrongFrom all st (start.1 + 1) (lines_of start.0) (is_ended start.0) line) → IsFaultFrom all st start f
 said_fault all st start found line (fault.Line n) h wrong = subst (λ k. WrongFrom all st (start.1 + 1) (lines_of start.0) (is_ended start.0) k) (sym h.1) (wrong h.0)
 said_fault all st start found line (fault.Data n) h wrong = absurd h
-said_fault all st start found line fault.NoMemory h wrong = tt
+said_fault all st start found line fault.NoMemory h wrong = h.1
 
 pub raised : {A : Type 0} (P : TextFault → Type 0) (r : Result A TextFault) (f : TextFault) → P f → IsErrAnd r (λ e. e ≡ f) → IfErr r P
 raised P (Ok a) f h e = tt

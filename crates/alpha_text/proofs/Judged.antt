@@ -1,7 +1,7 @@
 -- What may stand where, by what a line was read as.
-use Rattle.std.proofs.Common.{◌≡◌, ℕ, ◌+◌, ◌-◌, ◌<◌, ◌≤◌, Bool, true, false, List, [], ◌∷◌, ◌++◌, Option, Some, None, Result, Ok, Err, length, take, drop, min, refl, sym, ap, ◌∙◌, subst, arith}
+use Rattle.std.proofs.Common.{◌≡◌, ℕ, ◌+◌, ◌-◌, ◌<◌, ◌≤◌, Bool, true, false, List, [], ◌++◌, Option, Some, None, length, take, drop, min, refl, sym, ap, ◌∙◌, subst, arith}
 use Rattle.std.proofs.lemmas.Bool.Decides.{nat_tests}
-use Rattle.std.specs.Prelude.{IsTrue, nat_lt, is_ok, is_err, position, if◌then◌else◌}
+use Rattle.std.specs.Prelude.{IsTrue, nat_lt, position, if◌then◌else◌}
 use Rattle.std.specs.List.{list_any, position_or_len}
 use Rattle.alpha_items.specs.declared.item.AsmItem.{AsmItem}
 use Rattle.alpha_items.specs.declared.item.Fix.{Fix}
@@ -14,10 +14,6 @@ use Rattle.alpha_text.specs.model.LineMeaning.{IsSpelled, StandsBehind}
 use Rattle.alpha_text.specs.model.Judged.{HasRow, HasFix}
 use Rattle.std.proofs.lemmas.List.{take_all, length-append, length-drop}
 use Rattle.std.proofs.Math.ListN.{drop_of_length-le}
-
-pub pushed : {X E : Type 0} (r : Result (Unit {0}) E) (new old : List X) (x : X) → is_err r ≡ false → new ≡ (if is_ok r then old ++ x ∷ [] else old) → new ≡ old ++ x ∷ []
-pushed (Ok u) new old x e same = same
-pushed (Err f) new old x e same = absurd (cc)
 
 pub no_place : (all : List (List ℕ)) (items : List AsmItem) (n : ℕ) (bytes : List ℕ) (fixes : List Fix) (line : List ℕ) → length bytes ≡ n → ((fix : Fix) → ¬ (HasFix line fixes n fix)) → (form : Form) → ¬ (Says all (Data items n bytes fixes) line form)
 no_place all items n bytes fixes line full none Head says = says.stands
@@ -78,10 +74,6 @@ entry_none items found = (λ t. absurd (cc), λ t. sym nothing ∙ t)
 
     nothing : list_any gives_word (drop (label_index items 0) items) ≡ false
     nothing = ap (list_any gives_word) (drop_of_length-le items end)
-
-pub extended : {X E : Type 0} (r : Result (Unit {0}) E) (new old xs : List X) → is_err r ≡ false → new ≡ (if is_ok r then old ++ xs else old) → new ≡ old ++ xs
-extended (Ok u) new old xs e same = same
-extended (Err f) new old xs e same = absurd (cc)
 
 pub row_says : (all : List (List ℕ)) (items : List AsmItem) (n : ℕ) (bytes line row : List ℕ) (done : ℕ) → done ≡ length bytes → length bytes < n → HasRow line done n row → Says all (Data items n bytes []) line (Row row)
 row_says all items n bytes line row done same room has =

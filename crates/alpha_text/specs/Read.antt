@@ -1,5 +1,6 @@
 -- Why a text is not read.
 use Rattle.std.specs.Prelude.{ℕ, ◌<◌, List}
+use Rattle.bk_memory.specs.Shortage.{MemoryIsShort}
 use Rattle.alpha_isa.specs.Program.{most_bytes}
 use Rattle.alpha_text.specs.declared.fault.TextFault.{TextFault}
 use Rattle.alpha_text.specs.declared.fault.TextFault.TheVariants as fault
@@ -12,8 +13,8 @@ abbrev pub IsCounted : List ℕ → ℕ → Type 0
 IsCounted text n =
     (items : List AsmItem) × (bytes : List ℕ) × (fixes : List Fix) × NoneWrong text (Data items n bytes fixes)
 
--- the first wrong line, or too many bytes where no line is wrong
+-- the first wrong line, too many bytes where no line is wrong, or memory that is short
 abbrev pub IsFault : List ℕ → TextFault → Type 0
 IsFault text (fault.Line n) = FirstWrong text n
 IsFault text (fault.Data n) = IsCounted text n × (most_bytes < n)
-IsFault text fault.NoMemory = Unit {0}
+IsFault text fault.NoMemory = MemoryIsShort

@@ -53,9 +53,7 @@ pub(crate) fn read_bytes(
         let line = lines.due_line()?;
         let found = next_row(alloc, line, bytes.len(), count);
         let row = said_or_fault(found, lines.count())?;
-        if bytes.extend_from_slice(row.as_slice()).is_err() {
-            return Err(TextFault::NoMemory);
-        }
+        bytes.extend_from_slice(row.as_slice())?;
     }
     Ok(bytes)
 }
@@ -123,9 +121,7 @@ pub(crate) fn read_fixes(
     let mut fixes = Vec::new(alloc);
     while let Some(line) = lines.next_line() {
         let fix = due_fix(line, fixes.as_slice(), count, lines.count())?;
-        if fixes.push(fix).is_err() {
-            return Err(TextFault::NoMemory);
-        }
+        fixes.push(fix)?;
     }
     lines.expect_end()?;
     Ok(fixes)

@@ -1,9 +1,12 @@
 //! Why a text was not read.
 
 ghost use Rattle.std.specs.Prelude.{◌≡◌, IfOk, IfErr, Ok, Some};
+ghost use Rattle.bk_memory.specs.Shortage.{MemoryIsShort};
+ghost use Rattle.alpha_text.specs.declared.fault.TextFault.TheVariants.{NoMemory};
 ghost use Rattle.alpha_text.specs.model.Faults.{IsFaultOf};
 
-use std::alloc::AllocError;
+use bk_memory::memory_is_short;
+use std::alloc::{AllocError, AllocFailed};
 use thiserror::Error;
 
 /// Why a text was not read as an assembly.
@@ -21,6 +24,23 @@ pub enum TextFault {
     NoMemory,
 }
 
+impl From<AllocError> for TextFault {
+    ghost from_gives = { λ _ fault. (fault ≡ NoMemory) × MemoryIsShort };
+
+    fn from(error: AllocError) -> TextFault {
+        memory_is_short(error);
+        TextFault::NoMemory
+    }
+}
+
+impl<T: Drop> From<AllocFailed<T>> for TextFault {
+    ghost from_gives = { λ _ fault. (fault ≡ NoMemory) × MemoryIsShort };
+
+    fn from(failed: AllocFailed<T>) -> TextFault {
+        TextFault::from(AllocError::from(failed))
+    }
+}
+
 /// What a line says. Where it says nothing that may stand there, the fault is its number, and else the want of
 /// memory that was met.
 pub(crate) fn said_or_fault<T>(
@@ -33,6 +53,6 @@ pub(crate) fn said_or_fault<T>(
     match found {
         Ok(Some(said)) => Ok(said),
         Ok(None) => Err(TextFault::Line { line }),
-        Err(_) => Err(TextFault::NoMemory),
+        Err(error) => Err(TextFault::from(error)),
     }
 }

@@ -174,12 +174,8 @@ pub(crate) fn read_items(
         match said {
             LineMeaning::Count(n) => return Ok((items, n)),
             LineMeaning::Item(item) => {
-                if add_named(&mut seen, &item).is_err() {
-                    return Err(TextFault::NoMemory);
-                }
-                if items.push(item).is_err() {
-                    return Err(TextFault::NoMemory);
-                }
+                add_named(&mut seen, &item)?;
+                items.push(item)?;
             }
         }
     }

@@ -53,9 +53,7 @@ fn read_parts(alloc: Global, text: &[u8]) -> Result<Parts, TextFault>
     ensures read { IfOk result (λ p. NoneWrong text.now (Data p.items.items p.count p.bytes.items p.fixes.items)) }
     ensures fault { IfErr result (λ fault. IsFault text.now fault) }
 {
-    let Ok(survey) = Survey::of(alloc, text) else {
-        return Err(TextFault::NoMemory);
-    };
+    let survey = Survey::of(alloc, text)?;
     let mut lines = Cursor::new(text);
     read_head(&mut lines)?;
     let (items, count) = read_items(alloc, &mut lines, &survey)?;

@@ -1,6 +1,7 @@
 -- What a store of files tells, and what a read of a file gives.
 use Rattle.std.specs.Prelude.{◌≡◌, ℕ, ◌<◌, ◌≤◌, List, [], ◌++◌, take, length, Result, Ok, Err, Option, unwrap_or, is_none, Bool, ◌||◌, nat_eq}
 use Rattle.std.specs.List.{list_any}
+use Rattle.bk_memory.specs.Shortage.{MemoryIsShort}
 use Rattle.bk_io.specs.Outside.{next_count}
 use Rattle.bk_io.specs.declared.outside.Got.{Got}
 use Rattle.bk_io.specs.declared.outside.Got.TheVariants.{Whole, Cut}
@@ -31,6 +32,11 @@ abbrev pub faults_after_read : Result Got FileFault → ℕ → ℕ
 faults_after_read (Ok got) faults = faults
 faults_after_read (Err Failed) faults = next_count faults
 faults_after_read (Err NoMemory) faults = faults
+
+-- want of memory is answered only where memory is short
+abbrev pub HasCause : FileFault → Type 0
+HasCause Failed = Unit {0}
+HasCause NoMemory = MemoryIsShort
 
 -- how many bytes a read of at most limit bytes may append, by its answer
 abbrev pub IsCount : Result Got FileFault → ℕ → ℕ → Type 0

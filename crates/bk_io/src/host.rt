@@ -5,7 +5,7 @@ ghost use Rattle.std.specs.Prelude.{◌≡◌, ◌≤◌, ◌<◌, ◌+◌, IfOk
 ghost use Rattle.std.specs.Io.KnownBytes.{Keeps, IsAtEnd};
 ghost use Rattle.std.specs.Io.Buffered.{reader_remaining};
 ghost use Rattle.bk_io.specs.Outside.{count_end, faults_after, next_count};
-ghost use Rattle.bk_io.specs.Shelf.{faults_after_read, Appends};
+ghost use Rattle.bk_io.specs.Shelf.{faults_after_read, Appends, HasCause};
 ghost use Rattle.bk_io.specs.Adapters.{GivesByte, Writes};
 ghost use Rattle.bk_io.specs.model.Steps.{WritesSome, AppendsRead, AppendsPart, AppendsNone};
 
@@ -191,7 +191,9 @@ pub struct HostFiles<R: rt::Files + Drop> {
 
 impl<R: rt::Files + Drop> HostFiles<R> {
     /// The files that the runtime reaches. The buffer is all that it allocates.
-    pub fn new(alloc: Global, runtime: R) -> Result<HostFiles<R>, AllocError> {
+    pub fn new(alloc: Global, runtime: R) -> Result<HostFiles<R>, AllocError>
+        ensures count { IfOk result (λ s. s.faults ≡ 0) }
+    {
         Ok(HostFiles {
             runtime,
             chunk: vec![in alloc; 0; CHUNK]?,
@@ -214,6 +216,7 @@ fn append_some<R: Read>(
     ensures len { length chunk.new ≡ length chunk.old }
     ensures err { OnErr result (into.new.items ≡ into.old.items) }
     ensures cause { IfErr result (λ e. AppendsNone e (R.remaining reader.old) (R.remaining reader.new)) }
+    ensures memory { IfErr result HasCause }
 {
     let count = reader.read(chunk)?;
     if count > 0 {
@@ -230,7 +233,9 @@ fn read_up_to<R: Read>(
     limit: u64,
 ) -> Result<Got, FileFault>
     requires { 0 < length chunk.old }
-    ensures { AppendsRead result limit into.old.items into.new.items (R.remaining reader.old) (R.remaining reader.new) }
+    ensures appends { AppendsRead result limit into.old.items into.new.items (R.remaining reader.old)
+        (R.remaining reader.new) }
+    ensures memory { IfErr result HasCause }
 {
     let mut left = limit;
     for _turn in 0..limit {
@@ -260,6 +265,7 @@ fn read_file<R: rt::Files>(
 ) -> Result<Got, FileFault>
     requires { 0 < length chunk.old }
     ensures appends { Appends result limit into.old.items into.new.items }
+    ensures memory { IfErr result HasCause }
     ensures len { length chunk.new ≡ length chunk.old }
 {
     let mut file = fs::open(runtime, name)?;

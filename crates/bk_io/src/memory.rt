@@ -3,7 +3,7 @@
 ghost use Rattle.std.specs.Prelude.{◌≡◌, ◌↔◌, [], IfOk, IsTrue, IsErr, IfErr, Some, IsNone, IfSome, is_ok, not, slice_get, map, Contains, option_copied, bytes_eq};
 ghost use Rattle.std.specs.Map.{lookup};
 ghost use Rattle.bk_io.specs.Outside.{next_count, faults_after, left_after, taken_after, TakesSlice};
-ghost use Rattle.bk_io.specs.Shelf.{is_due, file_of, Appends, AppendsFile};
+ghost use Rattle.bk_io.specs.Shelf.{is_due, file_of, Appends, AppendsFile, HasCause};
 ghost use Rattle.bk_io.specs.Memory.{shelf_at, shelf_of, named, is_put_due, after_put, after_puts, all_put};
 
 use crate::outside::{Failed, FileFault, Files, Got, Sink, Source};
@@ -248,7 +248,7 @@ impl Files for MemFiles {
 fn append(into: &mut Vec<u8>, file: &[u8], limit: u64) -> Result<Got, FileFault>
     ensures appends { Appends result limit into.old.items into.new.items }
     ensures file { AppendsFile result limit file.now into.old.items into.new.items }
-    ensures memory { IfErr result (λ e. e ≡ FileFault.NoMemory) }
+    ensures memory { IfErr result (λ e. (e ≡ FileFault.NoMemory) × HasCause e) }
 {
     let limit = limit as usize;
     let (front, got) = if file.len() < limit {

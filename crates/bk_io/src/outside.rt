@@ -1,9 +1,10 @@
 //! The traits of the outside: a source of bytes, a sink of bytes, and a store of named files.
 
-ghost use Rattle.std.specs.Prelude.{◌≡◌, ℕ, ◌↔◌, List, IfOk, IfSome, IsTrue, IsErrOf, Option, option_map, slice_get};
+ghost use Rattle.std.specs.Prelude.{◌≡◌, ℕ, ◌↔◌, List, IfOk, IfErr, IfSome, IsTrue, IsErrOf, Option, option_map, slice_get};
 ghost use Rattle.bk_io.specs.Outside.{next_count, faults_after, left_after, taken_after, TakesSlice};
-ghost use Rattle.bk_io.specs.Shelf.{Shelf, is_due, file_of, after_call, faults_after_read, Appends, AppendsFile};
+ghost use Rattle.bk_io.specs.Shelf.{Shelf, is_due, file_of, after_call, faults_after_read, Appends, AppendsFile, HasCause};
 
+use bk_memory::memory_is_short;
 use std::alloc::AllocError;
 use std::io;
 use thiserror::Error;
@@ -35,11 +36,13 @@ impl From<io::Error> for FileFault {
 
 /// A list that could not grow is want of memory.
 impl From<AllocError> for FileFault {
+    ghost use Rattle.bk_memory.specs.Shortage.{MemoryIsShort};
     ghost use Rattle.bk_io.specs.declared.outside.FileFault.TheVariants.{NoMemory};
 
-    ghost from_gives = { λ _ fault. fault ≡ NoMemory };
+    ghost from_gives = { λ _ fault. (fault ≡ NoMemory) × MemoryIsShort };
 
-    fn from(_error: AllocError) -> FileFault {
+    fn from(error: AllocError) -> FileFault {
+        memory_is_short(error);
         FileFault::NoMemory
     }
 }
@@ -113,6 +116,7 @@ pub trait Files {
             (λ shelf. AppendsFile result limit (file_of shelf name.now) into.old.items into.new.items) }
         ensures due { IfSome (told self.old)
             (λ shelf. IsErrOf result FileFault.Failed ↔ IsTrue (is_due shelf name.now)) }
+        ensures memory { IfErr result HasCause }
         ensures told { told self.new ≡ option_map after_call (told self.old) }
         ensures count { faults self.new ≡ faults_after_read result (faults self.old) };
 }

@@ -1,14 +1,21 @@
 -- What a function that reads ensures: the outcome of the grammar, unless memory is short. A refusal leaves the
--- cursor at the refused token. After want of memory nothing is known of the cursor.
+-- cursor at the refused token. After want of memory, which comes only of the error of an allocation, nothing is known
+-- of the cursor.
 use Rattle.std.specs.Prelude.{◌≡◌, ◌≢◌, ℕ, List, [], ◌∷◌, Result, Ok, Err}
+use Rattle.bk_memory.specs.Shortage.{MemoryIsShort}
 use Rattle.c_lexer.specs.Pieces.{Lexeme}
 use Rattle.c_expression_parser.specs.declared.cursor.Fault.{Fault}
-use Rattle.c_expression_parser.specs.declared.cursor.Fault.TheVariants.{NoMemory}
+use Rattle.c_expression_parser.specs.declared.cursor.Fault.TheVariants.{Refused, NoMemory}
 use Rattle.c_grammar.specs.Parser.{ParseOutcome}
+
+-- want of memory has its cause
+abbrev pub HasCause : Fault → Type 0
+HasCause Refused = Unit {0}
+HasCause NoMemory = MemoryIsShort
 
 abbrev pub Answers : {A : Type 0} → ParseOutcome A → Result A Fault → List Lexeme → Type 0
 Answers outcome (Ok a) new = outcome ≡ Ok (a, new)
-Answers outcome (Err e) new = e ≢ NoMemory → outcome ≡ Err new
+Answers outcome (Err e) new = (e ≢ NoMemory → outcome ≡ Err new) × HasCause e
 
 -- the offset of the first of these tokens, or this one where there is none
 abbrev pub place_or : ℕ → List Lexeme → ℕ

@@ -7,6 +7,7 @@ ghost use Rattle.c_grammar.specs.Parser as model;
 ghost use Rattle.c_expression_parser.specs.Answers.{Answers, place_or};
 ghost use Rattle.c_expression_parser.specs.declared.cursor.Fault.TheVariants.{Refused};
 
+use bk_memory::memory_is_short;
 use c_lexer::{Keyword, Punct, Token, TokenKind};
 use c_tree::Name;
 use std::alloc::{AllocError, Global};
@@ -23,11 +24,13 @@ pub enum Fault {
 
 impl From<AllocError> for Fault {
     ghost use Rattle.std.specs.Prelude.{◌≡◌};
+    ghost use Rattle.bk_memory.specs.Shortage.{MemoryIsShort};
     ghost use Rattle.c_expression_parser.specs.declared.cursor.Fault.TheVariants.{NoMemory};
 
-    ghost from_gives = { λ _ e. e ≡ NoMemory };
+    ghost from_gives = { λ _ e. (e ≡ NoMemory) × MemoryIsShort };
 
-    fn from(_error: AllocError) -> Fault {
+    fn from(error: AllocError) -> Fault {
+        memory_is_short(error);
         Fault::NoMemory
     }
 }

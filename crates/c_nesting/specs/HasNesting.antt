@@ -1,5 +1,6 @@
 -- What a text is answered: its tokens, its nesting, or why not.
 use Rattle.std.specs.Prelude.{◌≡◌, ℕ, List, length}
+use Rattle.bk_memory.specs.Shortage.{MemoryIsShort}
 use Rattle.c_lexer.specs.declared.token.Token.{Token}
 use Rattle.c_lexer.specs.Pieces.{Toks, Tokens, FaultAt, lexemes}
 use Rattle.c_nesting.specs.declared.fault.ScanFault.{ScanFault}
@@ -24,7 +25,7 @@ pub record HasNesting (text : List ℕ) (n : ℕ) : Type 0 where
   pub are_tokens : Tokens text tokens
   pub nesting : n ≡ nesting_of tokens.items
 
--- The text has a place at which no token begins, and this is the first; or memory ran out.
+-- The text has a place at which no token begins, and this is the first; or memory is short.
 abbrev pub IsNoTokens : List ℕ → ScanFault → Type 0
 IsNoTokens text (Lex at) = FaultAt text at
-IsNoTokens text NoMemory = Unit {0}
+IsNoTokens text NoMemory = MemoryIsShort

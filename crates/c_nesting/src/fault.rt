@@ -1,8 +1,10 @@
 //! Why a text gives no tokens.
 
 ghost use Rattle.std.specs.Prelude.{◌≡◌};
+ghost use Rattle.bk_memory.specs.Shortage.{MemoryIsShort};
 ghost use Rattle.c_nesting.specs.declared.fault.ScanFault.TheVariants.{Lex, NoMemory};
 
+use bk_memory::memory_is_short;
 use c_lexer::LexFault;
 use std::alloc::{AllocError, AllocFailed};
 use thiserror::Error;
@@ -26,17 +28,18 @@ impl From<LexFault> for ScanFault {
 }
 
 impl From<AllocError> for ScanFault {
-    ghost from_gives = { λ _ e. e ≡ NoMemory };
+    ghost from_gives = { λ _ e. (e ≡ NoMemory) × MemoryIsShort };
 
-    fn from(_fault: AllocError) -> ScanFault {
+    fn from(error: AllocError) -> ScanFault {
+        memory_is_short(error);
         ScanFault::NoMemory
     }
 }
 
 impl<T: Drop> From<AllocFailed<T>> for ScanFault {
-    ghost from_gives = { λ _ e. e ≡ NoMemory };
+    ghost from_gives = { λ _ e. (e ≡ NoMemory) × MemoryIsShort };
 
-    fn from(_fault: AllocFailed<T>) -> ScanFault {
-        ScanFault::NoMemory
+    fn from(failed: AllocFailed<T>) -> ScanFault {
+        ScanFault::from(AllocError::from(failed))
     }
 }

@@ -1,10 +1,10 @@
 -- A whole text: its tokens, its nesting and its reading.
-use Rattle.std.proofs.Common.{◌≡◌, ℕ, ◌≤◌, ◌*◌, List, length, map, Result, Ok, Err, sym, ap, ◌∙◌, subst, arith}
+use Rattle.std.proofs.Common.{◌≡◌, ℕ, ◌≤◌, ◌*◌, ◌<◌, List, length, map, Result, Ok, Err, inl, inr, sym, ap, ◌∙◌, subst, arith}
 use Rattle.std.specs.Prelude.{IfOk, IfErr}
 use Rattle.c_lexer.specs.declared.token.Token.{Token}
-use Rattle.c_lexer.specs.Pieces.{Lexeme}
+use Rattle.c_lexer.specs.Pieces.{Lexeme, Toks}
 use Rattle.c_tree.specs.declared.declarations.TranslationUnit.{TranslationUnit}
-use Rattle.c_tree.specs.Nodes.{unit_nodes}
+use Rattle.c_tree.specs.Nodes.{unit_nodes, unit_height}
 use Rattle.c_nesting.specs.Nesting.{nesting, nesting_of}
 use Rattle.c_lexer.specs.Limits.{text_limit}
 use Rattle.c_nesting.specs.HasNesting.{IsTokens, HasNesting, toks_of, role_of_token}
@@ -17,7 +17,7 @@ use Rattle.c_grammar.proofs.FewUnits.{unit_few}
 use Rattle.c_expression_parser.proofs.Lexemes.{length_lexemes}
 use Rattle.c_parser.specs.declared.fault.ParseFault.{ParseFault}
 use Rattle.c_parser.specs.declared.fault.ParseFault.TheVariants.{Lex, Nesting, Syntax, NoMemory}
-use Rattle.c_parser.specs.Limits.{most_nesting, most_nodes}
+use Rattle.c_parser.specs.Limits.{most_nesting, most_nodes, most_height}
 use Rattle.c_parser.specs.Reading.{IsRead, IsNotRead}
 use Rattle.c_parser.specs.model.Gives.{Gives}
 
@@ -32,6 +32,11 @@ within_limit text ts n e within = subst (λ m. m ≤ most_nesting) (nesting-role
 
 not_both : (o : Result TranslationUnit (List Lexeme)) (tree : TranslationUnit) (rest : List Lexeme) → o ≡ Ok tree → o ≡ Err rest → ⊥
 not_both o tree rest given refused = cc
+
+-- a tree that is not higher than is taken, or the refusal of one that is
+pub low_gives : (toks : Toks) (tree : TranslationUnit) (r : Result TranslationUnit ParseFault) → unit toks ≡ Ok tree → IfOk r (λ u. u ≡ tree) → IfErr r (λ e. (e ≡ NoMemory) × (most_height < unit_height tree)) → Gives toks r
+low_gives toks tree (Ok u) spelled same high = spelled ∙ ap Ok (sym same)
+low_gives toks tree (Err e) spelled same high = subst (λ e. Gives toks (Err e)) (sym high.0) (inr (record { tree = tree; spelled = spelled; high = high.1 }))
 
 pub read_of : (text : List ℕ) (ts : List Token) (r : Result TranslationUnit ParseFault) → IsTokens text ts → nesting_of (toks_of text ts).items ≤ most_nesting → Gives (toks_of text ts) r → IfOk r (IsRead text)
 read_of text ts (Ok tree) are within gives = record { toks = toks_of text ts; are_tokens = are; within = within; reads = sound (toks_of text ts) tree gives }
@@ -50,7 +55,12 @@ not_read_of text ts (Err (Syntax at)) are within gives = record {
   refused = refused_from (toks_of text ts) gives.rest gives.refused;
   place = gives.place;
 }
-not_read_of text ts (Err NoMemory) are within gives = tt
+not_read_of text ts (Err NoMemory) are within (inl short) = inl short
+not_read_of text ts (Err NoMemory) are within (inr high) = inr (record {
+  tree = high.tree;
+  read = record { toks = toks_of text ts; are_tokens = are; within = within; reads = sound (toks_of text ts) high.tree high.spelled };
+  high = high.high;
+})
 
 pub few_of : (text : List ℕ) (ts : List Token) (r : Result TranslationUnit ParseFault) → length ts ≤ length text → length text ≤ text_limit → Gives (toks_of text ts) r → IfOk r (λ tree. unit_nodes tree ≤ most_nodes)
 few_of text ts (Ok tree) few short gives =

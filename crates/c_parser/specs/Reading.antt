@@ -1,7 +1,9 @@
 -- What a text is read as, and why it is not.
-use Rattle.std.specs.Prelude.{◌≡◌, ℕ, ◌≤◌, ◌<◌, List}
+use Rattle.std.specs.Prelude.{◌≡◌, ℕ, ◌≤◌, ◌<◌, ◌⊎◌, List}
+use Rattle.bk_memory.specs.Shortage.{MemoryIsShort}
 use Rattle.c_lexer.specs.Pieces.{Lexeme, Toks, Tokens, FaultAt}
 use Rattle.c_tree.specs.declared.declarations.TranslationUnit.{TranslationUnit}
+use Rattle.c_tree.specs.Nodes.{unit_height}
 use Rattle.c_nesting.specs.Nesting.{nesting_of}
 use Rattle.c_nesting.specs.HasNesting.{HasNesting}
 use Rattle.c_grammar.specs.Units.{Reads}
@@ -9,7 +11,7 @@ use Rattle.c_grammar.specs.Refused.{RefusedFrom}
 use Rattle.c_expression_parser.specs.Answers.{place_or}
 use Rattle.c_parser.specs.declared.fault.ParseFault.{ParseFault}
 use Rattle.c_parser.specs.declared.fault.ParseFault.TheVariants.{Lex, Nesting, Syntax, NoMemory}
-use Rattle.c_parser.specs.Limits.{most_nesting}
+use Rattle.c_parser.specs.Limits.{most_nesting, most_height}
 
 -- The text is all tokens, of a nesting within the limit, and the unit is a reading of them (C99 6.9).
 pub record IsRead (text : List ℕ) (tree : TranslationUnit) : Type 0 where
@@ -30,8 +32,14 @@ pub record HasNoReading (text : List ℕ) (at : ℕ) : Type 0 where
   pub refused : RefusedFrom toks.items rest
   pub place : at ≡ place_or toks.size rest
 
+-- The text has a tree that is higher than is taken.
+pub record IsTooHigh (text : List ℕ) : Type 0 where
+  pub tree : TranslationUnit
+  pub read : IsRead text tree
+  pub high : most_height < unit_height tree
+
 abbrev pub IsNotRead : List ℕ → ParseFault → Type 0
 IsNotRead text (Lex at) = FaultAt text at
 IsNotRead text (Nesting counted) = HasNesting text counted × (most_nesting < counted)
 IsNotRead text (Syntax at) = HasNoReading text at
-IsNotRead text NoMemory = Unit {0}
+IsNotRead text NoMemory = MemoryIsShort ⊎ IsTooHigh text

@@ -1,10 +1,14 @@
 //! Why a text is not read.
 
 ghost use Rattle.std.specs.Prelude.{◌≡◌};
+ghost use Rattle.bk_memory.specs.Shortage.{MemoryIsShort};
+ghost use Rattle.c_parser.specs.declared.fault.ParseFault.TheVariants.{NoMemory};
 ghost use Rattle.c_parser.specs.model.Faults as faults;
 
+use bk_memory::memory_is_short;
 use c_expression_parser::Fault;
 use c_nesting::ScanFault;
+use std::alloc::AllocError;
 use thiserror::Error;
 
 /// Why a text is not read.
@@ -23,6 +27,15 @@ pub enum ParseFault {
     /// taken.
     #[error("out of memory")]
     NoMemory,
+}
+
+impl From<AllocError> for ParseFault {
+    ghost from_gives = { λ _ e. (e ≡ NoMemory) × MemoryIsShort };
+
+    fn from(error: AllocError) -> ParseFault {
+        memory_is_short(error);
+        ParseFault::NoMemory
+    }
 }
 
 impl ParseFault {

@@ -78,7 +78,7 @@ fn unit_within(alloc: Global, text: &[u8], tokens: &[Token]) -> Result<Translati
     ensures height { IfOk result (λ unit. unit_height unit ≤ most_height) }
 {
     match nesting_of(alloc, tokens) {
-        Err(_) => Err(ParseFault::NoMemory),
+        Err(error) => Err(ParseFault::from(error)),
         Ok(counted) => match nests_within(counted) {
             Err(fault) => Err(fault),
             Ok(()) => unit_of(alloc, text, tokens),

@@ -36,11 +36,11 @@ few_words text a n low is fault =
 pub text_cause : (text : List ℕ) (f : TextFault) → length text ≤ 67108864 → IsFault text f → IsCause (RefusesAssembly (Some text)) (outcome_of_text_fault f)
 text_cause text (lines.Line n) low h = (low, h)
 text_cause text (lines.Data n) low h = absurd (few_bytes text n low h)
-text_cause text lines.NoMemory low h = tt
+text_cause text lines.NoMemory low h = inl h
 
 pub asm_cause : (text : List ℕ) (a : Assembly) (f : AsmFault) → length text ≤ 67108864 → Texts text a → IsFaultOf a f → IsCause (RefusesAssembly (Some text)) (outcome_of_asm_fault f)
 asm_cause text a (asm.CodeTooLong n) low is h = absurd (few_words text a n low is h)
-asm_cause text a asm.NoMemory low is h = tt
+asm_cause text a asm.NoMemory low is h = inl h
 
 -- none of these outcomes is a fault of the outside
 pub text_no_fault : (f : TextFault) → (outcome_of_text_fault f ≢ FileFault) × (outcome_of_text_fault f ≢ InputFault) × (outcome_of_text_fault f ≢ WriteFault)
@@ -84,7 +84,7 @@ none_told (Some shelf) name text answer front n = none_file (file_of shelf name)
 
 cause_told : (told : Option Shelf) (name text : List ℕ) (answer : Outcome) → IfSome told (λ shelf. IsFront 67108865 (file_of shelf name) text) → IsCause (RefusesAssembly (Some text)) answer → IsCause (RefusesAssembly (text_of told name)) answer
 cause_told told name text FileFault front c = tt
-cause_told told name text NoMemory front c = tt
+cause_told told name text NoMemory front c = c
 cause_told told name text (Limit Text counted) front c = none_told told name text (Limit Text counted) front c
 cause_told told name text (BadAsm line) front c = none_told told name text (BadAsm line) front c
 cause_told told name text _ front c = absurd c

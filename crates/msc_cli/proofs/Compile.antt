@@ -7,13 +7,16 @@ use Rattle.c_mean.specs.Small.{Expression, SmallUnit, IsSmall, ArePuts, written_
 use Rattle.alpha_isa.specs.Program.{Program}
 use Rattle.msc_cli.specs.SmallImage.{small_program}
 use Rattle.msc_cli.specs.Same.{Same}
-use Rattle.bk_io.specs.Shelf.{Shelf, file_of}
+use Rattle.bk_io.specs.Shelf.{Shelf, file_of, HasCause as HasFileCause}
+use Rattle.bk_io.specs.declared.outside.FileFault.{FileFault as Fault}
+use Rattle.bk_io.specs.declared.outside.FileFault.TheVariants as file
 use Rattle.msc_cli.specs.declared.outcome.Outcome.{Outcome}
 use Rattle.msc_cli.specs.declared.outcome.Outcome.TheVariants.{FileFault, NoMemory}
 use Rattle.msc_cli.specs.declared.read_small.ReadFault.{ReadFault}
 use Rattle.msc_cli.specs.declared.read_small.ReadFault.TheVariants as read
-use Rattle.msc_cli.specs.model.Causes.{outcome_of_read_fault}
+use Rattle.msc_cli.specs.model.Causes.{outcome_of_read_fault, outcome_of_file_fault}
 use Rattle.msc_cli.specs.model.FileFront.{IsFront}
+use Rattle.msc_cli.specs.ReadSmall.{HasCause}
 use Rattle.msc_cli.specs.FromFile.{text_of, IsCause}
 use Rattle.msc_cli.specs.BuildImage.{IsCompiled, IsRefused, RefusesText, Compiles}
 use Rattle.msc_cli.specs.Output.{file_faults_after}
@@ -63,9 +66,9 @@ refused_told None name text front none = tt
 refused_told (Some shelf) name text front none = no_file (file_of shelf name) text front none
 
 -- why there is no image of a text
-pub text_cause : (told : Option Shelf) (name text : List ℕ) (f : ReadFault) → IfSome told (λ shelf. IsFront 4097 (file_of shelf name) text) → (f ≡ read.Form → IsRefused text) → IsCause (RefusesText (text_of told name)) (outcome_of_read_fault f)
-text_cause told name text read.Form front none = refused_told told name text front (none refl)
-text_cause told name text read.NoMemory front none = tt
+pub text_cause : (told : Option Shelf) (name text : List ℕ) (f : ReadFault) → IfSome told (λ shelf. IsFront 4097 (file_of shelf name) text) → (f ≡ read.Form → IsRefused text) → HasCause f → IsCause (RefusesText (text_of told name)) (outcome_of_read_fault f)
+text_cause told name text read.Form front none cause = refused_told told name text front (none refl)
+text_cause told name text read.NoMemory front none cause = inl cause
 
 pub no_file_fault : (f : ReadFault) → outcome_of_read_fault f ≡ FileFault → ⊥
 no_file_fault read.Form e = cc
@@ -78,5 +81,11 @@ same_count read.NoMemory n = refl
 -- a cause that is none of what the file holds is one whatever is refused
 pub any_cause : (refuses : Outcome → Type 0) (o : Outcome) → IsCause (λ _. ⊥) o → IsCause refuses o
 any_cause refuses FileFault h = tt
-any_cause refuses NoMemory h = tt
+any_cause refuses NoMemory (inl short) = inl short
+any_cause refuses NoMemory (inr none) = absurd none
 any_cause refuses _ h = absurd h
+
+-- why a file is not read
+pub file_cause : (f : Fault) → HasFileCause f → IsCause (λ _. ⊥) (outcome_of_file_fault f)
+file_cause file.Failed cause = tt
+file_cause file.NoMemory cause = inl cause

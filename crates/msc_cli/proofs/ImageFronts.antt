@@ -41,7 +41,7 @@ image_told (Some shelf) name bytes p front is = image_is (file_of shelf name) by
 -- why there is no image in a file
 pub bytes_cause : (told : Option Shelf) (name bytes : List ℕ) (f : ImageFault) → IfSome told (λ shelf. IsFront image_limit (file_of shelf name) bytes) → IsFault f bytes → IsCause (RefusesBytes (text_of told name)) (outcome_of_image_fault f)
 bytes_cause told name bytes (fault.BadImage at) front e = fault_told told name bytes at front e
-bytes_cause told name bytes fault.NoMemory front e = tt
+bytes_cause told name bytes fault.NoMemory front e = inl e.1
 
 pub no_file_fault : (f : ImageFault) → outcome_of_image_fault f ≡ FileFault → ⊥
 no_file_fault (fault.BadImage at) e = cc

@@ -2,7 +2,9 @@
 use Rattle.std.proofs.Common.{◌≡◌, ℕ, ◌≤◌, List, inl, inr, length, take, ap, subst, arith, length-take, Option, Some, None, IfSome}
 use Rattle.bk_io.specs.Shelf.{Shelf, file_of}
 use Rattle.c_tree.specs.declared.declarations.TranslationUnit.{TranslationUnit}
+use Rattle.c_parser.specs.declared.fault.ParseFault.{ParseFault}
 use Rattle.c_parser.specs.declared.fault.ParseFault.TheVariants as fault
+use Rattle.c_parser.specs.Reading.{IsNotRead}
 use Rattle.c_parser.proofs.OneAnswer.{read_or_refused}
 use Rattle.msc_cli.specs.declared.outcome.Outcome.{Outcome}
 use Rattle.msc_cli.specs.declared.outcome.Outcome.TheVariants.{FileFault, Refused, Limit, NoMemory}
@@ -10,7 +12,8 @@ use Rattle.msc_cli.specs.declared.outcome.SourceFault.TheVariants.{Lex, Syntax}
 use Rattle.msc_cli.specs.declared.outcome.Which.TheVariants.{Text, Nesting}
 use Rattle.msc_cli.specs.model.FileFront.{IsFront}
 use Rattle.msc_cli.specs.FromFile.{IsCause, text_of}
-use Rattle.msc_cli.specs.PrintTree.{Spells, SpellsNone, RefusesTree, Prints}
+use Rattle.msc_cli.specs.PrintTree.{Spells, SpellsNone, HasHighTree, RefusesTree, Prints}
+use Rattle.msc_cli.specs.model.Causes.{outcome_of_parse_fault}
 
 -- a front within the limit is the whole file
 short : (file text : List ℕ) → text ≡ take 4194305 file → 4194305 ≤ length file → length text ≤ 4194304 → ⊥
@@ -44,9 +47,28 @@ none_told : (told : Option Shelf) (name text : List ℕ) (answer : Outcome) → 
 none_told None name text answer front n = tt
 none_told (Some shelf) name text answer front n = none_file (file_of shelf name) text answer front n
 
+high_file : (file text : List ℕ) → IsFront 4194305 file text → HasHighTree text → HasHighTree file
+high_file file text front h = elim front [
+  | inl w ↦ subst HasHighTree w.0 h
+  | inr w ↦ absurd (short file text w.0 w.1 h.0)
+]
+
+high_told : (told : Option Shelf) (name text : List ℕ) → IfSome told (λ shelf. IsFront 4194305 (file_of shelf name) text) → HasHighTree text → IfSome (text_of told name) HasHighTree
+high_told None name text front h = tt
+high_told (Some shelf) name text front h = high_file (file_of shelf name) text front h
+
+-- why a text has no tree that is printed
+pub parse_cause : (text : List ℕ) (f : ParseFault) → length text ≤ 4194304 → IsNotRead text f → IsCause (RefusesTree (Some text)) (outcome_of_parse_fault f)
+parse_cause text (fault.Lex at) low h = (low, h)
+parse_cause text (fault.Nesting counted) low h = (low, h.0, h.1)
+parse_cause text (fault.Syntax at) low h = (low, h)
+parse_cause text fault.NoMemory low (inl short) = inl short
+parse_cause text fault.NoMemory low (inr high) = inr (low, high)
+
 cause_told : (told : Option Shelf) (name text : List ℕ) (answer : Outcome) → IfSome told (λ shelf. IsFront 4194305 (file_of shelf name) text) → IsCause (RefusesTree (Some text)) answer → IsCause (RefusesTree (text_of told name)) answer
 cause_told told name text FileFault front c = tt
-cause_told told name text NoMemory front c = tt
+cause_told told name text NoMemory front (inl short) = inl short
+cause_told told name text NoMemory front (inr high) = inr (high_told told name text front high)
 cause_told told name text (Refused source) front c = none_told told name text (Refused source) front c
 cause_told told name text (Limit which counted) front c = none_told told name text (Limit which counted) front c
 cause_told told name text _ front c = absurd c

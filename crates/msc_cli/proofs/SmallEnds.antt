@@ -53,7 +53,8 @@ by_ending p u input ending.WriteFault before after d none b = EndsWith.write_fau
 
 by_cause : (text : List ℕ) (u : SmallUnit) (answer : Outcome) → IsSmall text u → answer ≢ FileFault → IsCause (RefusesText (Some text)) answer → EndsWith (status_of u) answer
 by_cause text u FileFault small other c = absurd (other refl)
-by_cause text u NoMemory small other c = EndsWith.no_memory
+by_cause text u NoMemory small other (inl short) = EndsWith.no_memory short
+by_cause text u NoMemory small other (inr none) = absurd none
 by_cause text u (Refused Form) small other c = absurd (c u small)
 by_cause text u _ small other c = absurd c
 
@@ -61,7 +62,7 @@ pub ends : (text input : List ℕ) (u : SmallUnit) (answer : Outcome) (before af
 ends text input u answer before after small told runs other = elim runs [
   | inl c ↦ by_cause text u answer small other c.0
   | inr m ↦ elim m.2 [
-    | inl none ↦ subst (EndsWith (status_of u)) (sym none.0) EndsWith.no_memory
+    | inl none ↦ subst (EndsWith (status_of u)) (sym none.0) (EndsWith.no_memory none.2)
     | inr run ↦ subst (EndsWith (status_of u)) (sym run.1) (by_ending m.0 u input run.0 before after (done text input u m.0 small m.1) (asks_none text input u m.0 small m.1) (run.2 input told))
   ]
 ]

@@ -1,5 +1,6 @@
 -- What `build` answers, and what it writes.
 use Rattle.std.specs.Prelude.{◌≡◌, ℕ, ◌⊎◌, List, Option, IfSome}
+use Rattle.bk_memory.specs.Shortage.{MemoryIsShort}
 use Rattle.bk_io.specs.Outside.{taken_with}
 use Rattle.c_mean.specs.Behaviour.{Done}
 use Rattle.c_mean.specs.Small.{SmallUnit, IsSmall, written_by, status_of, behave_c, meaning}
@@ -48,7 +49,8 @@ PutsBytes done bytes answer old new =
 -- the bytes of an image are put, or memory is short
 abbrev pub WritesImage : Program → Outcome → Option (List ℕ) → Option (List ℕ) → Type 0
 WritesImage p answer old new =
-    ((answer ≡ NoMemory) × (new ≡ old)) ⊎ (IsLawful p × PutsBytes Built (image_spelling p) answer old new)
+    ((answer ≡ NoMemory) × (new ≡ old) × MemoryIsShort)
+    ⊎ (IsLawful p × PutsBytes Built (image_spelling p) answer old new)
 
 -- What `build` answers for a text, where it is told, and what the output took.
 abbrev pub Builds : Option (List ℕ) → Outcome → Option (List ℕ) → Option (List ℕ) → Type 0

@@ -1,5 +1,6 @@
 -- What is read of a file, what is made of it, and what is answered where nothing is made.
 use Rattle.std.specs.Prelude.{◌≡◌, ℕ, ◌⊎◌, List, Option, option_map}
+use Rattle.bk_memory.specs.Shortage.{MemoryIsShort}
 use Rattle.bk_io.specs.Shelf.{Shelf, file_of}
 use Rattle.msc_cli.specs.declared.outcome.Outcome.{Outcome}
 use Rattle.msc_cli.specs.declared.outcome.Outcome.TheVariants.{FileFault, NoMemory}
@@ -8,10 +9,11 @@ use Rattle.msc_cli.specs.declared.outcome.Outcome.TheVariants.{FileFault, NoMemo
 abbrev pub text_of : Option Shelf → List ℕ → Option (List ℕ)
 text_of told name = option_map (λ shelf. file_of shelf name) told
 
--- Why there is nothing to go on with: the file was not read, memory is short, or what the file holds is refused.
+-- Why there is nothing to go on with: the file was not read, memory is short, or what the file holds is refused, which
+-- may be for want of memory too.
 abbrev pub IsCause : (Outcome → Type 0) → Outcome → Type 0
 IsCause refuses FileFault = Unit {0}
-IsCause refuses NoMemory = Unit {0}
+IsCause refuses NoMemory = MemoryIsShort ⊎ refuses NoMemory
 IsCause refuses outcome = refuses outcome
 
 -- Either nothing is made of the file, for a cause, and nothing is done, or something is made of it and is gone on with.

@@ -4,6 +4,7 @@ pub mod SmallImage
 pub mod Output
 pub mod Outcome
 pub mod Request
+pub mod ReadSmall
 pub mod FromFile
 pub mod BuildImage
 pub mod RunImage

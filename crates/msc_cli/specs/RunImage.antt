@@ -1,5 +1,6 @@
 -- What is answered where an image is run, and what that did to the input and the output.
 use Rattle.std.specs.Prelude.{◌≡◌, ℕ, ◌⊎◌, List, Option, Some, IfSome}
+use Rattle.bk_memory.specs.Shortage.{MemoryIsShort}
 use Rattle.alpha_isa.specs.Program.{Program}
 use Rattle.alpha_isa.specs.ImageFormat.{IsImage}
 use Rattle.alpha_run.specs.declared.ending.Ending.{Ending}
@@ -29,7 +30,8 @@ RunsBy p e before after =
 -- what is answered for an image: how its run ends, or want of memory, before anything is read or put
 abbrev pub RunsImage : Program → Outcome → Traffic → Traffic → Type 0
 RunsImage p answer before after =
-    ((answer ≡ NoMemory) × (after ≡ before)) ⊎ ((e : Ending) × (answer ≡ outcome_of_ending e) × RunsBy p e before after)
+    ((answer ≡ NoMemory) × (after ≡ before) × MemoryIsShort)
+    ⊎ ((e : Ending) × (answer ≡ outcome_of_ending e) × RunsBy p e before after)
 
 -- What `run` answers for a text, where it is told.
 abbrev pub Runs : Option (List ℕ) → Outcome → Traffic → Traffic → Type 0
@@ -52,4 +54,4 @@ Executes bytes = Does (RefusesBytes bytes) (Holds bytes) RunsImage
 pub data EndsWith (status : ℕ) : Outcome → Type 0 where
   ran : EndsWith status (Ran status)
   write_fault : EndsWith status WriteFault
-  no_memory : EndsWith status NoMemory
+  no_memory : MemoryIsShort → EndsWith status NoMemory

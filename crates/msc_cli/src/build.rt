@@ -35,10 +35,10 @@ pub(crate) fn write_image<O: Sink>(alloc: Global, image: &Image, out: &mut O) ->
     ensures no_file { result ≢ Outcome.FileFault }
     ensures no_input { result ≢ Outcome.InputFault }
 {
-    let Ok(bytes) = image_bytes(alloc, image) else {
-        return Outcome::NoMemory;
-    };
-    write_bytes(out, bytes.as_slice(), Outcome::Built)
+    match image_bytes(alloc, image) {
+        Ok(bytes) => write_bytes(out, bytes.as_slice(), Outcome::Built),
+        Err(error) => Outcome::from(error),
+    }
 }
 
 /// Writes bytes. The outcome is this one, if they were written.

@@ -4,6 +4,7 @@ ghost use Rattle.std.specs.Prelude.{◌≡◌, ◌↔◌, IfOk, IfErr, IfSome, I
 ghost use Rattle.bk_io.specs.Shelf.{is_due, file_of, after_call};
 ghost use Rattle.msc_cli.specs.model.Causes as spec;
 ghost use Rattle.msc_cli.specs.model.FileFront.{IsFront};
+ghost use Rattle.msc_cli.specs.ReadSmall.{HasCause};
 ghost use Rattle.msc_cli.specs.FromFile.{text_of, IsCause};
 ghost use Rattle.msc_cli.specs.BuildImage.{IsCompiled, IsRefused, RefusesText, Compiles};
 ghost use Rattle.msc_cli.specs.RunImage.{RefusesBytes, Holds};
@@ -54,6 +55,7 @@ fn outcome_of_image_fault(fault: ImageFault) -> Outcome
 }
 
 /// Reads at most `limit` bytes of a file.
+#[tactic(auto, using(crate::proofs::Compile::file_cause))]
 pub(crate) fn read_file<F: Files>(
     alloc: Global,
     files: &mut F,
@@ -79,11 +81,12 @@ pub(crate) fn read_file<F: Files>(
 fn compile(alloc: Global, text: &[u8]) -> Result<Image, ReadFault>
     ensures compiled { IfOk result (IsCompiled text.now) }
     ensures form { IsErrOf result ReadFault.Form → IsRefused text.now }
+    ensures memory { IfErr result HasCause }
 {
     let small = read_small(alloc, text)?;
     match small_image(alloc, &small) {
         Ok(image) => Ok(image),
-        Err(_) => Err(ReadFault::NoMemory),
+        Err(error) => Err(ReadFault::from(error)),
     }
 }
 

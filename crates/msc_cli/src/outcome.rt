@@ -1,13 +1,17 @@
 //! How a call of the compiler ends: its outcome, the line that it writes, and the status of the process.
 
 ghost use Rattle.std.specs.Prelude.{◌≡◌};
+ghost use Rattle.bk_memory.specs.Shortage.{MemoryIsShort};
 ghost use Rattle.bk_io.specs.Outside.{faults_after, TakesSlice};
+ghost use Rattle.msc_cli.specs.declared.outcome.Outcome.TheVariants.{NoMemory};
 ghost use Rattle.msc_cli.specs.Outcome.{line_of, words_of, number_of, line_with, status_of};
 ghost use Rattle.msc_cli.specs.Output.{TookUnlessFault};
 
 use crate::output::put_three;
 use bk_io::outside::{Failed, Sink};
+use bk_memory::memory_is_short;
 use itoa::Buffer;
+use std::alloc::AllocError;
 use thiserror::Error;
 
 /// Why a C text was refused.
@@ -70,6 +74,15 @@ pub enum Outcome {
     BadAsm { line: u64 },
     /// There was no memory.
     NoMemory,
+}
+
+impl From<AllocError> for Outcome {
+    ghost from_gives = { λ _ outcome. (outcome ≡ NoMemory) × MemoryIsShort };
+
+    fn from(error: AllocError) -> Outcome {
+        memory_is_short(error);
+        Outcome::NoMemory
+    }
 }
 
 /// The status of the process for an outcome.

@@ -51,6 +51,7 @@ pub fn print<F: Files, O: Sink>(alloc: Global, name: &str, files: &mut F, out: &
 }
 
 /// Writes the text of the syntax tree that a text spells.
+#[tactic(auto, using(crate::proofs::PrintTrees::parse_cause))]
 fn print_text<O: Sink>(alloc: Global, text: &[u8], out: &mut O) -> Outcome
     ensures answer { Prints (Some text.now) result (O.taken out.old) (O.taken out.new) }
     ensures count { O.faults out.new ≡ output_faults_after result (O.faults out.old) }
@@ -77,8 +78,8 @@ fn write_tree<O: Sink>(alloc: Global, unit: &TranslationUnit, out: &mut O) -> Ou
     ensures no_file { result ≢ Outcome.FileFault }
     ensures no_input { result ≢ Outcome.InputFault }
 {
-    let Ok(bytes) = tree_text(alloc, unit) else {
-        return Outcome::NoMemory;
-    };
-    write_bytes(out, bytes.as_slice(), Outcome::Printed)
+    match tree_text(alloc, unit) {
+        Ok(bytes) => write_bytes(out, bytes.as_slice(), Outcome::Printed),
+        Err(error) => Outcome::from(error),
+    }
 }

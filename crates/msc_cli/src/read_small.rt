@@ -4,10 +4,14 @@ ghost use Rattle.std.specs.Prelude.{◌≡◌, ◌≤◌, ◌<◌, length, true,
 ghost use Rattle.c_mean.specs.Small.{SmallUnit, IsSmall, most_text, written_by, status_of};
 ghost use Rattle.c_mean.specs.model.SmallModel.{values};
 ghost use Rattle.c_mean.specs.model.SmallModel as model;
+ghost use Rattle.bk_memory.specs.Shortage.{MemoryIsShort};
+ghost use Rattle.msc_cli.specs.declared.read_small.ReadFault.TheVariants.{NoMemory};
+ghost use Rattle.msc_cli.specs.ReadSmall.{HasCause};
 
 use crate::cursor::Cursor;
 use crate::expression::expression;
-use std::alloc::Global;
+use bk_memory::memory_is_short;
+use std::alloc::{AllocError, AllocFailed, Global};
 use thiserror::Error;
 
 /// How long a text may be, in bytes.
@@ -34,12 +38,30 @@ pub enum ReadFault {
     NoMemory,
 }
 
+impl From<AllocError> for ReadFault {
+    ghost from_gives = { λ _ fault. (fault ≡ NoMemory) × MemoryIsShort };
+
+    fn from(error: AllocError) -> ReadFault {
+        memory_is_short(error);
+        ReadFault::NoMemory
+    }
+}
+
+impl<T: Drop> From<AllocFailed<T>> for ReadFault {
+    ghost from_gives = { λ _ fault. (fault ≡ NoMemory) × MemoryIsShort };
+
+    fn from(failed: AllocFailed<T>) -> ReadFault {
+        ReadFault::from(AllocError::from(failed))
+    }
+}
+
 /// Reads a text, and computes the values of its expressions.
 pub fn read_small(alloc: Global, text: &[u8]) -> Result<Small, ReadFault>
     ensures found { IfOk result
         (λ small. (u : SmallUnit) × IsSmall text.now u ×
         (small.puts.items ≡ written_by u) × (small.status ≡ status_of u)) }
     ensures form { IsErrOf result ReadFault.Form → (u : SmallUnit) → IsSmall text.now u → ⊥ }
+    ensures memory { IfErr result HasCause }
 {
     within_limit(text)?;
     read_unit(alloc, &mut Cursor::new(text))
@@ -64,6 +86,7 @@ fn read_unit(alloc: Global, text: &mut Cursor<'_>) -> Result<Small, ReadFault>
     ensures found { IfOk result
         (λ small. model.body values text.old ≡ Some ((small.puts.items, small.status), text.new)) }
     ensures form { IsErrOf result ReadFault.Form → model.body values text.old ≡ None }
+    ensures memory { IfErr result HasCause }
 {
     expect(text, b"int main(void){")?;
     let puts = read_puts(alloc, text)?;
@@ -78,12 +101,13 @@ fn read_unit(alloc: Global, text: &mut Cursor<'_>) -> Result<Small, ReadFault>
 fn read_puts(alloc: Global, text: &mut Cursor<'_>) -> Result<Vec<u8>, ReadFault>
     ensures found { IfOk result (λ puts. model.puts values [] text.old ≡ Some (puts.items, text.new)) }
     ensures form { IsErrOf result ReadFault.Form → model.puts values [] text.old ≡ None }
+    ensures memory { IfErr result HasCause }
 {
     let mut puts = Vec::new(alloc);
     while text.skip(b"putchar(") {
         let byte = low_byte(text)?;
         expect(text, b");")?;
-        puts.push(byte).map_err(|_| ReadFault::NoMemory)?;
+        puts.push(byte)?;
     }
     Ok(puts)
 }

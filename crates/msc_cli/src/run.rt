@@ -50,7 +50,7 @@ fn run_image<I: Source, O: Sink>(
 {
     match Machine::load(alloc, image, STACK) {
         Ok(mut machine) => outcome_of(machine.run(BUDGET, input, out)),
-        Err(_) => Outcome::NoMemory,
+        Err(error) => Outcome::from(error),
     }
 }
 

@@ -1,5 +1,6 @@
 -- How far the lines of a text have been judged.
 use Rattle.std.specs.Prelude.{ℕ, ◌+◌, List}
+use Rattle.bk_memory.specs.Shortage.{MemoryIsShort}
 use Rattle.alpha_text.specs.declared.fault.TextFault.{TextFault}
 use Rattle.alpha_text.specs.declared.fault.TextFault.TheVariants as fault
 use Rattle.alpha_text.specs.Wrong.{lines_of, is_ended, Standing, WrongFrom, WellFrom}
@@ -17,4 +18,4 @@ abbrev pub IsFaultFrom : List (List ℕ) → Standing → List ℕ × ℕ → Te
 IsFaultFrom lines standing start (fault.Line n) =
     WrongFrom lines standing (start.1 + 1) (lines_of start.0) (is_ended start.0) n
 IsFaultFrom lines standing start (fault.Data n) = ⊥
-IsFaultFrom lines standing start fault.NoMemory = Unit {0}
+IsFaultFrom lines standing start fault.NoMemory = MemoryIsShort

@@ -1,6 +1,7 @@
 -- What functions that read ensure where they leave a scope too, or read all tokens.
 use Rattle.std.specs.Prelude.{◌≡◌, ◌≢◌, List, Result, Ok, Err}
 use Rattle.c_lexer.specs.Pieces.{Lexeme}
+use Rattle.c_expression_parser.specs.Answers.{HasCause}
 use Rattle.c_expression_parser.specs.declared.cursor.Fault.{Fault}
 use Rattle.c_expression_parser.specs.declared.cursor.Fault.TheVariants.{NoMemory}
 use Rattle.c_tree.specs.declared.declarations.External.{External}
@@ -11,10 +12,10 @@ use Rattle.c_grammar.specs.Parser.{ParseOutcome}
 abbrev pub AnswersIn :
     {A : Type 0} → ParseOutcome (A × TypeNames) → Result A Fault → TypeNames → List Lexeme → Type 0
 AnswersIn outcome (Ok a) scope new = outcome ≡ Ok ((a, scope), new)
-AnswersIn outcome (Err e) scope new = e ≢ NoMemory → outcome ≡ Err new
+AnswersIn outcome (Err e) scope new = (e ≢ NoMemory → outcome ≡ Err new) × HasCause e
 
 -- of a function that reads all tokens
 abbrev pub AnswersUnit :
     Result (List External) (List Lexeme) → Result (List External) Fault → List Lexeme → Type 0
 AnswersUnit outcome (Ok a) new = outcome ≡ Ok a
-AnswersUnit outcome (Err e) new = e ≢ NoMemory → outcome ≡ Err new
+AnswersUnit outcome (Err e) new = (e ≢ NoMemory → outcome ≡ Err new) × HasCause e

@@ -1,9 +1,17 @@
-use Rattle.std.proofs.Common.{◌≡◌, ◌+◌, ◌*◌, drop, length, ap, ◌∙◌, sym, refl, arith, subst, Some, None, length-drop, take_all}
+use Rattle.std.proofs.Common.{◌≡◌, ◌+◌, ◌*◌, drop, length, ap, ◌∙◌, ℕ, List, sym, refl, arith, subst, Some, None, length-drop, take_all}
+use Rattle.bk_memory.specs.Shortage.{MemoryIsShort}
 use Rattle.alpha_isa.specs.Program.{Program, IsLawful}
 use Rattle.alpha_isa.specs.ImageFormat.{IsImage}
+use Rattle.alpha_image.specs.declared.read.ImageFault.{ImageFault}
+use Rattle.alpha_image.specs.declared.read.ImageFault.TheVariants.{NoMemory}
+use Rattle.alpha_image.specs.ReadImage.{IsFault}
 use Rattle.alpha_image.specs.ImageFault.{length_fault, image_fault, first_of}
 use Rattle.alpha_image.proofs.ImageFaults.{found, was_read, image_fault-length}
 use Rattle.alpha_image.proofs.read.read_image.Goals as goal
+
+-- want of memory for bytes that have no place at which they stop being an image
+short_fault : (bytes : List ℕ) (f : ImageFault) → image_fault bytes ≡ None → (f ≡ NoMemory) × MemoryIsShort → IsFault f bytes
+short_fault bytes f none told = subst (λ f. IsFault f bytes) (sym told.0) (none, told.1)
 
 pub returns-in-Err-clause-bad : goal.returns-in-Err-clause-bad
 unfolding image_fault
@@ -32,12 +40,12 @@ returns-in-Ok-from_slice-clause-good c =
     let fields = c.in-Ok.ensures.fields in
     image_fault-length c.args.bytes.now None c.in-Ok.ensures.fault (sym (c.in-None.ensures.fault fields.0 fields.1 fields.4))
 
-pub returns-in_default-clause-bad : goal.returns-in_default-clause-bad
-returns-in_default-clause-bad c =
+pub returns-in-Err-read_numbers-clause-bad : goal.returns-in-Err-read_numbers-clause-bad
+returns-in-Err-read_numbers-clause-bad c =
     let fields = c.in-Ok.ensures.fields in
-    image_fault-length c.args.bytes.now None c.in-Ok.ensures.fault (sym (c.in-None.ensures.fault fields.0 fields.1 fields.4))
+    short_fault c.args.bytes.now c.from.result (image_fault-length c.args.bytes.now None c.in-Ok.ensures.fault (sym (c.in-None.ensures.fault fields.0 fields.1 fields.4))) c.from.ensures
 
 pub returns-in-Err-from_slice-clause-bad : goal.returns-in-Err-from_slice-clause-bad
 returns-in-Err-from_slice-clause-bad c =
     let fields = c.in-Ok.ensures.fields in
-    image_fault-length c.args.bytes.now None c.in-Ok.ensures.fault (sym (c.in-None.ensures.fault fields.0 fields.1 fields.4))
+    short_fault c.args.bytes.now c.from-in-Err-from_slice.result (image_fault-length c.args.bytes.now None c.in-Ok.ensures.fault (sym (c.in-None.ensures.fault fields.0 fields.1 fields.4))) c.from-in-Err-from_slice.ensures

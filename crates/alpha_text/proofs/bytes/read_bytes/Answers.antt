@@ -5,7 +5,7 @@ use Rattle.alpha_items.specs.declared.item.AsmItem.{AsmItem}
 use Rattle.alpha_text.specs.model.Reaches.{Reaches, IsFaultFrom}
 use Rattle.alpha_text.proofs.Joined.{raised, said_fault}
 use Rattle.alpha_text.proofs.Steps.{IsNextLine, reaches_step, fault_line, fault_end}
-use Rattle.alpha_text.proofs.Judged.{extended, no_row, row_says, row_within}
+use Rattle.alpha_text.proofs.Judged.{no_row, row_says, row_within}
 use Rattle.alpha_text.proofs.bytes.read_bytes.Goals as goal
 
 pub returns-in_err-line-clause-fault : goal.returns-in_err-line-clause-fault
@@ -39,7 +39,7 @@ rows-preserved c =
     let done : c.len-in-rows.result ≡ length bytes = omega (arith, c.len-in-rows.ensures, c.rows.bytes.ok.0) in
     let has = rw c.in_ok-row.ensures.said at c.next_row-found.ensures in
     let next : IsNextLine c.rows.lines line c.due_line.new.self = record { lines = c.in_ok-line.ensures.line.0; ended = c.in_ok-line.ensures.line.1; count = c.in_ok-line.ensures.line.2 } in
-    let more : c.extend_from_slice.new.self.items ≡ bytes ++ row = extended c.extend_from_slice.result c.extend_from_slice.new.self.items bytes c.as_slice.result.now (sym c.is_err.ensures.value ∙ c.if-is_err.false) c.extend_from_slice.ensures.items ∙ ap (λ t. bytes ++ t) c.as_slice.ensures.value in (
+    let more : c.extend_from_slice.new.self.items ≡ bytes ++ row = c.in_ok-extend_from_slice.ensures.items ∙ ap (λ t. bytes ++ t) c.as_slice.ensures.value in (
       row_within c.args.count bytes line row c.extend_from_slice.new.self.items c.len-in-rows.result done room has more,
       λ all items. subst (λ (bs : List ℕ). Reaches all (Data items c.args.count [] []) c.args.lines.now (Data items c.args.count bs []) c.due_line.new.self) (sym more)
           (reaches_step all (Data items c.args.count [] []) (Data items c.args.count bytes []) c.args.lines.now c.rows.lines c.due_line.new.self line (Row row) (c.rows.invariant.1 all items) next (row_says all items c.args.count bytes line row c.len-in-rows.result done room has)),

@@ -9,7 +9,7 @@ use Rattle.alpha_text.specs.model.Reaches.{Reaches, IsFaultFrom}
 use Rattle.alpha_text.proofs.Joined.{raised}
 use Rattle.alpha_text.proofs.Lines.{ended_none}
 use Rattle.alpha_text.proofs.Steps.{IsNextLine, reaches_step, fault_line, fault_end, well_end}
-use Rattle.alpha_text.proofs.Judged.{pushed, no_place}
+use Rattle.alpha_text.proofs.Judged.{no_place}
 use Rattle.alpha_text.proofs.bytes.read_fixes.Goals as goal
 
 pub returns-in_err-fix-clause-fault : goal.returns-in_err-fix-clause-fault
@@ -28,7 +28,7 @@ pub loop-line-preserved : goal.loop-line-preserved
 loop-line-preserved c all items bytes full =
     let has = subst (λ (fs : List Fix). HasFix c.in-Some.line.now fs c.args.count c.in_ok-fix.fix) c.as_slice.ensures.value c.in_ok-fix.ensures.fix in
     let next : IsNextLine c.loop-line.lines c.in-Some.line.now c.next_line.new.self = record { lines = c.in-Some.ensures.line.0; ended = c.in-Some.ensures.line.1; count = c.in-Some.ensures.line.2 } in
-    let more = pushed c.push.result c.push.new.self.items c.loop-line.fixes.items c.in_ok-fix.fix (sym c.is_err.ensures.value ∙ c.if-is_err.false) c.push.ensures.items in
+    let more = c.in_ok-push.ensures.items in
     let says : Says all (Data items c.args.count bytes c.loop-line.fixes.items) c.in-Some.line.now (Place c.in_ok-fix.fix) = record { fields = has.0; spelled = has.1; stands = (full, has.2, has.3) } in
     subst (λ (fs : List Fix). Reaches all (Data items c.args.count bytes []) c.args.lines.now (Data items c.args.count bytes fs) c.next_line.new.self) (sym more)
     (reaches_step all (Data items c.args.count bytes []) (Data items c.args.count bytes c.loop-line.fixes.items) c.args.lines.now c.loop-line.lines c.next_line.new.self c.in-Some.line.now (Place c.in_ok-fix.fix) (c.loop-line.invariant all items bytes full) next says)

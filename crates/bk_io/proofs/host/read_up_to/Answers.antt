@@ -34,8 +34,8 @@ after_none : (e : FileFault) (old mid new : Option (List ℕ)) (xs : List ℕ) �
 after_none Failed old mid new xs first none = kept_after old mid new xs first none
 after_none NoMemory old mid new xs first none = (none.0, none.1, consumes_both old mid new xs none.0 first none.2)
 
-pub returns-in-Err : goal.returns-in-Err
-returns-in-Err g c =
+pub returns-in-Err-clause-appends : goal.returns-in-Err-clause-appends
+returns-in-Err-clause-appends g c =
     let part = c.loop-turn.invariant.part in (
       part.0,
       c.in-Err.ensures.err ∙ part.1,

@@ -13,4 +13,4 @@ pub returns-clause-cause : goal.returns-clause-cause
 returns-clause-cause g c =
     subst (IsCause (RefusesText (text_of (g.F.Files.told c.args.files.now) c.args.name.now))) (sym c.outcome_of_read_fault.ensures)
     (text_cause (g.F.Files.told c.args.files.now) c.args.name.now c.in-Ok.text.items c.in-Err-compile.fault c.in-Ok.ensures.text
-    (λ e. subst IsRefused c.as_slice.ensures.value (c.in-Err-compile.ensures.form (ap Err e))))
+    (λ e. subst IsRefused c.as_slice.ensures.value (c.in-Err-compile.ensures.form (ap Err e))) c.in-Err-compile.ensures.memory)
