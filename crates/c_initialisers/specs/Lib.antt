@@ -1,0 +1,4 @@
+pub mod Unfit
+pub mod Values
+pub mod Initialisers
+pub mod model
