@@ -1,0 +1,4 @@
+pub mod Frames
+pub mod Operations
+pub mod Runs
+pub mod Words
