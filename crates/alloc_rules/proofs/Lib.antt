@@ -1,0 +1,2 @@
+mod FrugalExamples
+mod WrongPlacements

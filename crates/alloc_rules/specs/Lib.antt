@@ -1,0 +1,5 @@
+pub mod Visits
+pub mod Frugal
+pub mod Journal
+pub mod FrugalExamples
+pub mod WrongPlacements

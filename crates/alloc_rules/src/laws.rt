@@ -1,0 +1,14 @@
+//! What is judged of small allocations, each the contract of a function that does nothing.
+
+ghost use Rattle.alloc_rules.specs.FrugalExamples.{FrugalExamples};
+ghost use Rattle.alloc_rules.specs.WrongPlacements.{WrongPlacements};
+
+/// A small allocation is frugal, and one with a needless load is not.
+pub fn small_allocations_are_frugal_or_not()
+    ensures { FrugalExamples }
+{}
+
+/// Allocations of which each breaks a clause are not faithful.
+pub fn wrong_placements_are_not_faithful()
+    ensures { WrongPlacements }
+{}

@@ -1,0 +1,8 @@
+//! Rules of allocations beyond those that a right one keeps.
+//!
+//! `specs/Frugal.antt` has the seven rules of an allocation that moves no more than a scan with second chances does,
+//! over what such a scan comes upon (`specs/Visits.antt`). Small allocations show what is judged: one that is frugal and
+//! one that is not, and one for each clause of what is faithful that breaks it.
+#![tactic(auto)]
+
+pub mod laws;
