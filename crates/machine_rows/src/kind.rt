@@ -1,6 +1,6 @@
 //! The kinds of rows, each with its file.
 
-use crate::{assembly, assembly_words, divisions, encodings, runs, steps};
+use crate::{assembly, assembly_words, constants, divisions, encodings, runs, steps};
 use anyhow::Result;
 use row_sheets::Table;
 use std::alloc::Global;
@@ -11,16 +11,18 @@ pub enum Kind {
     Encodings,
     Steps,
     Divisions,
+    Constants,
     Assembly,
     AssemblyWords,
     Runs,
 }
 
 /// The kinds in the order in which they are checked.
-pub const KINDS: [Kind; 6] = [
+pub const KINDS: [Kind; 7] = [
     Kind::Encodings,
     Kind::Steps,
     Kind::Divisions,
+    Kind::Constants,
     Kind::Assembly,
     Kind::AssemblyWords,
     Kind::Runs,
@@ -32,6 +34,7 @@ impl Table for Kind {
             Kind::Encodings => "encodings.rows",
             Kind::Steps => "steps.rows",
             Kind::Divisions => "divisions.rows",
+            Kind::Constants => "constants.rows",
             Kind::Assembly => "assembly.rows",
             Kind::AssemblyWords => "assembly_words.rows",
             Kind::Runs => "runs.rows",
@@ -43,6 +46,7 @@ impl Table for Kind {
             Kind::Encodings => encodings::instruction(alloc, given),
             Kind::Steps => steps::answer(alloc, given),
             Kind::Divisions => divisions::answer(alloc, given),
+            Kind::Constants => constants::answer(alloc, given),
             Kind::Assembly => assembly::answer(alloc, given),
             Kind::AssemblyWords => assembly_words::answer(alloc, given),
             Kind::Runs => runs::answer(alloc, given),

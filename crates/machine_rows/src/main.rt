@@ -6,6 +6,7 @@
 
 mod assembly;
 mod assembly_words;
+mod constants;
 mod divisions;
 mod encodings;
 mod kind;
