@@ -1,6 +1,6 @@
 //! The kinds of rows, each with its file.
 
-use crate::{declarations, expressions, layouts, literals, scopes};
+use crate::{layouts, literals, scopes};
 use anyhow::Result;
 use row_sheets::Table;
 use std::alloc::Global;
@@ -13,8 +13,6 @@ pub enum Kind {
     Texts,
     Scopes,
     Layouts,
-    Declarations,
-    Expressions,
 }
 
 impl Table for Kind {
@@ -25,8 +23,6 @@ impl Table for Kind {
             Kind::Texts => "texts.rows",
             Kind::Scopes => "scopes.rows",
             Kind::Layouts => "layouts.rows",
-            Kind::Declarations => "declarations.rows",
-            Kind::Expressions => "expressions.rows",
         }
     }
 
@@ -37,8 +33,6 @@ impl Table for Kind {
             Kind::Texts => literals::text_answer(alloc, given),
             Kind::Scopes => scopes::answer(alloc, given),
             Kind::Layouts => layouts::answer(alloc, given),
-            Kind::Declarations => declarations::answer(alloc, given),
-            Kind::Expressions => expressions::answer(alloc, given),
         }
     }
 }

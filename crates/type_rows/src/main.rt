@@ -1,17 +1,14 @@
-//! Checks the tables of the folder `data/`, of literals, scopes, structs, declarations and expressions: each row says
-//! what a public function is given and what is due.
+//! Checks the tables of the folder `data/`, of literals, scopes, types and structs: each row says what a public
+//! function is given and what is due.
 //!
 //! The form of the files is described in `docs/rows.md`, and that of each kind of row at the head of its file.
 #![tactic(auto)]
 
-mod declarations;
-mod expressions;
 mod kind;
 mod layouts;
 mod literals;
 mod scopes;
 mod types;
-mod unit;
 
 use crate::kind::Kind;
 use anyhow::Result;
@@ -25,8 +22,6 @@ fn main(rt: HostRuntime) -> Result<()> {
         Kind::Texts,
         Kind::Scopes,
         Kind::Layouts,
-        Kind::Declarations,
-        Kind::Expressions,
     ];
     check_tables(&rt, &mut kinds)
 }
