@@ -6,7 +6,7 @@ use Rattle.std.proofs.lemmas.List.Sums.{sum_by-drop_more}
 use Rattle.bk_ilist.specs.Listing.{items}
 use Rattle.suifvm_ir.specs.Functions.{count_of}
 use Rattle.temp_ir.specs.declared.insn.TempInsn.{TempInsn}
-use Rattle.alloc_model.specs.declared.allocation.Standing.{Standing}
+use Rattle.alloc_model.specs.declared.allocation.TempPlace.{TempPlace}
 use Rattle.alloc_model.specs.declared.allocation.Transfer.{Transfer}
 use Rattle.alloc_model.specs.declared.allocation.Event.{Event}
 use Rattle.alloc_model.specs.declared.allocation.EdgeCode.{EdgeCode}
@@ -35,10 +35,10 @@ events_next out xs i x is within = pieces_next event_line out xs i x is within
 pub events_end : (out : List ℕ) (xs : List Event) (i : ℕ) → length xs ≤ i → out ++ events_text (drop i xs) ≡ out
 events_end out xs i past = pieces_end event_line out xs i past
 
-pub standings_next : (out : List ℕ) (xs : List Standing) (i : ℕ) (x : Standing) → x ≡ get_or xs i x → i < length xs → (out ++ standing_text x) ++ standings_text (drop (i + 1) xs) ≡ out ++ standings_text (drop i xs)
+pub standings_next : (out : List ℕ) (xs : List TempPlace) (i : ℕ) (x : TempPlace) → x ≡ get_or xs i x → i < length xs → (out ++ standing_text x) ++ standings_text (drop (i + 1) xs) ≡ out ++ standings_text (drop i xs)
 standings_next out xs i x is within = pieces_next standing_text out xs i x is within
 
-pub standings_end : (out : List ℕ) (xs : List Standing) (i : ℕ) → length xs ≤ i → out ++ standings_text (drop i xs) ≡ out
+pub standings_end : (out : List ℕ) (xs : List TempPlace) (i : ℕ) → length xs ≤ i → out ++ standings_text (drop i xs) ≡ out
 standings_end out xs i past = pieces_end standing_text out xs i past
 
 pub edges_next : (out : List ℕ) (xs : List EdgeCode) (i : ℕ) (x : EdgeCode) → x ≡ get_or xs i x → i < length xs → (out ++ edge_lines x) ++ edges_text (drop (i + 1) xs) ≡ out ++ edges_text (drop i xs)

@@ -5,7 +5,7 @@ use Rattle.temp_ir.specs.declared.insn.TempInsn.{TempInsn}
 use Rattle.temp_ir.specs.Text.{register_text, insn_text}
 use Rattle.alloc_model.specs.declared.allocation.Loc.{Loc}
 use Rattle.alloc_model.specs.declared.allocation.Loc.TheVariants as loc
-use Rattle.alloc_model.specs.declared.allocation.Standing.{Standing}
+use Rattle.alloc_model.specs.declared.allocation.TempPlace.{TempPlace}
 use Rattle.alloc_model.specs.declared.allocation.Transfer.{Transfer}
 use Rattle.alloc_model.specs.declared.allocation.Transfer.TheVariants.{Store, Load, Shift}
 use Rattle.alloc_model.specs.declared.allocation.Event.{Event}
@@ -52,15 +52,15 @@ place_text (loc.Reg register) = register_text register
 place_text (loc.Slot temp) = codes "s" ++ decimal temp
 
 -- a temporary with its place, and a blank before it
-abbrev pub standing_text : Standing → List ℕ
+abbrev pub standing_text : TempPlace → List ℕ
 standing_text standing =
     codes " t" ++ decimal standing.temp ++ codes "=" ++ place_text standing.place
 
-abbrev pub standings_text : List Standing → List ℕ
+abbrev pub standings_text : List TempPlace → List ℕ
 standings_text standings = flat_map standing_text standings
 
 -- the places at an end of a block
-abbrev pub map_line : (block : ℕ) → (word : List ℕ) → List Standing → List ℕ
+abbrev pub map_line : (block : ℕ) → (word : List ℕ) → List TempPlace → List ℕ
 map_line block word standings = block_name block ++ word ++ standings_text standings ++ codes "\n"
 
 -- ---- blocks

@@ -4,7 +4,7 @@ ghost use Rattle.std.specs.Prelude.{◌≡◌, ◌++◌, OnOk};
 ghost use Rattle.temp_ir.specs.Text.{register_text};
 ghost use Rattle.alloc_lines.specs.Text as text;
 
-use alloc_model::allocation::{EdgeCode, Event, Loc, Standing, Transfer};
+use alloc_model::allocation::{EdgeCode, Event, Loc, TempPlace, Transfer};
 use std::alloc::AllocError;
 use temp_ir::text_parts::{put, put_block, put_number};
 
@@ -107,7 +107,7 @@ fn put_place(out: &mut Vec<u8>, place: Loc) -> Result<(), AllocError>
 }
 
 /// Puts a temporary with its place.
-fn put_standing(out: &mut Vec<u8>, standing: &Standing) -> Result<(), AllocError>
+fn put_standing(out: &mut Vec<u8>, standing: &TempPlace) -> Result<(), AllocError>
     ensures { OnOk result (out.new.items ≡ out.old.items ++ text.standing_text standing.now) }
 {
     put(out, " t")?;
@@ -118,7 +118,7 @@ fn put_standing(out: &mut Vec<u8>, standing: &Standing) -> Result<(), AllocError
 
 /// Puts temporaries with their places.
 #[tactic(auto, using(crate::proofs::Loops::standings_next, crate::proofs::Loops::standings_end))]
-fn put_standings(out: &mut Vec<u8>, standings: &[Standing]) -> Result<(), AllocError>
+fn put_standings(out: &mut Vec<u8>, standings: &[TempPlace]) -> Result<(), AllocError>
     ensures { OnOk result (out.new.items ≡ out.old.items ++ text.standings_text standings.now) }
 {
     for standing in standings {
@@ -132,7 +132,7 @@ pub(crate) fn put_map(
     out: &mut Vec<u8>,
     block: u32,
     word: &str,
-    standings: &[Standing],
+    standings: &[TempPlace],
 ) -> Result<(), AllocError>
     ensures { OnOk result (out.new.items ≡ out.old.items ++ text.map_line block word.now standings.now) }
 {

@@ -3,7 +3,7 @@
 ghost use Rattle.std.specs.Prelude.{◌≡◌, [], ◌∷◌, IfOk};
 
 use crate::{alloc_text, journal_text};
-use alloc_model::allocation::{Allocation, EdgeCode, Event, Loc, Standing, Transfer};
+use alloc_model::allocation::{Allocation, EdgeCode, Event, Loc, TempPlace, Transfer};
 use c_tree::{Name, Seq};
 use std::alloc::{AllocError, Global};
 use std::test::Fail;
@@ -65,8 +65,8 @@ fn doubling(alloc: Global) -> Result<Func<TempInsn>, AllocError> {
 }
 
 /// The first temporary at a place.
-fn standing(alloc: Global, place: Loc) -> Result<Seq<Standing>, AllocError> {
-    one(alloc, Standing { temp: 0, place })
+fn standing(alloc: Global, place: Loc) -> Result<Seq<TempPlace>, AllocError> {
+    one(alloc, TempPlace { temp: 0, place })
 }
 
 /// The edges of the function, of which the second has a move.

@@ -7,7 +7,7 @@ ghost use Rattle.alloc_lines.specs.Text as text;
 
 use crate::lines::{put_edges, put_events, put_map, put_transfers};
 use crate::registers::with_registers;
-use alloc_model::allocation::{Allocation, Standing, Transfer};
+use alloc_model::allocation::{Allocation, TempPlace, Transfer};
 use bk_ilist::IndexList;
 use c_tree::Seq;
 use std::alloc::{AllocError, Global};
@@ -36,7 +36,7 @@ fn registers_at(lists: &[Seq<u8>], at: usize) -> &[u8]
 }
 
 /// The places at an end of a block.
-fn standings_at(maps: &[Seq<Standing>], block: usize) -> &[Standing]
+fn standings_at(maps: &[Seq<TempPlace>], block: usize) -> &[TempPlace]
     ensures { result.now ≡ slice_index_or maps.now block [] }
 {
     match maps.get(block) {

@@ -26,35 +26,35 @@ use Rattle.alloc_model.specs.Temporaries.{FunctionCode, temp_run, start_world}
 use Rattle.alloc_model.specs.Places.{Plan, placed_run}
 
 -- what is seen of a run: how it ended, if it did, and its output
-pub data Shown : Type 0 where
-  ShowsDone : (status : ℕ) → (output : List ℕ) → Shown
-  ShowsTrap : (code : ℕ) → (output : List ℕ) → Shown
-  ShowsUndefined : (at : ℕ) → (output : List ℕ) → Shown
-  ShowsMore : (output : List ℕ) → Shown
-  GoesOn : Shown
+pub data Observation : Type 0 where
+  ShowsDone : (status : ℕ) → (output : List ℕ) → Observation
+  ShowsTrap : (code : ℕ) → (output : List ℕ) → Observation
+  ShowsUndefined : (at : ℕ) → (output : List ℕ) → Observation
+  ShowsMore : (output : List ℕ) → Observation
+  GoesOn : Observation
 
-abbrev pub shown_ending : Ending → Shown
+abbrev pub shown_ending : Ending → Observation
 shown_ending (Done w status) = ShowsDone status w.outer.output
 shown_ending (Trap w code) = ShowsTrap code w.outer.output
 shown_ending (Undefined w at) = ShowsUndefined at w.outer.output
 shown_ending (More w) = ShowsMore w.outer.output
 
-abbrev pub shown : {S : Type 0} → Next S → Shown
-shown (Goes k) = GoesOn
-shown (Over e) = shown_ending e
+abbrev pub observe : {S : Type 0} → Next S → Observation
+observe (Goes k) = GoesOn
+observe (Over e) = shown_ending e
 
 -- a run of functions, of which the first is `main`, in at most 30 steps
-abbrev pub run_functions : List FunctionCode → List DataObject → (input : List ℕ) → (turns : ℕ) → Shown
-run_functions functions globals input turns = shown (temp_run [] functions 0 (start_world globals input turns) 30)
+abbrev pub run_functions : List FunctionCode → List DataObject → (input : List ℕ) → (turns : ℕ) → Observation
+run_functions functions globals input turns = observe (temp_run [] functions 0 (start_world globals input turns) 30)
 
 abbrev pub function : (sizes : List ℕ) → List (List TempInsn) → FunctionCode
 function sizes blocks = record { sizes = sizes; blocks = blocks }
 
 -- a run of one function without memory locals, and of one block
-abbrev pub run_blocks : List (List TempInsn) → (input : List ℕ) → (turns : ℕ) → Shown
+abbrev pub run_blocks : List (List TempInsn) → (input : List ℕ) → (turns : ℕ) → Observation
 run_blocks blocks input turns = run_functions (function [] blocks ∷ []) [] input turns
 
-abbrev pub run_block : List TempInsn → (input : List ℕ) → (turns : ℕ) → Shown
+abbrev pub run_block : List TempInsn → (input : List ℕ) → (turns : ℕ) → Observation
 run_block block input turns = run_blocks (block ∷ []) input turns
 
 -- a temporary is a number, and another one of the same content; a temporary is returned
@@ -146,8 +146,8 @@ pub record ExamplesRun : Type 0 where
 -- ---- over registers and slots
 
 -- a run of functions with their allocations, of which the first is `main`
-abbrev pub run_plans : List Plan → (turns : ℕ) → Shown
-run_plans plans turns = shown (placed_run [] plans 0 (start_world [] [] turns) 30)
+abbrev pub run_plans : List Plan → (turns : ℕ) → Observation
+run_plans plans turns = observe (placed_run [] plans 0 (start_world [] [] turns) 30)
 
 abbrev pub plan : List (List TempInsn) → List (List Transfer) → List (List ℕ) → List EdgeCode → Plan
 plan blocks at regs edges = record {
@@ -173,25 +173,25 @@ abbrev pub sum_in_registers : Plan
 sum_in_registers =
     plan sum ([] ∷ [] ∷ [] ∷ [] ∷ [] ∷ []) ((1 ∷ []) ∷ (2 ∷ []) ∷ (1 ∷ 2 ∷ 3 ∷ []) ∷ (3 ∷ []) ∷ [] ∷ []) []
 
-abbrev pub run_sum : List (List Transfer) → List (List ℕ) → Shown
+abbrev pub run_sum : List (List Transfer) → List (List ℕ) → Observation
 run_sum at regs = run_plans (plan sum at regs [] ∷ []) 0
 
 -- a function that calls another one, which returns nothing, while 5 stands in a register
 abbrev pub calling : List (List TempInsn)
 calling = (set 0 5 ∷ Call 1 0 ∷ return 0) ∷ []
 
-abbrev pub run_calling : (register : ℕ) → Shown
+abbrev pub run_calling : (register : ℕ) → Observation
 run_calling register =
     run_plans (plan calling [] ((register ∷ []) ∷ [] ∷ (register ∷ []) ∷ [] ∷ []) []
     ∷ plan ((Return false ∷ []) ∷ []) [] [] [] ∷ []) 1
 
 -- two temporaries, whose difference is taken in the next block, where each stands in the other's register
-abbrev pub swapped : List (List TempInsn)
-swapped = (set 0 9 ∷ set 1 4 ∷ Jump 1 ∷ []) ∷ (Operate Subq 2 (s.Temp 0) (o.Temp 1) ∷ return 2) ∷ []
+abbrev pub swap_two : List (List TempInsn)
+swap_two = (set 0 9 ∷ set 1 4 ∷ Jump 1 ∷ []) ∷ (Operate Subq 2 (s.Temp 0) (o.Temp 1) ∷ return 2) ∷ []
 
-abbrev pub run_swapped : List Transfer → Shown
+abbrev pub run_swapped : List Transfer → Observation
 run_swapped code =
-    run_plans (plan swapped [] ((1 ∷ []) ∷ (2 ∷ []) ∷ [] ∷ (2 ∷ 1 ∷ 3 ∷ []) ∷ (3 ∷ []) ∷ [] ∷ []) (edge 0 1 code ∷ [])
+    run_plans (plan swap_two [] ((1 ∷ []) ∷ (2 ∷ []) ∷ [] ∷ (2 ∷ 1 ∷ 3 ∷ []) ∷ (3 ∷ []) ∷ [] ∷ []) (edge 0 1 code ∷ [])
     ∷ []) 0
 
 pub record PlacementsRun : Type 0 where

@@ -9,7 +9,7 @@ use Rattle.temp_ir.specs.Insns.{reads_of, writes_of, targets_of, flows_on_of}
 use Rattle.temp_ir.specs.Fixed.{argument_registers, fixed_reads_of}
 use Rattle.alloc_model.specs.declared.allocation.Loc.{Loc}
 use Rattle.alloc_model.specs.declared.allocation.Loc.TheVariants as loc
-use Rattle.alloc_model.specs.declared.allocation.Standing.{Standing}
+use Rattle.alloc_model.specs.declared.allocation.TempPlace.{TempPlace}
 use Rattle.alloc_model.specs.declared.allocation.Transfer.{Transfer}
 use Rattle.alloc_model.specs.declared.allocation.Transfer.TheVariants.{Store, Load, Shift}
 use Rattle.alloc_model.specs.Effect.{Holder, Temp, Fixed, holders_written}
@@ -104,7 +104,7 @@ before a block (suc at) =
 abbrev pub at_bottom : Plan → (block : ℕ) → (insns : List TempInsn) → Held
 at_bottom a block insns (Temp t) q =
     is_live_at a t block (length insns)
-    × ((s : Standing) × Contains (slice_index_or a.bottom block []) s × (s.temp ≡ t) × (q ≡ place_of s.place))
+    × ((s : TempPlace) × Contains (slice_index_or a.bottom block []) s × (s.temp ≡ t) × (q ≡ place_of s.place))
 at_bottom a block insns _ q = ⊥
 
 -- an edge is kept: its transfers are given what they ask for, and lead to what the target's top starts with
@@ -127,7 +127,7 @@ abbrev pub IsOwnPlace : (t : ℕ) → Loc → Type 0
 IsOwnPlace t (loc.Reg r) = IsGiven r
 IsOwnPlace t (loc.Slot k) = k ≡ t
 
-abbrev pub IsStanding : (temps : ℕ) → Standing → Type 0
+abbrev pub IsStanding : (temps : ℕ) → TempPlace → Type 0
 IsStanding temps s = (s.temp < temps) × IsOwnPlace s.temp s.place
 
 -- the registers that a transfer names

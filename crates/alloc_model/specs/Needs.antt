@@ -7,7 +7,7 @@ use Rattle.temp_ir.specs.declared.insn.TempInsn.{TempInsn}
 use Rattle.temp_ir.specs.Insns.{reads_of, writes_of, targets_of, flows_on_of}
 use Rattle.alloc_model.specs.declared.allocation.Loc.{Loc}
 use Rattle.alloc_model.specs.declared.allocation.Loc.TheVariants as loc
-use Rattle.alloc_model.specs.declared.allocation.Standing.{Standing}
+use Rattle.alloc_model.specs.declared.allocation.TempPlace.{TempPlace}
 use Rattle.alloc_model.specs.declared.allocation.Transfer.{Transfer}
 use Rattle.alloc_model.specs.declared.allocation.Transfer.TheVariants.{Store, Load, Shift}
 use Rattle.alloc_model.specs.Places.{Place, Reg, Slot, places_written_at, is_ended, target_of, moved_temp, Plan, transfers_at, registers_at}
@@ -21,7 +21,7 @@ abbrev pub place_of : Loc → Place
 place_of (loc.Reg r) = Reg r
 place_of (loc.Slot t) = Slot t
 
-abbrev pub named_place : (t : ℕ) → Option Standing → Place
+abbrev pub named_place : (t : ℕ) → Option TempPlace → Place
 named_place t None = Slot t
 named_place t (Some s) = place_of s.place
 

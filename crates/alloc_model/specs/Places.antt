@@ -12,7 +12,7 @@ use Rattle.temp_ir.specs.Insns.{reads_of, targets_of}
 use Rattle.temp_ir.specs.Fixed.{ended_of, has_number}
 use Rattle.alloc_model.specs.declared.allocation.Transfer.{Transfer}
 use Rattle.alloc_model.specs.declared.allocation.Transfer.TheVariants.{Store, Load, Shift}
-use Rattle.alloc_model.specs.declared.allocation.Standing.{Standing}
+use Rattle.alloc_model.specs.declared.allocation.TempPlace.{TempPlace}
 use Rattle.alloc_model.specs.declared.allocation.EdgeCode.{EdgeCode}
 use Rattle.alloc_model.specs.declared.allocation.Allocation.{Allocation}
 use Rattle.alloc_model.specs.Contents.{Content}
@@ -89,8 +89,8 @@ pub record Plan : Type 0 where
   pub function : FunctionCode
   pub params : ℕ
   pub temps : ℕ
-  pub top : List (List Standing)
-  pub bottom : List (List Standing)
+  pub top : List (List TempPlace)
+  pub bottom : List (List TempPlace)
   pub at : List (List Transfer)
   pub regs : List (List ℕ)
   pub edges : List EdgeCode

@@ -15,7 +15,7 @@ pub enum Loc {
 
 /// A temporary with the place where it stands.
 #[derive(Clone, Copy, Debug, PartialEq, Eq)]
-pub struct Standing {
+pub struct TempPlace {
     pub temp: u32,
     pub place: Loc,
 }
@@ -61,9 +61,9 @@ pub enum Event {
 pub struct Allocation {
     pub func: Func<TempInsn>,
     /// For each block, the places at its top of temporaries that are live there. One that is not named has its slot.
-    pub top: Seq<Seq<Standing>>,
+    pub top: Seq<Seq<TempPlace>>,
     /// For each block, the places at its end.
-    pub bottom: Seq<Seq<Standing>>,
+    pub bottom: Seq<Seq<TempPlace>>,
     /// For each instruction, what is done before it.
     pub at: Seq<Seq<Transfer>>,
     /// For each instruction, the registers of the temporaries that it reads, in order, then of those that it writes.

@@ -10,7 +10,7 @@ use Rattle.suifvm_ir.specs.Live.Live.{Follows}
 use Rattle.temp_ir.specs.declared.insn.TempInsn.{TempInsn}
 use Rattle.temp_ir.specs.Insns.{reads_of, writes_of, targets_of, flows_on_of}
 use Rattle.temp_ir.specs.Fixed.{argument_registers, fixed_reads_of, written_behind, is_settled, is_settled_block}
-use Rattle.alloc_model.specs.declared.allocation.Standing.{Standing}
+use Rattle.alloc_model.specs.declared.allocation.TempPlace.{TempPlace}
 use Rattle.alloc_model.specs.declared.allocation.Transfer.{Transfer}
 use Rattle.temp_ir.specs.Programs.{TempFn}
 use Rattle.alloc_model.specs.declared.allocation.Allocation.{Allocation}
@@ -53,7 +53,7 @@ front_get (suc n) [] k d within = refl
 front_get (suc n) (x ∷ xs) zero d within = refl
 front_get (suc n) (x ∷ xs) (suc k) d within = front_get n xs k d (omega (arith, within))
 
-none_named : (blocks : Blocks) (k : ℕ) → slice_index_or (map {B = List Standing} (λ block. []) blocks) k [] ≡ []
+none_named : (blocks : Blocks) (k : ℕ) → slice_index_or (map {B = List TempPlace} (λ block. []) blocks) k [] ≡ []
 none_named [] k = refl
 none_named (b ∷ bs) zero = refl
 none_named (b ∷ bs) (suc k) = none_named bs k
@@ -207,7 +207,7 @@ module _ (f : FunctionCode) (params temps : ℕ) where
       given = all_registers_given f.blocks;
     }
       where
-        none : All (All (IsStanding temps)) (map {B = List Standing} (λ block. []) f.blocks)
+        none : All (All (IsStanding temps)) (map {B = List TempPlace} (λ block. []) f.blocks)
         none = All-map (All (IsStanding temps)) (λ block. []) f.blocks (λ k d within. All-nil (IsStanding temps))
 
     entry : Includes (at_entry plan) (at_top plan 0)
@@ -249,7 +249,7 @@ module _ (f : FunctionCode) (params temps : ℕ) where
     bottoms : (block : ℕ) (insns : List TempInsn) → slice_get f.blocks block ≡ Some insns → Includes (before plan block (length insns)) (at_bottom plan block insns)
     bottoms block insns is = record { each = each }
       where
-        nothing : (s : Standing) → Contains (slice_index_or (map {B = List Standing} (λ block. []) f.blocks) block []) s → ⊥
+        nothing : (s : TempPlace) → Contains (slice_index_or (map {B = List TempPlace} (λ block. []) f.blocks) block []) s → ⊥
         nothing s has =
             let (k, within, at) = subst (λ named. Contains named s) (none_named f.blocks block) has in
             omega (arith, within)

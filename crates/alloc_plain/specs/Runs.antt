@@ -11,16 +11,16 @@ use Rattle.temp_ir.specs.declared.insn.TempInsn.{TempInsn}
 use Rattle.temp_ir.specs.declared.insn.TempInsn.TheVariants.{Operate, ToFixed, FromFixed, SetFixed, WriteArgument, ReadArgument, Branch, Call, Mark}
 use Rattle.alloc_model.specs.Temporaries.{FunctionCode, temp_run, start_world}
 use Rattle.alloc_model.specs.Places.{Plan, placed_run}
-use Rattle.alloc_model.specs.Examples.{Shown, ShowsDone, ShowsUndefined, shown, function, set, return, plan}
+use Rattle.alloc_model.specs.Examples.{Observation, ShowsDone, ShowsUndefined, observe, function, set, return, plan}
 use Rattle.alloc_plain.specs.Plain.{plain_plan}
 
 -- ---- runs of the first of some functions, in at most so many steps
 
-abbrev pub runs_over_temps : List FunctionCode → (turns steps : ℕ) → Shown
-runs_over_temps functions turns steps = shown (temp_run [] functions 0 (start_world [] [] turns) steps)
+abbrev pub runs_over_temps : List FunctionCode → (turns steps : ℕ) → Observation
+runs_over_temps functions turns steps = observe (temp_run [] functions 0 (start_world [] [] turns) steps)
 
-abbrev pub runs_over_places : List Plan → (turns steps : ℕ) → Shown
-runs_over_places plans turns steps = shown (placed_run [] plans 0 (start_world [] [] turns) steps)
+abbrev pub runs_over_places : List Plan → (turns steps : ℕ) → Observation
+runs_over_places plans turns steps = observe (placed_run [] plans 0 (start_world [] [] turns) steps)
 
 -- ---- a loop with a call: the sum of the squares of 3, 2 and 1
 

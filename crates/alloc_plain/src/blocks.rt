@@ -5,7 +5,7 @@ ghost use Rattle.suifvm_ir.specs.Functions.{last_of};
 ghost use Rattle.alloc_plain.specs.Plain.{registers_of, transfers_from};
 
 use crate::insns::{registers, transfers};
-use alloc_model::allocation::{Standing, Transfer};
+use alloc_model::allocation::{TempPlace, Transfer};
 use c_tree::Seq;
 use std::alloc::{AllocError, Global};
 use suifvm_ir::block::Block;
@@ -78,7 +78,7 @@ pub(crate) fn all_registers(
 pub(crate) fn empty_maps(
     alloc: Global,
     blocks: &[Block<TempInsn>],
-) -> Result<Seq<Seq<Standing>>, AllocError>
+) -> Result<Seq<Seq<TempPlace>>, AllocError>
     ensures { IfOk result (λ maps. maps ≡ map (λ block. []) blocks.now) }
 {
     let mut maps = Seq::new(alloc);

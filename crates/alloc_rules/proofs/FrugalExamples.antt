@@ -11,7 +11,7 @@ use Rattle.temp_ir.specs.Insns.{reads_of, writes_of, targets_of, flows_on_of}
 use Rattle.alloc_model.specs.declared.allocation.Transfer.{Transfer}
 use Rattle.alloc_model.specs.declared.allocation.Transfer.TheVariants as move
 use Rattle.alloc_model.specs.Examples.{set}
-use Rattle.alloc_model.specs.declared.allocation.Standing.{Standing}
+use Rattle.alloc_model.specs.declared.allocation.TempPlace.{TempPlace}
 use Rattle.alloc_model.specs.Places.{Place, Reg, Slot, linear_number}
 use Rattle.alloc_model.specs.Lifetimes.{IsPresent, IsRead, IsLiveBefore, IsWritten, IsLiveAfter, is_live}
 use Rattle.alloc_rules.specs.Visits.{Wants, AreWants, registers_written, moment_of_write, free_registers, best_register, victim_register}
@@ -134,15 +134,15 @@ module _ (P : (block at : ℕ) → TempInsn → (t r : ℕ) → Type 0) (here : 
 filled : (A : Type 0) (a : A) (rest : List A) → a ∷ rest ≡ [] → ⊥
 filled A a rest e = cc
 
-abbrev one_empty : List (List Standing)
+abbrev one_empty : List (List TempPlace)
 one_empty = [] ∷ []
 
 empty_map : (block : ℕ) → slice_index_or one_empty block [] ≡ []
 empty_map zero = refl
 empty_map (suc block) = refl
 
-no_standing : (block : ℕ) (s : Standing) → Contains (slice_index_or one_empty block []) s → ⊥
-no_standing block s c = nothing_in Standing s (subst (λ ss. Contains ss s) (empty_map block) c)
+no_standing : (block : ℕ) (s : TempPlace) → Contains (slice_index_or one_empty block []) s → ⊥
+no_standing block s c = nothing_in TempPlace s (subst (λ ss. Contains ss s) (empty_map block) c)
 
 not_covered : (t block : ℕ) → block < 1 → is_covered_at_bottom number_in_register number_wants t block ≡ true → ⊥
 not_covered zero zero within e = differ e

@@ -6,7 +6,7 @@ use Rattle.suifvm_ir.specs.Functions.{count_of, insn_at, successors_of}
 use Rattle.temp_ir.specs.declared.insn.TempInsn.{TempInsn}
 use Rattle.temp_ir.specs.Insns.{reads_of, writes_of, targets_of, flows_on_of}
 use Rattle.temp_ir.specs.Fixed.{has_number}
-use Rattle.alloc_model.specs.declared.allocation.Standing.{Standing}
+use Rattle.alloc_model.specs.declared.allocation.TempPlace.{TempPlace}
 use Rattle.alloc_model.specs.declared.allocation.Transfer.{Transfer}
 use Rattle.alloc_model.specs.declared.allocation.Transfer.TheVariants.{Store, Load, Shift}
 use Rattle.alloc_model.specs.Effect.{Temp}
@@ -162,12 +162,12 @@ pub record LinearHandOver (a : Plan) (wants : Wants) : Type 0 where
   pub entry : (t : ℕ) → wants.live t 0 0 ≡ true → place_at_top a 0 t ≡ Slot t
   pub tops : (block t : ℕ) → suc block < length a.function.blocks → wants.live t (suc block) 0 ≡ true →
       place_at_top a (suc block) t ≡ place_at_bottom a block t
-  pub named_at_tops : (block : ℕ) (s : Standing) → Contains (slice_index_or a.top block []) s →
+  pub named_at_tops : (block : ℕ) (s : TempPlace) → Contains (slice_index_or a.top block []) s →
       wants.live s.temp block 0 ≡ true
-  pub named_at_bottoms : (block : ℕ) (s : Standing) → Contains (slice_index_or a.bottom block []) s →
+  pub named_at_bottoms : (block : ℕ) (s : TempPlace) → Contains (slice_index_or a.bottom block []) s →
       (is_covered_at_bottom a wants s.temp block ≡ true) × (place_of s.place ≡ homes_at_bottom a wants block s.temp)
   pub bottoms : (block t : ℕ) → block < length a.function.blocks → is_covered_at_bottom a wants t block ≡ true →
-      (s : Standing) × Contains (slice_index_or a.bottom block []) s × (s.temp ≡ t)
+      (s : TempPlace) × Contains (slice_index_or a.bottom block []) s × (s.temp ≡ t)
   pub edge_loads : (from to : ℕ) (made : List Transfer) (t r : ℕ) → IsMadeOnEdge a from to made (Load t r) →
       place_at_bottom a from t ≢ place_at_top a to t
   pub edge_shifts : (from to : ℕ) (made : List Transfer) (t source target : ℕ) →

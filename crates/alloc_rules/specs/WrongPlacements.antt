@@ -8,15 +8,15 @@ use Rattle.temp_ir.specs.declared.insn.TempInsn.{TempInsn}
 use Rattle.temp_ir.specs.declared.insn.TempInsn.TheVariants.{Operate, ToFixed, SetFixed, Jump, Call, Return}
 use Rattle.alloc_model.specs.declared.allocation.Loc.{Loc}
 use Rattle.alloc_model.specs.declared.allocation.Loc.TheVariants as loc
-use Rattle.alloc_model.specs.declared.allocation.Standing.{Standing}
+use Rattle.alloc_model.specs.declared.allocation.TempPlace.{TempPlace}
 use Rattle.alloc_model.specs.declared.allocation.Transfer.{Transfer}
 use Rattle.alloc_model.specs.declared.allocation.Transfer.TheVariants as x
 use Rattle.alloc_model.specs.Places.{Plan}
 use Rattle.alloc_model.specs.Faithful.{Faithful}
-use Rattle.alloc_model.specs.Examples.{set, return, plan, edge, calling, swapped}
+use Rattle.alloc_model.specs.Examples.{set, return, plan, edge, calling, swap_two}
 
 -- an allocation with these maps at the tops and bottoms of blocks
-abbrev pub with_maps : (top bottom : List (List Standing)) → Plan → Plan
+abbrev pub with_maps : (top bottom : List (List TempPlace)) → Plan → Plan
 with_maps top bottom a = record {
   function = a.function;
   params = a.params;
@@ -28,7 +28,7 @@ with_maps top bottom a = record {
   edges = a.edges;
 }
 
-abbrev pub at_place : (t : ℕ) → Loc → Standing
+abbrev pub at_place : (t : ℕ) → Loc → TempPlace
 at_place t p = record { temp = t; place = p }
 
 -- ---- functions
@@ -143,7 +143,7 @@ not_stored_on_jump =
 abbrev pub moves_in_wrong_order : Plan
 moves_in_wrong_order =
     with_maps ([] ∷ (at_place 0 (loc.Reg 2) ∷ at_place 1 (loc.Reg 1) ∷ []) ∷ []) ([] ∷ [] ∷ [])
-    (plan swapped ([] ∷ [] ∷ [] ∷ [] ∷ [] ∷ [] ∷ []) ((1 ∷ []) ∷ (2 ∷ []) ∷ [] ∷ (2 ∷ 1 ∷ 3 ∷ []) ∷ (3 ∷ []) ∷ [] ∷ [])
+    (plan swap_two ([] ∷ [] ∷ [] ∷ [] ∷ [] ∷ [] ∷ []) ((1 ∷ []) ∷ (2 ∷ []) ∷ [] ∷ (2 ∷ 1 ∷ 3 ∷ []) ∷ (3 ∷ []) ∷ [] ∷ [])
     (edge 0 1 (x.Shift 0 1 2 ∷ x.Shift 1 2 1 ∷ []) ∷ []))
 
 -- none of them is faithful

@@ -15,7 +15,7 @@ use Rattle.alpha_items.proofs.Sums.{sum-cons, sum-more}
 use Rattle.alpha_items.proofs.Reach.{reaches_from}
 use Rattle.alpha_items.proofs.Far.{length-sizes, sizes-at, place-more}
 use Rattle.alpha_items.proofs.Forced.{IsShort, forced_ahead, forced_back}
-use Rattle.alpha_asm.specs.model.Sweeps.{SweptBack, SweptForth, BackReachesAt, ForthReachesAt, TooFarBack, TooFarForth, Grown, ArePlaces, near, rest, reach}
+use Rattle.alpha_asm.specs.model.Sweeps.{SweptBack, SweptForth, BackReachesAt, ForthReachesAt, TooFarBack, TooFarForth, GrowsWhere, ArePlaces, near, rest, reach}
 use Rattle.alpha_asm.proofs.Places.{place-set, rest-set}
 
 -- ---- words behind an item
@@ -39,7 +39,7 @@ near-set far k h short =
     let one : weight (is_far far k) ≡ weight false = ap weight short in
     omega (arith, counted, one)
 
-grown_set : (first far : List Bool) (k : ℕ) (grew : Bool) → k < length far → is_far far k ≡ false → Grown first far grew → near (set far k true) < near first
+grown_set : (first far : List Bool) (k : ℕ) (grew : Bool) → k < length far → is_far far k ≡ false → GrowsWhere first far grew → near (set far k true) < near first
 grown_set first far k true h short grown = omega (arith, grown, near-set far k h short)
 grown_set first far k false h short grown = omega (arith, ap near grown, near-set far k h short)
 
@@ -122,7 +122,7 @@ back_forced items far i e inside too forced =
     forced_back items far i too.op too.ra too.l (short_of items far i too.op too.ra too.l e inside too.is_branch too.short) forced too.behind too.beyond
 
 pub back_grown : (items : List AsmItem) (far : List Bool) (i : ℕ) → length far ≡ length items → i < length items → TooFarBack items far i →
-    (first : List Bool) (grew : Bool) → Grown first far grew → near (set far i true) < near first
+    (first : List Bool) (grew : Bool) → GrowsWhere first far grew → near (set far i true) < near first
 back_grown items far i e inside too first grew grown = grown_set first far i grew (omega (arith, e, inside)) too.short grown
 
 -- ---- a step from the end
@@ -203,7 +203,7 @@ forth_forced items far i e inside too forced =
     forced_ahead items far i too.op too.ra too.l is_short forced too.ahead beyond
 
 pub forth_grown : (items : List AsmItem) (far : List Bool) (i : ℕ) → length far ≡ length items → i < length items → TooFarForth items far i →
-    (first : List Bool) (grew : Bool) → Grown first far grew → near (set far i true) < near first
+    (first : List Bool) (grew : Bool) → GrowsWhere first far grew → near (set far i true) < near first
 forth_grown items far i e inside too first grew grown = grown_set first far i grew (omega (arith, e, inside)) too.short grown
 
 -- ---- two sweeps
@@ -315,13 +315,13 @@ pub places_of : (items : List AsmItem) (far : List Bool) (places : List ℕ) →
 places_of items far places back = record { room = back.room; at = back.at }
 
 -- two sweeps: how few are near, and what reaches where the second found none
-pub both_fewer : (first middle last : List Bool) (a b : Bool) → Grown first middle a → Grown middle last b → b ≡ true → near last < near first
+pub both_fewer : (first middle last : List Bool) (a b : Bool) → GrowsWhere first middle a → GrowsWhere middle last b → b ≡ true → near last < near first
 both_fewer first middle last true true f g h = omega (arith, f, g)
 both_fewer first middle last false true f g h = omega (arith, ap near f, g)
 both_fewer first middle last a false f g h = let clash : ⊥ = cc in absurd clash
 
 pub both_reach : (items : List AsmItem) (middle last : List Bool) (rests places : List ℕ) (b : Bool) → SweptForth items middle rests 0 →
-    SweptBack items last places (length items) → Grown middle last b → b ≡ false → AllReach items last
+    SweptBack items last places (length items) → GrowsWhere middle last b → b ≡ false → AllReach items last
 both_reach items middle last rests places true forth back g h = let clash : ⊥ = cc in absurd clash
 both_reach items middle last rests places false forth back g h =
     let P : List Bool → Type 0 = λ far. SweptForth items far rests 0 in

@@ -9,7 +9,7 @@
 ghost use Rattle.std.specs.Prelude.{◌≡◌, ℕ, ◌+◌, ◌<◌, ◌≤◌, ◌^◌, List, Bool, length, slice_index, IfOk, OnOk};
 ghost use Rattle.std.specs.Bool.{OnTrue, OnFalse, MatchBool};
 ghost use Rattle.alpha_items.specs.Layout.{place, AllReach, IsForced, IsLeastFar};
-ghost use Rattle.alpha_asm.specs.model.Sweeps.{AreTargets, SweptBack, SweptForth, BackReachesAt, ForthReachesAt, TooFarBack, TooFarForth, Grown, ArePlaces, near};
+ghost use Rattle.alpha_asm.specs.model.Sweeps.{AreTargets, SweptBack, SweptForth, BackReachesAt, ForthReachesAt, TooFarBack, TooFarForth, GrowsWhere, ArePlaces, near};
 
 use crate::sizes::{is_branch, words_of_item};
 use crate::spread::spread;
@@ -82,7 +82,7 @@ fn settle_back(
     requires swept { SweptBack items.now far.old places.old i }
     ensures swept { SweptBack items.now far.new places.new (i + 1) }
     ensures forced { IsForced items.now far.old → IsForced items.now far.new }
-    ensures grown { (first : List Bool) → Grown first far.old grew → Grown first far.new result }
+    ensures grown { (first : List Bool) → GrowsWhere first far.old grew → GrowsWhere first far.new result }
 {
     if is_too_far_back(items, targets, far, places, i) {
         far[i] = true;
@@ -110,7 +110,7 @@ fn settle_forth(
     requires swept { SweptForth items.now far.old rests.old (i + 1) }
     ensures swept { SweptForth items.now far.new rests.new i }
     ensures forced { IsForced items.now far.old → IsForced items.now far.new }
-    ensures grown { (first : List Bool) → Grown first far.old grew → Grown first far.new result }
+    ensures grown { (first : List Bool) → GrowsWhere first far.old grew → GrowsWhere first far.new result }
 {
     if is_too_far_forth(items, targets, far, rests, i) {
         far[i] = true;
@@ -130,7 +130,7 @@ fn sweep_back(items: &[AsmItem], targets: &[usize], far: &mut [bool], places: &m
     requires places { length places.old ≡ length items.now + 1 }
     ensures swept { SweptBack items.now far.new places.new (length items.now) }
     ensures forced { IsForced items.now far.old → IsForced items.now far.new }
-    ensures grown { Grown far.old far.new result }
+    ensures grown { GrowsWhere far.old far.new result }
 {
     places[0] = 0;
     let mut grew = false;
@@ -149,7 +149,7 @@ fn sweep_forth(items: &[AsmItem], targets: &[usize], far: &mut [bool], rests: &m
     requires rests { length rests.old ≡ length items.now + 1 }
     ensures swept { SweptForth items.now far.new rests.new 0 }
     ensures forced { IsForced items.now far.old → IsForced items.now far.new }
-    ensures grown { Grown far.old far.new result }
+    ensures grown { GrowsWhere far.old far.new result }
 {
     rests[items.len()] = 0;
     let mut grew = false;

@@ -71,11 +71,11 @@ text_insns there start here (i ∷ items) (f ∷ far) =
     item_insns there start here f i ++ text_insns there start (here + item_words f i) items far
 
 -- the data with the addresses that its fixes ask for
-abbrev pub fixed : ℕ → List ℕ → Fix → List ℕ
-fixed start bytes fix = with_part bytes fix.at (to_le_bytes w64 (start + fix.offset))
+abbrev pub with_fix : ℕ → List ℕ → Fix → List ℕ
+with_fix start bytes fix = with_part bytes fix.at (to_le_bytes w64 (start + fix.offset))
 
 abbrev pub fixed_data : ℕ → List ℕ → List Fix → List ℕ
-fixed_data start bytes fixes = fold (fixed start) bytes fixes
+fixed_data start bytes fixes = fold (with_fix start) bytes fixes
 
 -- the image is the assembly: its far branches are the least that can be, its words those of the items, its data
 -- with the zeros has the addresses of the fixes, its bytes are none or do not end with a zero, and its entry is

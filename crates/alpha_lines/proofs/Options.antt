@@ -3,7 +3,7 @@ use Rattle.std.proofs.Common.{◌≡◌, ℕ, Bool, true, false, ◌==◌, eqb, 
 use Rattle.std.specs.Prelude.{option_map, if◌then◌else◌}
 use Rattle.std.specs.List.{find}
 use Rattle.std.proofs.lemmas.Bool.{eqb-true}
-use Rattle.alpha_lines.specs.model.Readers.{zipped}
+use Rattle.alpha_lines.specs.model.Readers.{both_of}
 
 chosen : {A : Type 0} (b : Bool) (o : Option A) (x : A) → (if b then o else None) ≡ Some x → (b ≡ true) × (o ≡ Some x)
 chosen true o x e = (refl, e)
@@ -19,7 +19,7 @@ pub mapped : {A B : Type 0} (f : A → B) (o : Option A) (y : B) → option_map 
 mapped f None y e = absurd (cc)
 mapped f (Some x) y e = (x, refl, cc)
 
-pub zipped_parts : {A B : Type 0} (a : Option A) (b : Option B) (p : A × B) → zipped a b ≡ Some p → (a ≡ Some p.0) × (b ≡ Some p.1)
+pub zipped_parts : {A B : Type 0} (a : Option A) (b : Option B) (p : A × B) → both_of a b ≡ Some p → (a ≡ Some p.0) × (b ≡ Some p.1)
 zipped_parts None b p e = absurd (cc)
 zipped_parts (Some x) None p e = absurd (cc)
 zipped_parts {A} {B} (Some x) (Some y) p e =

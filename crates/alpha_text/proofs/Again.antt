@@ -6,7 +6,7 @@ use Rattle.alpha_items.specs.Assembly.{Assembly, IsWhole}
 use Rattle.alpha_text.specs.declared.fault.TextFault.{TextFault}
 use Rattle.alpha_text.specs.declared.fault.TextFault.TheVariants as fault
 use Rattle.alpha_text.specs.Texts.{Texts, asm_lines, asm_text, HasText}
-use Rattle.alpha_text.specs.Wrong.{lines_of, is_ended, Standing, Nothing, Data, NoneWrong}
+use Rattle.alpha_text.specs.Wrong.{lines_of, is_ended, TextSoFar, Nothing, Data, NoneWrong}
 use Rattle.alpha_text.specs.Read.{IsFault}
 use Rattle.alpha_text.proofs.Unique.{wrong_or_well, well_one}
 use Rattle.alpha_text.proofs.Complete.{whole_well}
@@ -19,11 +19,11 @@ none_wrong text a whole has e =
     let end : is_ended text ≡ true = ap is_ended e ∙ lines_end (asm_lines a) in
     rw (lines, end) (whole_well a whole has)
 
-abbrev parts : Standing → Assembly → Assembly
+abbrev parts : TextSoFar → Assembly → Assembly
 parts (Data items n bytes fixes) other = record { items = items; bytes = bytes; fixes = fixes }
 parts _ other = other
 
-abbrev count : Standing → ℕ
+abbrev count : TextSoFar → ℕ
 count (Data items n bytes fixes) = n
 count _ = 0
 

@@ -18,12 +18,12 @@ use Rattle.alpha_lines.specs.Lines.{HasLine, head_line, item_line, data_line, fi
 use Rattle.alpha_lines.specs.model.Data.{data_of}
 use Rattle.alpha_lines.proofs.DataLines.{data_complete}
 use Rattle.alpha_text.specs.Texts.{hex_rows, hex_lines, asm_lines, HasText}
-use Rattle.alpha_text.specs.Wrong.{Standing, Nothing, Text, Data, Head, Item, Count, Row, Place, InFields, is_named, is_among, IsWithinData, FitsBehind, IsBehind, WellFrom}
+use Rattle.alpha_text.specs.Wrong.{TextSoFar, Nothing, Text, Data, Head, Item, Count, Row, Place, InFields, is_named, is_among, IsWithinData, FitsBehind, IsBehind, WellFrom}
 use Rattle.alpha_text.proofs.Whole.{find_count}
 
 -- what is behind the lines so far, line by line
 
-well_items : (all : List (List ℕ)) (done todo : List AsmItem) (rest : List (List ℕ)) (e : Bool) (final : Standing) → ((front : List AsmItem) (i : AsmItem) (back : List AsmItem) → done ++ todo ≡ front ++ i ∷ back → HasLine i × FitsBehind all front i)
+well_items : (all : List (List ℕ)) (done todo : List AsmItem) (rest : List (List ℕ)) (e : Bool) (final : TextSoFar) → ((front : List AsmItem) (i : AsmItem) (back : List AsmItem) → done ++ todo ≡ front ++ i ∷ back → HasLine i × FitsBehind all front i)
     → WellFrom all (Text (done ++ todo)) rest e final → WellFrom all (Text done) (map item_line todo ++ rest) e final
 well_items all done [] rest e final fits well = subst (λ t. WellFrom all (Text t) rest e final) (append-nil done) well
 well_items all done (i ∷ todo) rest e final fits well =
@@ -34,7 +34,7 @@ well_items all done (i ∷ todo) rest e final fits well =
       well_items all (done ++ i ∷ []) todo rest e final (λ front j back s. fits front j back (sym regroup ∙ s)) (subst (λ t. WellFrom all (Text t) rest e final) (sym regroup) well),
     )
 
-well_rows : (all : List (List ℕ)) (items : List AsmItem) (n k : ℕ) (done todo : List ℕ) (rest : List (List ℕ)) (e : Bool) (final : Standing) → length done + length todo ≡ n → length todo ≤ k → All (λ b. b < 256) todo
+well_rows : (all : List (List ℕ)) (items : List AsmItem) (n k : ℕ) (done todo : List ℕ) (rest : List (List ℕ)) (e : Bool) (final : TextSoFar) → length done + length todo ≡ n → length todo ≤ k → All (λ b. b < 256) todo
     → WellFrom all (Data items n (done ++ todo) []) rest e final → WellFrom all (Data items n done []) (hex_rows k todo ++ rest) e final
 well_rows all items n Prim.Native.Nat.zero done [] rest e final total low small well = subst (λ t. WellFrom all (Data items n t []) rest e final) (append-nil done) well
 well_rows all items n Prim.Native.Nat.zero done (b ∷ s) rest e final total low small well = absurd (omega arith)
@@ -54,7 +54,7 @@ well_rows all items n (suc k) done (b ∷ s) rest e final total low small well =
       well_rows all items n k (done ++ row) behind rest e final (omega arith) (omega arith) (All-drop (λ x. x < 256) 32 (b ∷ s) small) (subst (λ t. WellFrom all (Data items n t []) rest e final) (sym regroup) well),
     )
 
-well_places : (all : List (List ℕ)) (items : List AsmItem) (n : ℕ) (bytes : List ℕ) (done todo : List Fix) (e : Bool) (final : Standing) → length bytes ≡ n → ((front : List Fix) (fix : Fix) (back : List Fix) → done ++ todo ≡ front ++ fix ∷ back → InFields (Place fix) × IsFix n fix × IsBehind front fix)
+well_places : (all : List (List ℕ)) (items : List AsmItem) (n : ℕ) (bytes : List ℕ) (done todo : List Fix) (e : Bool) (final : TextSoFar) → length bytes ≡ n → ((front : List Fix) (fix : Fix) (back : List Fix) → done ++ todo ≡ front ++ fix ∷ back → InFields (Place fix) × IsFix n fix × IsBehind front fix)
     → WellFrom all (Data items n bytes (done ++ todo)) [] e final → WellFrom all (Data items n bytes done) (map fix_line todo) e final
 well_places all items n bytes done [] e final full fits well = subst (λ t. WellFrom all (Data items n bytes t) [] e final) (append-nil done) well
 well_places all items n bytes done (fix ∷ todo) e final full fits well =

@@ -25,12 +25,12 @@ use Rattle.alpha_lines.proofs.Options.{split}
 use Rattle.alpha_lines.proofs.Operands.{lacks_append, decimal_lacks}
 use Rattle.alpha_lines.proofs.Items.{small_call, other_only}
 use Rattle.alpha_lines.proofs.Spellings.{spelled_found}
-use Rattle.alpha_text.specs.Texts.{ended, ended_lines, hex_rows, hex_lines, asm_lines, HasText}
+use Rattle.alpha_text.specs.Texts.{with_line_feed, ended_lines, hex_rows, hex_lines, asm_lines, HasText}
 use Rattle.alpha_text.specs.Wrong.{lines_of, is_ended}
 
 -- the lines of ended lines
 
-line_ended : (line rest : List ℕ) → Lacks 10 line → lines_of (ended line ++ rest) ≡ line ∷ lines_of rest
+line_ended : (line rest : List ℕ) → Lacks 10 line → lines_of (with_line_feed line ++ rest) ≡ line ∷ lines_of rest
 line_ended [] rest h = refl
 line_ended (b ∷ line) rest h = rw (h.0, line_ended line rest h.1) refl
 
@@ -42,7 +42,7 @@ feed_ended : (rest : List ℕ) → is_ended rest ≡ true → is_ended (10 ∷ r
 feed_ended [] h = refl
 feed_ended (c ∷ s) h = h
 
-end_ended : (line rest : List ℕ) → is_ended rest ≡ true → is_ended (ended line ++ rest) ≡ true
+end_ended : (line rest : List ℕ) → is_ended rest ≡ true → is_ended (with_line_feed line ++ rest) ≡ true
 end_ended [] rest h = feed_ended rest h
 end_ended (b ∷ []) rest h = feed_ended rest h
 end_ended (b ∷ c ∷ line) rest h = end_ended (c ∷ line) rest h

@@ -5,19 +5,19 @@ use Rattle.alpha_items.specs.declared.item.AsmItem.{AsmItem}
 use Rattle.alpha_items.specs.declared.item.Fix.{Fix}
 use Rattle.alpha_text.specs.declared.fault.TextFault.{TextFault}
 use Rattle.alpha_text.specs.declared.fault.TextFault.TheVariants as fault
-use Rattle.alpha_text.specs.Wrong.{lines_of, is_ended, Standing, Nothing, Text, Data, WrongFrom, WellFrom, NoneWrong}
+use Rattle.alpha_text.specs.Wrong.{lines_of, is_ended, TextSoFar, Nothing, Text, Data, WrongFrom, WellFrom, NoneWrong}
 use Rattle.alpha_text.specs.Read.{IsFault}
 use Rattle.alpha_text.specs.model.Faults.{IsFaultOf}
 use Rattle.alpha_text.specs.model.Reaches.{Reaches, IsFaultFrom}
 use Rattle.alpha_text.proofs.Steps.{reaches_here, reaches_join}
 
-pub fault_from : (text : List ℕ) (st : Standing) (p : List ℕ × ℕ) (f : TextFault) → Reaches (lines_of text) Nothing (text, 0) st p → IsFaultFrom (lines_of text) st p f → IsFault text f
+pub fault_from : (text : List ℕ) (st : TextSoFar) (p : List ℕ × ℕ) (f : TextFault) → Reaches (lines_of text) Nothing (text, 0) st p → IsFaultFrom (lines_of text) st p f → IsFault text f
 fault_from text st p (fault.Line n) r h = r.wrong n h
 fault_from text st p (fault.Data n) r h = absurd h
 fault_from text st p fault.NoMemory r h = h
 
 -- the fault of a line that was judged
-pub said_fault : {T E : Type 0} (all : List (List ℕ)) (st : Standing) (start : List ℕ × ℕ) (found : Result (Option T) E) (line : ℕ) (f : TextFault) → IsFaultOf found line f
+pub said_fault : {T E : Type 0} (all : List (List ℕ)) (st : TextSoFar) (start : List ℕ × ℕ) (found : Result (Option T) E) (line : ℕ) (f : TextFault) → IsFaultOf found line f
     → (found ≡ Ok None → WrongFrom all st (start.1 + 1) (lines_of start.0) (is_ended start.0) line) → IsFaultFrom all st start f
 said_fault all st start found line (fault.Line n) h wrong = subst (λ k. WrongFrom all st (start.1 + 1) (lines_of start.0) (is_ended start.0) k) (sym h.1) (wrong h.0)
 said_fault all st start found line (fault.Data n) h wrong = absurd h

@@ -15,16 +15,16 @@ use Rattle.alpha_text.specs.Wrong.{lines_of, is_ended, Nothing, Data}
 use Rattle.alpha_text.specs.Read.{IsCounted}
 use Rattle.alpha_text.proofs.Sound.{well_sound}
 use Rattle.alpha_text.proofs.Whole.{read_text}
-use Rattle.alpha_text.specs.Texts.{ended, ended_lines, hex_rows, hex_lines, asm_text}
+use Rattle.alpha_text.specs.Texts.{with_line_feed, ended_lines, hex_rows, hex_lines, asm_text}
 
-ended_long : (line : List ℕ) → length (ended line) ≡ length line + 1
+ended_long : (line : List ℕ) → length (with_line_feed line) ≡ length line + 1
 ended_long line = length-append line (10 ∷ [])
 
 lines_long : (front back : List (List ℕ)) → length (ended_lines (front ++ back)) ≡ length (ended_lines front) + length (ended_lines back)
-lines_long front back = ap length (flat_map-append ended front back) ∙ length-append (ended_lines front) (ended_lines back)
+lines_long front back = ap length (flat_map-append with_line_feed front back) ∙ length-append (ended_lines front) (ended_lines back)
 
-line_long : (line : List ℕ) (back : List (List ℕ)) → length (ended_lines (line ∷ back)) ≡ length (ended line) + length (ended_lines back)
-line_long line back = length-append (ended line) (ended_lines back)
+line_long : (line : List ℕ) (back : List (List ℕ)) → length (ended_lines (line ∷ back)) ≡ length (with_line_feed line) + length (ended_lines back)
+line_long line back = length-append (with_line_feed line) (ended_lines back)
 
 -- the data
 
@@ -34,7 +34,7 @@ digits_long (b ∷ row) =
     let step : length (flat_map hex_byte (b ∷ row)) ≡ suc (suc (length (flat_map hex_byte row))) = refl in
     omega (arith, step, digits_long row)
 
-row_long : (row : List ℕ) → 2 * length row ≤ length (ended (hex_line row))
+row_long : (row : List ℕ) → 2 * length row ≤ length (with_line_feed (hex_line row))
 row_long row = omega (arith, ended_long (hex_line row), length-append (codes ".hex") (32 ∷ flat_map hex_byte row), digits_long row)
 
 rows_long : (k : ℕ) (s : List ℕ) → length s ≤ k → 2 * length s ≤ length (ended_lines (hex_rows k s))
@@ -68,7 +68,7 @@ data_in_text a =
 
 -- the words
 
-both_long : (word a b : List ℕ) (x : ℕ) → 5 ≤ length (ended (statement word (both (x ∷ a) b)))
+both_long : (word a b : List ℕ) (x : ℕ) → 5 ≤ length (with_line_feed (statement word (both (x ∷ a) b)))
 both_long word a b x = omega (arith, ended_long (statement word (both (x ∷ a) b)), length-append word (32 ∷ both (x ∷ a) b), length-append (x ∷ a) (44 ∷ 32 ∷ b))
 
 branch_words : (far linked : Bool) → (if far then (if linked then 3 else 4) else 1) ≤ 4
@@ -76,7 +76,7 @@ branch_words true true = omega arith
 branch_words true false = omega arith
 branch_words false linked = omega arith
 
-item_long : (far : Bool) (i : AsmItem) → item_words far i ≤ length (ended (item_line i))
+item_long : (far : Bool) (i : AsmItem) → item_words far i ≤ length (with_line_feed (item_line i))
 item_long far (Label l) = omega arith
 item_long far (Name name) = omega arith
 item_long far (Plain insn) = omega (arith, ended_long (item_line (Plain insn)))

@@ -15,7 +15,7 @@ use Rattle.std.proofs.lemmas.Option.{slice_get-get_or}
 use Rattle.std.proofs.lemmas.List.Elements.{All-nil, All-push, All-append, filter_map-append}
 use Rattle.std.proofs.lemmas.List.Quantifiers.{all_pairs_push}
 use Rattle.alpha_text.specs.Texts.{hex_lines}
-use Rattle.alpha_text.specs.Wrong.{Standing, Nothing, Text, Data, Form, Head, Item, Count, Row, Place, is_named, is_among, IsWithinData, FitsBehind, HasEntry, IsBehind, with_form, Says, IsComplete, WellFrom}
+use Rattle.alpha_text.specs.Wrong.{TextSoFar, Nothing, Text, Data, Form, Head, Item, Count, Row, Place, is_named, is_among, IsWithinData, FitsBehind, HasEntry, IsBehind, with_form, Says, IsComplete, WellFrom}
 use Rattle.alpha_text.proofs.Rows.{rows_none, rows_push}
 
 -- an item is known to stand in a text of these lines
@@ -39,13 +39,13 @@ pub record AreData (items : List AsmItem) (n : ℕ) (bytes : List ℕ) (fixes : 
   pub placed : All (λ f. IsFix n f) fixes
   pub apart : AllAdjacentBelow (λ f g. f.at + 8 ≤ g.at) fixes (length fixes)
 
-abbrev pub IsSane : List (List ℕ) → Standing → Type 0
+abbrev pub IsSane : List (List ℕ) → TextSoFar → Type 0
 IsSane all Nothing = Unit {0}
 IsSane all (Text items) = AreItems all items
 IsSane all (Data items n bytes fixes) = AreItems all items × AreData items n bytes fixes
 
 -- the lines that say what stands
-abbrev pub said_lines : Standing → List (List ℕ)
+abbrev pub said_lines : TextSoFar → List (List ℕ)
 said_lines Nothing = []
 said_lines (Text items) = head_line ∷ map item_line items
 said_lines (Data items n bytes fixes) = head_line ∷ (map item_line items ++ data_line n ∷ (hex_lines bytes ++ map fix_line fixes))
@@ -188,7 +188,7 @@ none_data items n entry small = record {
 
 -- one line more
 
-pub sane_step : (all : List (List ℕ)) (st : Standing) (line : List ℕ) (form : Form) → IsSane all st → Says all st line form → IsSane all (with_form st form) × (said_lines (with_form st form) ≡ said_lines st ++ line ∷ [])
+pub sane_step : (all : List (List ℕ)) (st : TextSoFar) (line : List ℕ) (form : Form) → IsSane all st → Says all st line form → IsSane all (with_form st form) × (said_lines (with_form st form) ≡ said_lines st ++ line ∷ [])
 sane_step all Nothing line Head sane says = (record { fields = All-nil HasLine; known = All-nil (IsKnown all); once = λ i j d h k. absurd (omega arith) }, ap (λ l. l ∷ []) (sym says.spelled))
 sane_step all (Text items) line (Item i) sane says = (items_more all items i sane says.fields says.stands, rw (says.spelled, map_push item_line items i) refl)
 sane_step all (Text items) line (Count n) sane says =
@@ -211,7 +211,7 @@ sane_step all (Data items n bytes fixes) line Head sane says = absurd says.stand
 sane_step all (Data items n bytes fixes) line (Item i) sane says = absurd says.stands
 sane_step all (Data items n bytes fixes) line (Count m) sane says = absurd says.stands
 
-pub well_sound : (all : List (List ℕ)) (st : Standing) (rest : List (List ℕ)) (e : Bool) (final : Standing) → IsSane all st → WellFrom all st rest e final → IsSane all final × IsComplete final × (e ≡ true) × (said_lines st ++ rest ≡ said_lines final)
+pub well_sound : (all : List (List ℕ)) (st : TextSoFar) (rest : List (List ℕ)) (e : Bool) (final : TextSoFar) → IsSane all st → WellFrom all st rest e final → IsSane all final × IsComplete final × (e ≡ true) × (said_lines st ++ rest ≡ said_lines final)
 well_sound all st [] e final sane well =
     (subst (IsSane all) (sym well.2) sane, subst IsComplete (sym well.2) well.0, well.1, rw (well.2) (append-nil (said_lines st)))
 well_sound all st (line ∷ rest) e final sane well =

@@ -9,7 +9,7 @@ use Rattle.alpha_lines.specs.model.Readers.{item_of}
 use Rattle.alpha_lines.specs.model.Data.{data_of, fix_of, hex_line_of}
 use Rattle.alpha_lines.proofs.Items.{item_complete}
 use Rattle.alpha_lines.proofs.DataLines.{data_complete, fix_complete, hex_line_complete}
-use Rattle.alpha_text.specs.Wrong.{Standing, Nothing, Text, Data, Form, Head, Item, Count, Row, Place, InFields, with_form, Says, WrongFrom, WellFrom}
+use Rattle.alpha_text.specs.Wrong.{TextSoFar, Nothing, Text, Data, Form, Head, Item, Count, Row, Place, InFields, with_form, Says, WrongFrom, WellFrom}
 use Rattle.alpha_text.proofs.Whole.{no_item_data}
 
 item_same : (line : List ℕ) (i j : AsmItem) → HasLine i → HasLine j → line ≡ item_line i → line ≡ item_line j → i ≡ j
@@ -40,7 +40,7 @@ place_same line a b h k e f =
 open_or_full : (m n : ℕ) → m < n → m ≡ n → ⊥
 open_or_full m n h k = omega arith
 
-pub says_one : (all : List (List ℕ)) (st : Standing) (line : List ℕ) (f g : Form) → Says all st line f → Says all st line g → f ≡ g
+pub says_one : (all : List (List ℕ)) (st : TextSoFar) (line : List ℕ) (f g : Form) → Says all st line f → Says all st line g → f ≡ g
 says_one all Nothing line Head Head a b = refl
 says_one all Nothing line Head (Item j) a b = absurd b.stands
 says_one all Nothing line Head (Count m) a b = absurd b.stands
@@ -77,14 +77,14 @@ says_one all (Data items c bytes fixes) line (Place f) (Count m) a b = absurd b.
 says_one all (Data items c bytes fixes) line (Place f) (Row y) a b = absurd (open_or_full (length bytes) c b.stands.0 a.stands.0)
 says_one all (Data items c bytes fixes) line (Place f) (Place g) a b = ap Place (place_same line f g a.fields b.fields a.spelled b.spelled)
 
-pub wrong_or_well : (all : List (List ℕ)) (st : Standing) (k : ℕ) (rest : List (List ℕ)) (e : Bool) (n : ℕ) (final : Standing) → WrongFrom all st k rest e n → WellFrom all st rest e final → ⊥
+pub wrong_or_well : (all : List (List ℕ)) (st : TextSoFar) (k : ℕ) (rest : List (List ℕ)) (e : Bool) (n : ℕ) (final : TextSoFar) → WrongFrom all st k rest e n → WellFrom all st rest e final → ⊥
 wrong_or_well all st k [] e n final wrong well = wrong.0 (well.0, well.1)
 wrong_or_well all st k (line ∷ rest) e n final (inl none) well = none.0 well.0 well.1
 wrong_or_well all st k (line ∷ rest) e n final (inr some) well =
     let same = says_one all st line some.0 well.0 some.1 well.1 in
     wrong_or_well all (with_form st well.0) (k + 1) rest e n final (subst (λ f. WrongFrom all (with_form st f) (k + 1) rest e n) same some.2) well.2
 
-pub well_one : (all : List (List ℕ)) (st : Standing) (rest : List (List ℕ)) (e : Bool) (a b : Standing) → WellFrom all st rest e a → WellFrom all st rest e b → a ≡ b
+pub well_one : (all : List (List ℕ)) (st : TextSoFar) (rest : List (List ℕ)) (e : Bool) (a b : TextSoFar) → WellFrom all st rest e a → WellFrom all st rest e b → a ≡ b
 well_one all st [] e a b x y = x.2 ∙ sym y.2
 well_one all st (line ∷ rest) e a b x y =
     let same = says_one all st line x.0 y.0 x.1 y.1 in

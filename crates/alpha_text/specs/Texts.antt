@@ -5,11 +5,11 @@ use Rattle.alpha_items.specs.Assembly.{Assembly}
 use Rattle.alpha_lines.specs.Lines.{HasLine, head_line, item_line, data_line, hex_line, fix_line}
 
 -- every line ends with a line feed
-abbrev pub ended : List ℕ → List ℕ
-ended line = line ++ 10 ∷ []
+abbrev pub with_line_feed : List ℕ → List ℕ
+with_line_feed line = line ++ 10 ∷ []
 
 abbrev pub ended_lines : List (List ℕ) → List ℕ
-ended_lines lines = flat_map ended lines
+ended_lines lines = flat_map with_line_feed lines
 
 -- the bytes, 32 a line, the last line shorter; the number bounds the lines
 abbrev pub hex_rows : ℕ → List ℕ → List (List ℕ)

@@ -48,10 +48,10 @@ InFields (Place fix) = (fix.at < 2 ^ 32) × (fix.offset < 2 ^ 32)
 
 -- what the lines so far say: nothing, the head and items, or the count of the data too, with some of its
 -- bytes and fixes
-pub data Standing : Type 0 where
-  Nothing : Standing
-  Text : List AsmItem → Standing
-  Data : List AsmItem → ℕ → List ℕ → List Fix → Standing
+pub data TextSoFar : Type 0 where
+  Nothing : TextSoFar
+  Text : List AsmItem → TextSoFar
+  Data : List AsmItem → ℕ → List ℕ → List Fix → TextSoFar
 
 -- whether some line of the text names the label
 abbrev pub is_named : List (List ℕ) → ℕ → Bool
@@ -86,7 +86,7 @@ abbrev pub IsBehind : List Fix → Fix → Type 0
 IsBehind fixes next = IfSome (slice_get fixes (length fixes - 1)) (λ fix. fix.at + 8 ≤ next.at)
 
 -- a line may say this behind the lines so far, in a text of these lines
-abbrev pub MayStand : List (List ℕ) → Standing → Form → Type 0
+abbrev pub MayStand : List (List ℕ) → TextSoFar → Form → Type 0
 MayStand lines Nothing Head = Unit {0}
 MayStand lines (Text items) (Item i) = FitsBehind lines items i
 MayStand lines (Text items) (Count n) = HasEntry items
@@ -95,7 +95,7 @@ MayStand lines (Data items n bytes fixes) (Place fix) = (length bytes ≡ n) × 
 MayStand lines _ _ = ⊥
 
 -- what stands with one line more
-abbrev pub with_form : Standing → Form → Standing
+abbrev pub with_form : TextSoFar → Form → TextSoFar
 with_form Nothing form = Text []
 with_form (Text items) (Item i) = Text (items ++ i ∷ [])
 with_form (Text items) (Count n) = Data items n [] []
@@ -104,33 +104,33 @@ with_form (Data items n bytes fixes) (Place fix) = Data items n bytes (fixes ++ 
 with_form standing _ = standing
 
 -- the line says this, and may stand there
-pub record Says (lines : List (List ℕ)) (standing : Standing) (line : List ℕ) (form : Form) : Type 0 where
+pub record Says (lines : List (List ℕ)) (standing : TextSoFar) (line : List ℕ) (form : Form) : Type 0 where
   pub fields : InFields form
   pub spelled : line ≡ form_line form
   pub stands : MayStand lines standing form
 
 -- no line is missing
-abbrev pub IsComplete : Standing → Type 0
+abbrev pub IsComplete : TextSoFar → Type 0
 IsComplete (Data items n bytes fixes) = length bytes ≡ n
 IsComplete _ = ⊥
 
 -- of the lines that are left, from this number on, the first that is in no form; where a line is missing, or
 -- bytes are left, it is the number of lines plus one
-abbrev pub WrongFrom : List (List ℕ) → Standing → ℕ → List (List ℕ) → Bool → ℕ → Type 0
-WrongFrom lines standing k [] ended n = (¬ (IsComplete standing × IsTrue ended)) × (n ≡ k)
-WrongFrom lines standing k (line ∷ rest) ended n =
+abbrev pub WrongFrom : List (List ℕ) → TextSoFar → ℕ → List (List ℕ) → Bool → ℕ → Type 0
+WrongFrom lines standing k [] with_line_feed n = (¬ (IsComplete standing × IsTrue with_line_feed)) × (n ≡ k)
+WrongFrom lines standing k (line ∷ rest) with_line_feed n =
     (((form : Form) → ¬ (Says lines standing line form)) × (n ≡ k))
-    ⊎ ((form : Form) × Says lines standing line form × WrongFrom lines (with_form standing form) (k + 1) rest ended n)
+    ⊎ ((form : Form) × Says lines standing line form × WrongFrom lines (with_form standing form) (k + 1) rest with_line_feed n)
 
 -- the lines that are left are all in form, and this is what stands at the end
-abbrev pub WellFrom : List (List ℕ) → Standing → List (List ℕ) → Bool → Standing → Type 0
-WellFrom lines standing [] ended final = IsComplete standing × IsTrue ended × (final ≡ standing)
-WellFrom lines standing (line ∷ rest) ended final =
-    (form : Form) × Says lines standing line form × WellFrom lines (with_form standing form) rest ended final
+abbrev pub WellFrom : List (List ℕ) → TextSoFar → List (List ℕ) → Bool → TextSoFar → Type 0
+WellFrom lines standing [] with_line_feed final = IsComplete standing × IsTrue with_line_feed × (final ≡ standing)
+WellFrom lines standing (line ∷ rest) with_line_feed final =
+    (form : Form) × Says lines standing line form × WellFrom lines (with_form standing form) rest with_line_feed final
 
 -- the first line of the text that is in no form, and what stands where there is none
 abbrev pub FirstWrong : List ℕ → ℕ → Type 0
 FirstWrong text n = WrongFrom (lines_of text) Nothing 1 (lines_of text) (is_ended text) n
 
-abbrev pub NoneWrong : List ℕ → Standing → Type 0
+abbrev pub NoneWrong : List ℕ → TextSoFar → Type 0
 NoneWrong text final = WellFrom (lines_of text) Nothing (lines_of text) (is_ended text) final

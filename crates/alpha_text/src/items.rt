@@ -6,7 +6,7 @@ ghost use Rattle.alpha_items.specs.Items.{gives_word, names};
 ghost use Rattle.alpha_items.specs.Assembly.{labels};
 ghost use Rattle.alpha_items.specs.declared.item.AsmItem.{AsmItem as Item};
 ghost use Rattle.alpha_lines.specs.Lines.{HasLine, item_line, data_line};
-ghost use Rattle.alpha_text.specs.Wrong.{Text, Data, is_named as named_in, IsWithinData, lines_of, FitsBehind, HasEntry, Says, Form, Standing};
+ghost use Rattle.alpha_text.specs.Wrong.{Text, Data, is_named as named_in, IsWithinData, lines_of, FitsBehind, HasEntry, Says, Form, TextSoFar};
 ghost use Rattle.alpha_text.specs.model.Survey.{IsSurvey};
 ghost use Rattle.alpha_text.specs.model.Labels.{IsIndex};
 ghost use Rattle.alpha_text.specs.model.Reaches.{Reaches, IsFaultFrom};

@@ -2,7 +2,7 @@
 
 ghost use Rattle.std.specs.Prelude.{◌≡◌, ◌++◌, IfOk, OnOk, flat_map};
 ghost use Rattle.alpha_lines.specs.Lines.{item_line, fix_line};
-ghost use Rattle.alpha_text.specs.Texts.{Texts, ended, ended_lines, hex_lines, asm_text};
+ghost use Rattle.alpha_text.specs.Texts.{Texts, with_line_feed, ended_lines, hex_lines, asm_text};
 
 use alpha_items::asm::Asm;
 use alpha_items::item::{AsmItem, Fix};
@@ -14,7 +14,7 @@ const ROW: usize = 32;
 
 /// Appends the lines of items.
 fn push_items(text: &mut Vec<u8>, items: &[AsmItem]) -> Result<(), AllocError>
-    ensures { OnOk result (text.new.items ≡ text.old.items ++ flat_map (λ i. ended (item_line i)) items.now) }
+    ensures { OnOk result (text.new.items ≡ text.old.items ++ flat_map (λ i. with_line_feed (item_line i)) items.now) }
 {
     for item in items {
         push_item(text, item)?;
@@ -39,7 +39,7 @@ fn push_rows(text: &mut Vec<u8>, bytes: &[u8]) -> Result<(), AllocError>
 
 /// Appends the lines of fixes.
 fn push_fixes(text: &mut Vec<u8>, fixes: &[Fix]) -> Result<(), AllocError>
-    ensures { OnOk result (text.new.items ≡ text.old.items ++ flat_map (λ fix. ended (fix_line fix)) fixes.now) }
+    ensures { OnOk result (text.new.items ≡ text.old.items ++ flat_map (λ fix. with_line_feed (fix_line fix)) fixes.now) }
 {
     for fix in fixes {
         push_fix(text, fix)?;

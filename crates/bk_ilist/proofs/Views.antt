@@ -5,7 +5,7 @@ use Rattle.std.proofs.lemmas.List.Elements.{All-nil, All-cons}
 use Rattle.std.specs.List.{IsDistinct}
 use Rattle.bk_ilist.specs.declared.node.Node.{Node}
 use Rattle.bk_ilist.specs.Listing.{Listing, ids, first_or, last_or, HasId, IsListing}
-use Rattle.bk_ilist.specs.model.Chain.{item_of, walk, pairs_from, node, Linked, IsChain}
+use Rattle.bk_ilist.specs.model.Chain.{item_of, walk, pairs_from, node, IsChainPart, IsChain}
 use Rattle.bk_ilist.proofs.Chains.{linked_left, linked_right, node_of_pair}
 use Rattle.bk_ilist.proofs.Changes.{last_or-append}
 
@@ -51,11 +51,11 @@ module _ {T : Type 0} where
   item_read nodes first last pairs before after id item got chain view split is =
       same_Some got item (sym is ∙ ap item_of (found nodes first last pairs before after id item chain view split))
 
-  first_within : (nodes : List (Node T)) (prev : Option ℕ) (xs : List (ℕ × T)) (next : Option ℕ) (n : ℕ) → length nodes ≤ n → Linked (slice_get nodes) prev xs next → IfSome (first_or xs None) (λ id. id < n)
+  first_within : (nodes : List (Node T)) (prev : Option ℕ) (xs : List (ℕ × T)) (next : Option ℕ) (n : ℕ) → length nodes ≤ n → IsChainPart (slice_get nodes) prev xs next → IfSome (first_or xs None) (λ id. id < n)
   first_within nodes prev [] next n enough a = tt
   first_within nodes prev (x ∷ xs) next n enough a = omega (arith, slice_get_within nodes x.0 _ a.0)
 
-  last_within : (nodes : List (Node T)) (prev other : Option ℕ) (xs : List (ℕ × T)) (next : Option ℕ) (n : ℕ) → length nodes ≤ n → IfSome other (λ id. id < n) → Linked (slice_get nodes) prev xs next → IfSome (last_or xs other) (λ id. id < n)
+  last_within : (nodes : List (Node T)) (prev other : Option ℕ) (xs : List (ℕ × T)) (next : Option ℕ) (n : ℕ) → length nodes ≤ n → IfSome other (λ id. id < n) → IsChainPart (slice_get nodes) prev xs next → IfSome (last_or xs other) (λ id. id < n)
   last_within nodes prev other [] next n enough h a = h
   last_within nodes prev other (x ∷ xs) next n enough h a =
       let here : x.0 < n = omega (arith, slice_get_within nodes x.0 _ a.0) in
@@ -64,12 +64,12 @@ module _ {T : Type 0} where
   -- the links at a gap name nodes
   pub gap_prev : (nodes : List (Node T)) (first last : Option ℕ) (pairs before after : List (ℕ × T)) (prev : Option ℕ) (n : ℕ) → IsChain nodes first last (pairs_from nodes first) → pairs_from nodes first ≡ pairs → pairs ≡ before ++ after → prev ≡ last_or before None → length nodes ≤ n → IfSome prev (λ id. id < n)
   gap_prev nodes first last pairs before after prev n chain view split is enough =
-      let whole : Linked (slice_get nodes) None (before ++ after) None = subst (λ ps. Linked (slice_get nodes) None ps None) (view ∙ split) chain.linked in
+      let whole : IsChainPart (slice_get nodes) None (before ++ after) None = subst (λ ps. IsChainPart (slice_get nodes) None ps None) (view ∙ split) chain.linked in
       subst (λ p. IfSome p (λ id. id < n)) (sym is) (last_within nodes None None before _ n enough tt (linked_left (slice_get nodes) None before after None whole))
 
   pub gap_next : (nodes : List (Node T)) (first last : Option ℕ) (pairs before after : List (ℕ × T)) (next : Option ℕ) (n : ℕ) → IsChain nodes first last (pairs_from nodes first) → pairs_from nodes first ≡ pairs → pairs ≡ before ++ after → next ≡ first_or after None → length nodes ≤ n → IfSome next (λ id. id < n)
   gap_next nodes first last pairs before after next n chain view split is enough =
-      let whole : Linked (slice_get nodes) None (before ++ after) None = subst (λ ps. Linked (slice_get nodes) None ps None) (view ∙ split) chain.linked in
+      let whole : IsChainPart (slice_get nodes) None (before ++ after) None = subst (λ ps. IsChainPart (slice_get nodes) None ps None) (view ∙ split) chain.linked in
       subst (λ p. IfSome p (λ id. id < n)) (sym is) (first_within nodes _ after None n enough (linked_right (slice_get nodes) None before after None whole))
 
   -- a split behind a pair
@@ -85,7 +85,7 @@ module _ {T : Type 0} where
   next_within nodes first last pairs id node n chain view has read enough =
       gap_next nodes first last pairs (has.before ++ (id, has.item) ∷ []) has.after node.next n chain view (split_after pairs has.before has.after (id, has.item) has.split) (next_read nodes first last pairs has.before has.after id has.item node chain view has.split read) enough
 
-  given : (nodes : List (Node T)) (prev : Option ℕ) (xs : List (ℕ × T)) (next : Option ℕ) → Linked (slice_get nodes) prev xs next → All (λ id. id < length nodes) (ids xs)
+  given : (nodes : List (Node T)) (prev : Option ℕ) (xs : List (ℕ × T)) (next : Option ℕ) → IsChainPart (slice_get nodes) prev xs next → All (λ id. id < length nodes) (ids xs)
   given nodes prev [] next a = All-nil (λ id. id < length nodes)
   given nodes prev (x ∷ xs) next a = All-cons (λ id. id < length nodes) x.0 (ids xs) (slice_get_within nodes x.0 _ a.0) (given nodes (Some x.0) xs next a.1)
 

@@ -3,7 +3,7 @@ use Rattle.std.proofs.Common.{◌≡◌, ℕ, ◌+◌, List, [], ◌∷◌, ◌+
 use Rattle.std.proofs.Math.Seq.{take-length, drop-length}
 use Rattle.bk_ilist.specs.declared.node.Node.{Node}
 use Rattle.bk_ilist.specs.Listing.{first_or, last_or}
-use Rattle.bk_ilist.specs.model.Chain.{node, IsChain, with_item, with_next, with_prev, Changes, moved}
+use Rattle.bk_ilist.specs.model.Chain.{node, IsChain, with_item, with_next, with_prev, Changes, end_behind}
 use Rattle.bk_ilist.proofs.Changes.{chain_inserted, chain_unlinked, chain_set}
 
 module _ {T : Type 0} where
@@ -22,7 +22,7 @@ module _ {T : Type 0} where
     pub chain : IsChain new_nodes first last pairs
     pub grown : length new_nodes ≡ length nodes + 1
 
-  pub inserted : (nodes pushed shown forward shown_2 back : List (Node T)) (n : ℕ) (first last first' last' prev next : Option ℕ) (xs before after : List (ℕ × T)) (new : ℕ) (item : T) → IsChain nodes first last xs → xs ≡ before ++ after → prev ≡ last_or before None → next ≡ first_or after None → new ≡ length nodes → pushed ≡ nodes ++ node item prev next ∷ [] → n ≡ length pushed → shown ≡ pushed → length forward ≡ length shown → Changes (with_next (Some new)) prev shown forward → shown_2 ≡ put n forward pushed → length back ≡ length shown_2 → Changes (with_prev (Some new)) next shown_2 back → first' ≡ moved prev (Some new) first → last' ≡ moved next (Some new) last → Inserted nodes (put n back (put n forward pushed)) back first' last' (before ++ (new, item) ∷ after)
+  pub inserted : (nodes pushed shown forward shown_2 back : List (Node T)) (n : ℕ) (first last first' last' prev next : Option ℕ) (xs before after : List (ℕ × T)) (new : ℕ) (item : T) → IsChain nodes first last xs → xs ≡ before ++ after → prev ≡ last_or before None → next ≡ first_or after None → new ≡ length nodes → pushed ≡ nodes ++ node item prev next ∷ [] → n ≡ length pushed → shown ≡ pushed → length forward ≡ length shown → Changes (with_next (Some new)) prev shown forward → shown_2 ≡ put n forward pushed → length back ≡ length shown_2 → Changes (with_prev (Some new)) next shown_2 back → first' ≡ end_behind prev (Some new) first → last' ≡ end_behind next (Some new) last → Inserted nodes (put n back (put n forward pushed)) back first' last' (before ++ (new, item) ∷ after)
   inserted nodes pushed shown forward shown_2 back n first last first' last' prev next xs before after new item chain split prev_is next_is new_is pushed_is n_is shown_is forward_length forward_is shown_2_is back_length back_is first_is last_is =
       let grown : length pushed ≡ length nodes + 1 = omega (arith, ap length pushed_is, length-append nodes (node item prev next ∷ [])) in
       let forward_n : length forward ≡ n = omega (arith, ap length shown_is) in
@@ -44,7 +44,7 @@ module _ {T : Type 0} where
     pub chain : IsChain new_nodes first last pairs
     pub same : length new_nodes ≡ length nodes
 
-  pub unlinked : (nodes shown emptied shown_2 forward shown_3 back : List (Node T)) (n : ℕ) (first last first' last' prev next : Option ℕ) (xs before after : List (ℕ × T)) (id : ℕ) (item : T) → IsChain nodes first last xs → xs ≡ before ++ (id, item) ∷ after → prev ≡ last_or before None → next ≡ first_or after None → n ≡ length nodes → shown ≡ nodes → length emptied ≡ length shown → Changes (with_item None) (Some id) shown emptied → shown_2 ≡ put n emptied nodes → length forward ≡ length shown_2 → Changes (with_next next) prev shown_2 forward → shown_3 ≡ put n forward (put n emptied nodes) → length back ≡ length shown_3 → Changes (with_prev prev) next shown_3 back → first' ≡ moved prev next first → last' ≡ moved next prev last → Rewritten nodes (put n back (put n forward (put n emptied nodes))) back first' last' (before ++ after)
+  pub unlinked : (nodes shown emptied shown_2 forward shown_3 back : List (Node T)) (n : ℕ) (first last first' last' prev next : Option ℕ) (xs before after : List (ℕ × T)) (id : ℕ) (item : T) → IsChain nodes first last xs → xs ≡ before ++ (id, item) ∷ after → prev ≡ last_or before None → next ≡ first_or after None → n ≡ length nodes → shown ≡ nodes → length emptied ≡ length shown → Changes (with_item None) (Some id) shown emptied → shown_2 ≡ put n emptied nodes → length forward ≡ length shown_2 → Changes (with_next next) prev shown_2 forward → shown_3 ≡ put n forward (put n emptied nodes) → length back ≡ length shown_3 → Changes (with_prev prev) next shown_3 back → first' ≡ end_behind prev next first → last' ≡ end_behind next prev last → Rewritten nodes (put n back (put n forward (put n emptied nodes))) back first' last' (before ++ after)
   unlinked nodes shown emptied shown_2 forward shown_3 back n first last first' last' prev next xs before after id item chain split prev_is next_is n_is shown_is emptied_length emptied_is shown_2_is forward_length forward_is shown_3_is back_length back_is first_is last_is =
       let emptied_n : length emptied ≡ n = omega (arith, ap length shown_is) in
       let one : put n emptied nodes ≡ emptied = written_back n emptied nodes emptied_n (sym n_is) in

@@ -1,7 +1,7 @@
 //! Nodes of a chain, and the writes to one link or item.
 
 ghost use Rattle.std.specs.Prelude.{◌≡◌, ℕ, ◌<◌, length, slice_get, Option, Some, IfSome, IsSome};
-ghost use Rattle.bk_ilist.specs.model.Chain.{with_item, with_next, with_prev, Changes, moved, item_of, next_of};
+ghost use Rattle.bk_ilist.specs.model.Chain.{with_item, with_next, with_prev, Changes, end_behind, item_of, next_of};
 
 use std::mem;
 
@@ -22,7 +22,7 @@ pub(crate) fn link_forward<T>(
 )
     requires { IfSome at (λ id. id < length nodes.old) }
     ensures nodes { Changes (with_next to) at nodes.old nodes.new }
-    ensures first { first.new ≡ moved at to first.old }
+    ensures first { first.new ≡ end_behind at to first.old }
 {
     match at {
         Some(id) => nodes[id as usize].next = to,
@@ -39,7 +39,7 @@ pub(crate) fn link_back<T>(
 )
     requires { IfSome at (λ id. id < length nodes.old) }
     ensures nodes { Changes (with_prev to) at nodes.old nodes.new }
-    ensures last { last.new ≡ moved at to last.old }
+    ensures last { last.new ≡ end_behind at to last.old }
 {
     match at {
         Some(id) => nodes[id as usize].prev = to,

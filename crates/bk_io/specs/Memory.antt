@@ -47,8 +47,8 @@ pub record Drawer : Type 0 where
   pub faults : ℕ
 
 -- a name and the bytes of its file
-abbrev pub named : {A B : Type 0} → String A × Vec ℕ B → List ℕ × List ℕ
-named file = (string_bytes file.0, file.1.items)
+abbrev pub name_and_bytes : {A B : Type 0} → String A × Vec ℕ B → List ℕ × List ℕ
+name_and_bytes file = (string_bytes file.0, file.1.items)
 
 -- a shelf of these files: the first entry of a name counts
 abbrev pub shelf_at : List (List ℕ × List ℕ) → List ℕ → ℕ → Shelf

@@ -4,7 +4,7 @@ ghost use Rattle.std.specs.Prelude.{◌≡◌, ◌↔◌, [], IfOk, IsTrue, IsEr
 ghost use Rattle.std.specs.Map.{lookup};
 ghost use Rattle.bk_io.specs.Outside.{next_count, faults_after, left_after, taken_after, TakesSlice};
 ghost use Rattle.bk_io.specs.Shelf.{is_due, file_of, Appends, AppendsFile, HasCause};
-ghost use Rattle.bk_io.specs.Memory.{shelf_at, shelf_of, named, is_put_due, after_put, after_puts, all_put};
+ghost use Rattle.bk_io.specs.Memory.{shelf_at, shelf_of, name_and_bytes, is_put_due, after_put, after_puts, all_put};
 
 use crate::outside::{Failed, FileFault, Files, Got, Sink, Source};
 use std::alloc::{AllocError, Global};
@@ -173,11 +173,11 @@ pub struct MemFiles {
 impl Model for MemFiles {
     ghost use Rattle.std.specs.Prelude.{◌≤◌, map};
     ghost use Rattle.bk_io.specs.Outside.{count_end};
-    ghost use Rattle.bk_io.specs.Memory.{Drawer, named};
+    ghost use Rattle.bk_io.specs.Memory.{Drawer, name_and_bytes};
 
     ghost Value = { Drawer };
 
-    ghost view = { λ s. record { files = map named s.files.items; failing = s.fails.items; made = s.made; faults = s.faults } };
+    ghost view = { λ s. record { files = map name_and_bytes s.files.items; failing = s.fails.items; made = s.made; faults = s.faults } };
 
     ghost invariant = { λ s. s.faults ≤ count_end };
 }
@@ -188,7 +188,7 @@ impl MemFiles {
     /// The files with these names and bytes; the first entry of a name counts. The calls with the
     /// numbers in `fails`, counted from 0, fail, and so does each read of a name that is not there.
     pub fn new(files: Vec<(String, Vec<u8>)>, fails: Vec<u64>) -> MemFiles
-        ensures { result ≡ record { files = map named files.items; failing = fails.items; made = 0; faults = 0 } }
+        ensures { result ≡ record { files = map name_and_bytes files.items; failing = fails.items; made = 0; faults = 0 } }
     {
         MemFiles {
             files,
@@ -201,7 +201,7 @@ impl MemFiles {
 
 /// The bytes of the first file with this name.
 fn find<'a>(files: &'a [(String, Vec<u8>)], name: &str) -> Option<&'a [u8]>
-    ensures { option_copied result ≡ lookup (bytes_eq name.now) (map named files.now) }
+    ensures { option_copied result ≡ lookup (bytes_eq name.now) (map name_and_bytes files.now) }
 {
     for file in files {
         if name == file.0.as_str() {
@@ -218,8 +218,8 @@ fn open<'a>(
     call: u64,
     name: &str,
 ) -> Option<&'a [u8]>
-    ensures due { IsNone result ↔ IsTrue (is_due (shelf_at (map named files.now) fails.now call) name.now) }
-    ensures file { IfSome result (λ file. file.now ≡ file_of (shelf_at (map named files.now) fails.now call) name.now) }
+    ensures due { IsNone result ↔ IsTrue (is_due (shelf_at (map name_and_bytes files.now) fails.now call) name.now) }
+    ensures file { IfSome result (λ file. file.now ≡ file_of (shelf_at (map name_and_bytes files.now) fails.now call) name.now) }
 {
     if fails.contains(&call) {
         return None;

@@ -173,9 +173,9 @@ fn forms_in_memory_fail_at_the_listed_calls(rt: HostRuntime) -> Result<(), Fail>
     }
     assert_eq!(rt; sink.taken(), [5, 5].as_slice());
 
-    let mut named = Vec::new(alloc);
-    named.push(("a.c".to_string(alloc)?, b"int".to_vec(alloc)?))?;
-    let mut files = MemFiles::new(named, [1].to_vec(alloc)?);
+    let mut name_and_bytes = Vec::new(alloc);
+    name_and_bytes.push(("a.c".to_string(alloc)?, b"int".to_vec(alloc)?))?;
+    let mut files = MemFiles::new(name_and_bytes, [1].to_vec(alloc)?);
     let mut into = Vec::new(alloc);
     let cases = [
         ("a.c", Ok(Got::Whole)),

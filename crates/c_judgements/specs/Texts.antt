@@ -7,12 +7,12 @@ use Rattle.c_type_rules.specs.declared.typed.TypedExpression.{TypedExpression}
 use Rattle.c_checks.specs.Checks.{Check, and_then, pure}
 use Rattle.c_checks.specs.Notes.{new_text}
 
-abbrev pub joined : (spellings : List (List ℕ)) → List ℕ
-joined [] = []
-joined (s ∷ ss) = text_bytes s ++ joined ss
+abbrev pub join_spellings : (spellings : List (List ℕ)) → List ℕ
+join_spellings [] = []
+join_spellings (s ∷ ss) = text_bytes s ++ join_spellings ss
 
 abbrev pub bytes_of : (spellings : List (List ℕ)) → List ℕ
-bytes_of spellings = joined spellings ++ 0 ∷ []
+bytes_of spellings = join_spellings spellings ++ 0 ∷ []
 
 abbrev pub string : ℕ → (spellings : List (List ℕ)) → Check (Option TypedExpression)
 string at spellings n =

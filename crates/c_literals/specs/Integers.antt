@@ -50,11 +50,11 @@ unfoldable pub word_of_number : ℕ → Option ℕ
 word_of_number n = if nat_le n (2 ^ 64 - 1) then Some n else None
 
 -- a value in its type, as the word that the type holds it by
-abbrev pub held : ℕ → IntegerType → IntegerLiteral
-held n t = record { ty = t; word = extension t n }
+abbrev pub literal_of_type : ℕ → IntegerType → IntegerLiteral
+literal_of_type n t = record { ty = t; word = extension t n }
 
 abbrev pub literal : (decimal : Bool) → (suffix : List ℕ) → ℕ → Option IntegerLiteral
-literal decimal suffix n = option_map (held n) (type_of decimal (has_u suffix) (has_l suffix) n)
+literal decimal suffix n = option_map (literal_of_type n) (type_of decimal (has_u suffix) (has_l suffix) n)
 
 -- digits in a base, and the suffix behind them
 abbrev pub literal_in : (base : ℕ) → (is_digit : ℕ → Bool) → List ℕ → Option IntegerLiteral

@@ -12,7 +12,7 @@ use Rattle.std.proofs.lemmas.Slice.Eq.{bytes_eq-Decides}
 use Rattle.indexmap.specs.IndexMap.{insert_entry}
 use Rattle.c_scopes.specs.Names.{Entry, find}
 use Rattle.c_scopes.specs.declared.table.Declaration.{Declaration}
-use Rattle.c_scopes.specs.model.Shadows.{place_of, joined, IsNewest, entry_of, entries_of, IsChained}
+use Rattle.c_scopes.specs.model.Shadows.{place_of, flatten, IsNewest, entry_of, entries_of, IsChained}
 
 same : (x y : List ℕ) → bytes_eq x y ≡ true → x ≡ y
 same x y e = (bytes_eq-Decides x y).0 e
@@ -71,11 +71,11 @@ module _ {V : Type 0} where
       by rest false h = ap (λ r. e ∷ r) (rest h)
 
 -- the newest name more, and the newest name less
-more : {X : Type 0} (b : Bool) (p : ℕ) (v : X) (r : Option (Option ℕ)) (f : Option (ℕ × X)) → joined r ≡ place_of f → joined (cond b (Some (Some p)) r) ≡ place_of (cond b (Some (p, v)) f)
+more : {X : Type 0} (b : Bool) (p : ℕ) (v : X) (r : Option (Option ℕ)) (f : Option (ℕ × X)) → flatten r ≡ place_of f → flatten (cond b (Some (Some p)) r) ≡ place_of (cond b (Some (p, v)) f)
 more true p v r f h = refl
 more false p v r f h = h
 
-is_there : (r : Option (Option ℕ)) (p : ℕ) → joined r ≡ Some p → (w : Option ℕ) × (r ≡ Some w)
+is_there : (r : Option (Option ℕ)) (p : ℕ) → flatten r ≡ Some p → (w : Option ℕ) × (r ≡ Some w)
 is_there None p h = let clash : ⊥ = cc in absurd clash
 is_there (Some w) p h = (w, refl)
 
@@ -83,18 +83,18 @@ module _ {X S : Type 0} where
   pub push-IsNewest : (m n : HashMap (Bor (List ℕ)) (Option ℕ) S) (eq : Bor (List ℕ) → Bor (List ℕ) → Bool) → ((k l : Bor (List ℕ)) → eq k l ≡ bytes_eq k.now l.now) → (k : Bor (List ℕ)) (p : ℕ) (x : Entry X) (xs : List (Entry X))
       → n.entries ≡ insert_entry eq m.entries k (Some p) → k.now ≡ x.name → p ≡ length xs → IsNewest m xs → IsNewest n (x ∷ xs)
   push-IsNewest m n eq is k p x xs entries name place old q =
-      ap joined (ap (lookup (λ l. bytes_eq q l.now)) entries ∙ lookup-insert eq is m.entries k (Some p) q ∙ ap (λ y. cond (bytes_eq q y) (Some (Some p)) (lookup (λ l. bytes_eq q l.now) m.entries)) name)
+      ap flatten (ap (lookup (λ l. bytes_eq q l.now)) entries ∙ lookup-insert eq is m.entries k (Some p) q ∙ ap (λ y. cond (bytes_eq q y) (Some (Some p)) (lookup (λ l. bytes_eq q l.now) m.entries)) name)
       ∙ more (bytes_eq q x.name) p x.value _ (find q xs) (old q) ∙ ap (λ i. place_of (cond (bytes_eq q x.name) (Some (i, x.value)) (find q xs))) place
 
   pub pop-IsNewest : (m n : HashMap (Bor (List ℕ)) (Option ℕ) S) (name : List ℕ) (shadows : Option ℕ) (x : Entry X) (xs : List (Entry X))
       → n.entries ≡ set_value (λ l. bytes_eq name l.now) m.entries shadows → name ≡ x.name → shadows ≡ place_of (find x.name xs) → IsNewest m (x ∷ xs) → IsNewest n xs
   pop-IsNewest m n name shadows x xs entries is_name is_shadows old q =
-      ap joined (ap (lookup (λ l. bytes_eq q l.now)) entries ∙ lookup-set m.entries name shadows there.0 q there.1) ∙ by (bytes_eq q name) refl
+      ap flatten (ap (lookup (λ l. bytes_eq q l.now)) entries ∙ lookup-set m.entries name shadows there.0 q there.1) ∙ by (bytes_eq q name) refl
     where
       there : (w : Option ℕ) × (lookup (λ l. bytes_eq name l.now) m.entries ≡ Some w)
       there = is_there _ (length xs) (old name ∙ ap (λ b. place_of (cond b (Some (length xs, x.value)) (find name xs))) (ap (bytes_eq name) (sym is_name) ∙ is_itself name))
 
-      by : (b : Bool) → bytes_eq q name ≡ b → joined (cond b (Some shadows) (lookup (λ l. bytes_eq q l.now) m.entries)) ≡ place_of (find q xs)
+      by : (b : Bool) → bytes_eq q name ≡ b → flatten (cond b (Some shadows) (lookup (λ l. bytes_eq q l.now) m.entries)) ≡ place_of (find q xs)
       by true h = is_shadows ∙ ap (λ y. place_of (find y xs)) (sym is_name ∙ sym (same q name h))
       by false h = old q ∙ ap (λ b. place_of (cond b (Some (length xs, x.value)) (find q xs))) (ap (bytes_eq q) (sym is_name) ∙ h)
 

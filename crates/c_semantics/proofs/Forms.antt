@@ -28,7 +28,7 @@ use Rattle.c_typed_tree.specs.declared.expressions.Builtin.{Builtin}
 use Rattle.c_typed_tree.specs.declared.expressions.Callee.{Callee}
 use Rattle.c_typed_tree.specs.declared.units.TypedFn.{TypedFn}
 use Rattle.c_typed_tree.specs.Expressions.{Expr, Number, Global, Call, Unary, Binary, Assign, Conditional, Cast, Convert, Index, Field, Arrow, Postfix, Comma, Exprs, no_exprs, more_exprs, type_of}
-use Rattle.c_typed_tree.specs.Statements.{Declared, First, Stmt, Else, no_else, else_stmt, Stmts, no_stmts, more_stmts, Sections, no_sections, more_sections}
+use Rattle.c_typed_tree.specs.Statements.{LocalDeclaration, First, Stmt, Else, no_else, else_stmt, Stmts, no_stmts, more_stmts, Sections, no_sections, more_sections}
 use Rattle.c_typed_tree.specs.View.{type_view, stmt_view}
 use Rattle.c_semantics.specs.Evaluates.{put, get, builtin, Functions, call, element, member_at, target_of, update, assign, choose, converted_from, eval, place, evals, last_of}
 use Rattle.c_semantics.specs.Executes.{Flow, Goes, Breaks, Continues, Returns, after_body, and_next, after_switch, declared_in, declared_first, is_label_of, target_in, with_parameters, value_of_call, body_of, holds, condition, step, initialise, declare, declares, first, return_value, exec, exec_else, execs, exec_sections, exec_from, within_call, Level, call_of}
@@ -491,10 +491,10 @@ module _ (R : (A : Type 0) → Run A → Run A → Type 0) (kept : Congruence R)
     initialise_related scope k (Some l) (Some x) =
         kept.bind (eval_related scope x) (λ v. kept.bind (steady_local scope k (Some l)) (λ p. steady_write_place ds (type_view l.ty) p v))
 
-    pub declare_related : (scope : Scope) (d : Declared) → Related (declare ds ls f scope d) (declare ds ls f' scope d)
+    pub declare_related : (scope : Scope) (d : LocalDeclaration) → Related (declare ds ls f scope d) (declare ds ls f' scope d)
     declare_related scope d = initialise_related scope d.number (slice_get ls d.number) d.init
 
-    pub declares_related : (scope : Scope) (more : List Declared) → Related (declares ds ls f scope more) (declares ds ls f' scope more)
+    pub declares_related : (scope : Scope) (more : List LocalDeclaration) → Related (declares ds ls f scope more) (declares ds ls f' scope more)
     declares_related scope [] = kept.pure tt
     declares_related scope (d ∷ more) = kept.bind (declare_related scope d) (λ _. declares_related scope more)
 

@@ -16,7 +16,7 @@ use Rattle.c_typed_tree.specs.Layout.{integer_of}
 use Rattle.c_typed_tree.specs.Constants.{is_integer, is_pure_operator, is_built, are_built, unary_value, converted_value, value_with, constant, last_value, is_null_constant}
 use Rattle.c_typed_tree.specs.Typing.{Context, Signature, is_fit, is_same_type, is_array, has_promoted_type, has_truth_type, has_step_type, has_binary_type, has_assigned_type, is_choice, is_cast, is_conversion, is_element, is_member, points_to, callee_signature, is_call, are_arguments, is_place, is_in_memory, has_last_type, are_operands, has_unary_type, has_rule, is_typed, are_typed}
 use Rattle.c_typed_tree.specs.Typing as rules
-use Rattle.c_typed_tree.specs.Names.{Named, is_function, names, any_names}
+use Rattle.c_typed_tree.specs.Names.{Referent, is_function, names, any_names}
 use Rattle.c_typed_tree.specs.Weight.{exprs_count, expr_weight, exprs_weight}
 use Rattle.c_semantics.specs.Runs.{Run}
 use Rattle.c_semantics.specs.Objects.{Scope}
@@ -35,7 +35,7 @@ use Rattle.c_semantics.proofs.Below.{below_refines, refines_below, onto, BelowOf
 pub record Inside (c : Context) (x y : Expr) : Type 0 where
   pub typed : IsTrue (is_typed c x)
   pub types : type_of x ≡ type_of y
-  pub named : (a : Named) → IsTrue (names a x) → IsTrue (names a y)
+  pub named : (a : Referent) → IsTrue (names a x) → IsTrue (names a y)
   pub weight : expr_weight c.structs x ≤ expr_weight c.structs y
   pub places : IsTrue (is_place y) → IsTrue (is_place x)
   pub memory : IsTrue (is_in_memory c.locals y) → IsTrue (is_in_memory c.locals x)
@@ -203,7 +203,7 @@ module _ (c : Context) {x y v w : Expr} (h : Inside c x y) (g : Inside c v w) wh
   along_both : (test : PlainType → PlainType → Bool) → IsTrue (test (type_of y) (type_of w)) → IsTrue (test (type_of x) (type_of v))
   along_both test r = along (λ o. test o (type_of v)) h.types (along (λ o. test (type_of y) o) g.types r)
 
-  named_both : (a : Named) → IsTrue (names a x || names a v) → IsTrue (names a y || names a w)
+  named_both : (a : Referent) → IsTrue (names a x || names a v) → IsTrue (names a y || names a w)
   named_both a = either_on (names a x) (names a v) (names a y) (names a w) (h.named a) (g.named a)
 
   both_types : (op : BinaryOp) (a d : Value) → binary c.structs op (type_of x) (type_of v) a d ≡ binary c.structs op (type_of y) (type_of w) a d
@@ -317,7 +317,7 @@ record ListIn (c : Context) (xs ys : Exprs) : Type 0 where
   typed : IsTrue (are_typed c xs)
   arguments : (ts : List PlainType) → IsTrue (are_arguments ts ys) → IsTrue (are_arguments ts xs)
   last_type : (t last : PlainType) → IsTrue (has_last_type t last ys) → IsTrue (has_last_type t last xs)
-  named : (a : Named) → IsTrue (any_names a xs) → IsTrue (any_names a ys)
+  named : (a : Referent) → IsTrue (any_names a xs) → IsTrue (any_names a ys)
   count : exprs_count xs ≡ exprs_count ys
   weight : exprs_weight c.structs xs ≤ exprs_weight c.structs ys
   built : IsTrue (are_built ys) → IsTrue (are_built xs)

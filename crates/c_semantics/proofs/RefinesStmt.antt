@@ -11,14 +11,14 @@ use Rattle.c_typed_tree.specs.declared.units.Local.{Local}
 use Rattle.c_typed_tree.specs.declared.units.TypedUnit.{TypedUnit}
 use Rattle.c_typed_tree.specs.Types.{PlainType}
 use Rattle.c_typed_tree.specs.Expressions.{Expr, type_of}
-use Rattle.c_typed_tree.specs.Statements.{Declared, First, Stmt, Else, no_else, else_stmt, Stmts, no_stmts, more_stmts, Sections, no_sections, more_sections}
+use Rattle.c_typed_tree.specs.Statements.{LocalDeclaration, First, Stmt, Else, no_else, else_stmt, Stmts, no_stmts, more_stmts, Sections, no_sections, more_sections}
 use Rattle.c_typed_tree.specs.Statements as q
 use Rattle.c_typed_tree.specs.Layout.{integer_of}
 use Rattle.c_typed_tree.specs.View.{type_view}
 use Rattle.c_typed_tree.specs.Typing.{Context, is_same_type, is_void, is_scalar, is_array, is_promoted, is_typed}
 use Rattle.c_typed_tree.specs.TypingStatements as types
 use Rattle.c_typed_tree.specs.TypingStatements.{Jumps, in_loop, in_switch, is_value, is_condition, is_optional_value, is_optional_condition, has_initialised_type, is_initialiser, is_declared, is_first, is_returned, is_label, is_same_label, are_labels, is_typed_stmt, is_typed_else, are_typed_stmts, are_typed_sections}
-use Rattle.c_typed_tree.specs.Names.{Named, is_local, names, optional_names, declared_names, first_names, stmt_names, else_names, stmts_names, sections_names}
+use Rattle.c_typed_tree.specs.Names.{Referent, is_local, names, optional_names, declared_names, first_names, stmt_names, else_names, stmts_names, sections_names}
 use Rattle.c_typed_tree.specs.Weight.{copy_weight, expr_weight, optional_weight, init_weight, declared_weight, first_weight, stmt_weight, else_weight, stmts_weight, sections_weight}
 use Rattle.c_semantics.specs.Runs.{Run, ◌>>=◌, ◌>>◌, pure, turn}
 use Rattle.c_semantics.specs.Objects.{Scope, with_locals}
@@ -33,7 +33,7 @@ use Rattle.c_semantics.proofs.Below.{below_refines, refines_below, BelowOf, kept
 
 -- ---- the locals and labels of both are the same
 
-all_numbers : {a b : List Declared} → AllDeclaredWithin a b → map (λ d. d.number) a ≡ map (λ d. d.number) b
+all_numbers : {a b : List LocalDeclaration} → AllDeclaredWithin a b → map (λ d. d.number) a ≡ map (λ d. d.number) b
 all_numbers r.no_more = refl
 all_numbers (r.one_more {e = e} {ds = ds} h g) = ap (λ k. k ∷ map (λ d. d.number) ds) h.number ∙ ap (λ ks. e.number ∷ ks) (all_numbers g)
 
@@ -60,9 +60,9 @@ labels_on t (r.one_section {label = label} {a = a} {b = b} h g) =
 
 -- ---- parts of statements: still well typed, naming nothing new, and weighing no more
 
-record PartIn (typed : Bool) (named others : Named → Bool) (weight most : ℕ) : Type 0 where
+record PartIn (typed : Bool) (named others : Referent → Bool) (weight most : ℕ) : Type 0 where
   fits : IsTrue typed
-  names : (a : Named) → IsTrue (named a) → IsTrue (others a)
+  names : (a : Referent) → IsTrue (named a) → IsTrue (others a)
   light : weight ≤ most
 
 module _ (c : Context) where
@@ -136,7 +136,7 @@ module _ (c : Context) where
         light = omega (arith, e.weight, ap (λ o. copy_weight c.structs o) e.types);
       }
 
-  declared_part : {d e : Declared} → DeclaredWithin d e → IsTrue (is_declared c e)
+  declared_part : {d e : LocalDeclaration} → DeclaredWithin d e → IsTrue (is_declared c e)
       → PartIn (is_declared c d) (λ a. declared_names a d) (λ a. declared_names a e) (declared_weight c.structs d) (declared_weight c.structs e)
   declared_part {d = d} {e = e} h p =
       let i = initialiser_part (slice_get c.locals e.number) h.init p in
@@ -146,7 +146,7 @@ module _ (c : Context) where
         light = omega (arith, i.light);
       }
 
-  all_declared_part : {ds es : List Declared} → AllDeclaredWithin ds es → IsTrue (list_all (is_declared c) es)
+  all_declared_part : {ds es : List LocalDeclaration} → AllDeclaredWithin ds es → IsTrue (list_all (is_declared c) es)
       → PartIn (list_all (is_declared c) ds) (λ a. list_any (declared_names a) ds) (λ a. list_any (declared_names a) es) (sum_by (declared_weight c.structs) ds) (sum_by (declared_weight c.structs) es)
   all_declared_part r.no_more p = record { fits = p; names = λ a h. h; light = omega arith }
   all_declared_part (r.one_more {d = d} {e = e} {ds = ds} {es = es} h g) p =
@@ -169,7 +169,7 @@ module _ (c : Context) where
 record StmtIn (unit : TypedUnit) (n : ℕ) (j : Jumps) (s t : Stmt) : Type 0 where
   typed : IsTypedAt unit n j s
   declares : declared_by s ≡ declared_by t
-  named : (a : Named) → IsTrue (stmt_names a s) → IsTrue (stmt_names a t)
+  named : (a : Referent) → IsTrue (stmt_names a s) → IsTrue (stmt_names a t)
   weight : stmt_weight unit.structs s ≤ stmt_weight unit.structs t
 
 module _ (unit : TypedUnit) (n : ℕ) where
@@ -181,18 +181,18 @@ module _ (unit : TypedUnit) (n : ℕ) where
 
   record ElseIn (j : Jumps) (s t : Else) : Type 0 where
     typed : IsTrue (is_typed_else here gives j s)
-    named : (a : Named) → IsTrue (else_names a s) → IsTrue (else_names a t)
+    named : (a : Referent) → IsTrue (else_names a s) → IsTrue (else_names a t)
     weight : else_weight unit.structs s ≤ else_weight unit.structs t
 
   record StmtsIn (j : Jumps) (s t : Stmts) : Type 0 where
     typed : IsTrue (are_typed_stmts here gives j s)
     declares : declared_in s ≡ declared_in t
-    named : (a : Named) → IsTrue (stmts_names a s) → IsTrue (stmts_names a t)
+    named : (a : Referent) → IsTrue (stmts_names a s) → IsTrue (stmts_names a t)
     weight : stmts_weight unit.structs s ≤ stmts_weight unit.structs t
 
   record SectionsIn (j : Jumps) (s t : Sections) : Type 0 where
     typed : IsTrue (are_typed_sections here gives j s)
-    named : (a : Named) → IsTrue (sections_names a s) → IsTrue (sections_names a t)
+    named : (a : Referent) → IsTrue (sections_names a s) → IsTrue (sections_names a t)
     weight : sections_weight unit.structs s ≤ sections_weight unit.structs t
 
   mutual
@@ -322,12 +322,12 @@ module _ (c : Context) (f : Functions) (i : IgnorePeak f) where
       kept.bind ((within_below h c (typed_initialiser c (Some l) y p)).value f i scope)
       (λ v. kept.bind (forms.steady_local BelowOf kept scope k (Some l)) (λ at. forms.steady_write_place BelowOf kept ds (type_view l.ty) at v))
 
-  declare_below : (scope : Scope) {d e : Declared} → DeclaredWithin d e → IsTrue (is_declared c e) → IsBelow (declare ds ls f scope d) (declare ds ls f scope e)
+  declare_below : (scope : Scope) {d e : LocalDeclaration} → DeclaredWithin d e → IsTrue (is_declared c e) → IsBelow (declare ds ls f scope d) (declare ds ls f scope e)
   declare_below scope {d = d} {e = e} h p =
       subst (λ z. IsBelow z (declare ds ls f scope e)) (sym (ap (λ k. initialise ds ls f scope k (slice_get ls k) d.init) h.number))
       (initialise_below scope e.number (slice_get ls e.number) h.init p)
 
-  declares_below : (scope : Scope) {a b : List Declared} → AllDeclaredWithin a b → IsTrue (list_all (is_declared c) b) → IsBelow (declares ds ls f scope a) (declares ds ls f scope b)
+  declares_below : (scope : Scope) {a b : List LocalDeclaration} → AllDeclaredWithin a b → IsTrue (list_all (is_declared c) b) → IsBelow (declares ds ls f scope a) (declares ds ls f scope b)
   declares_below scope r.no_more p = kept.pure tt
   declares_below scope (r.one_more {e = e} {es = es} h g) p =
       kept.bind (declare_below scope h (front (is_declared c e) (list_all (is_declared c) es) p)) (λ _. declares_below scope g (back (is_declared c e) (list_all (is_declared c) es) p))

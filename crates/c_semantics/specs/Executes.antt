@@ -12,7 +12,7 @@ use Rattle.c_typed_tree.specs.declared.units.Local.{Local}
 use Rattle.c_typed_tree.specs.declared.units.TypedFn.{TypedFn}
 use Rattle.c_typed_tree.specs.declared.units.TypedUnit.{TypedUnit}
 use Rattle.c_typed_tree.specs.Expressions.{Expr}
-use Rattle.c_typed_tree.specs.Statements.{Declared, First, Stmt, Else, no_else, else_stmt, Stmts, no_stmts, more_stmts, Sections, no_sections, more_sections}
+use Rattle.c_typed_tree.specs.Statements.{LocalDeclaration, First, Stmt, Else, no_else, else_stmt, Stmts, no_stmts, more_stmts, Sections, no_sections, more_sections}
 use Rattle.c_typed_tree.specs.Statements as q
 use Rattle.c_typed_tree.specs.View.{type_view, stmt_view}
 use Rattle.c_typed_tree.specs.Layout.{size_of}
@@ -156,10 +156,10 @@ module _ (ds : List StructDef) (ls : List Local) (functions : Functions) where
   initialise scope k (Some l) (Some x) =
       eval ds ls functions scope x >>= (λ v. local_place scope k (Some l) >>= (λ p. write ds (type_view l.ty) p v))
 
-  abbrev pub declare : Scope → Declared → Run (Unit {0})
+  abbrev pub declare : Scope → LocalDeclaration → Run (Unit {0})
   declare scope d = initialise scope d.number (slice_get ls d.number) d.init
 
-  abbrev pub declares : Scope → List Declared → Run (Unit {0})
+  abbrev pub declares : Scope → List LocalDeclaration → Run (Unit {0})
   declares scope [] = pure tt
   declares scope (d ∷ more) = declare scope d >> declares scope more
 

@@ -16,14 +16,14 @@ use Rattle.c_typed_tree.specs.declared.units.TypedFn.{TypedFn}
 use Rattle.c_typed_tree.specs.declared.units.TypedUnit.{TypedUnit}
 use Rattle.c_typed_tree.specs.Types.{PlainType, Void}
 use Rattle.c_typed_tree.specs.Expressions.{Expr, Call, Unary, Binary, Assign, Conditional, Cast, Convert, Index, Field, Arrow, Postfix, Comma, Exprs, no_exprs, more_exprs, type_of}
-use Rattle.c_typed_tree.specs.Statements.{Declared, First, Stmt, Else, no_else, else_stmt, Stmts, no_stmts, more_stmts, Sections, no_sections, more_sections}
+use Rattle.c_typed_tree.specs.Statements.{LocalDeclaration, First, Stmt, Else, no_else, else_stmt, Stmts, no_stmts, more_stmts, Sections, no_sections, more_sections}
 use Rattle.c_typed_tree.specs.Statements as q
 use Rattle.c_typed_tree.specs.View.{type_view, stmt_view}
 use Rattle.c_typed_tree.specs.Constants.{is_built, constant}
 use Rattle.c_typed_tree.specs.Typing.{Context, is_place, is_in_memory, is_typed}
 use Rattle.c_typed_tree.specs.TypingStatements.{Jumps, is_typed_stmt}
 use Rattle.c_typed_tree.specs.Lawful.{signature_of, IsTypedUnit}
-use Rattle.c_typed_tree.specs.Names.{Named, names, stmt_names}
+use Rattle.c_typed_tree.specs.Names.{Referent, names, stmt_names}
 use Rattle.c_typed_tree.specs.Weight.{expr_weight, stmt_weight, function_weight}
 use Rattle.c_semantics.specs.Runs.{State, in_world, Run}
 use Rattle.c_semantics.specs.Objects.{Scope}
@@ -73,7 +73,7 @@ IgnorePeak f = (n : ℕ) (vs : List Value) → IsBelow (f n vs) (f n vs)
 pub record RefinesIn (c : Context) (x y : Expr) : Type 0 where
   pub typed : IsTrue (is_typed c x)
   pub types : type_of x ≡ type_of y
-  pub named : (a : Named) → IsTrue (names a x) → IsTrue (names a y)
+  pub named : (a : Referent) → IsTrue (names a x) → IsTrue (names a y)
   pub weight : expr_weight c.structs x ≤ expr_weight c.structs y
   -- a place stays a place, and one in memory stays one in memory
   pub places : IsTrue (is_place y) → IsTrue (is_place x)
@@ -114,7 +114,7 @@ IsTypedAt unit n j s =
 pub record StmtRefinesIn (unit : TypedUnit) (n : ℕ) (j : Jumps) (s t : Stmt) : Type 0 where
   pub typed : IsTypedAt unit n j s
   pub declares : declared_by s ≡ declared_by t
-  pub named : (a : Named) → IsTrue (stmt_names a s) → IsTrue (stmt_names a t)
+  pub named : (a : Referent) → IsTrue (stmt_names a s) → IsTrue (stmt_names a t)
   pub weight : stmt_weight unit.structs s ≤ stmt_weight unit.structs t
   pub does : (rooms : Rooms) (m : ℕ) (scope : Scope) →
       RunRefines (level unit rooms m n scope s) (level unit rooms m n scope t)
@@ -208,19 +208,19 @@ pub data OptionWithin : Option Expr → Option Expr → Type 0 where
   present : {x y : Expr} → ExprWithin x y → OptionWithin (Some x) (Some y)
 
 -- a declaration of the same local
-pub record DeclaredWithin (d e : Declared) : Type 0 where
+pub record DeclaredWithin (d e : LocalDeclaration) : Type 0 where
   pub number : d.number ≡ e.number
   pub init : OptionWithin d.init e.init
 
-pub data AllDeclaredWithin : List Declared → List Declared → Type 0 where
+pub data AllDeclaredWithin : List LocalDeclaration → List LocalDeclaration → Type 0 where
   no_more : AllDeclaredWithin [] []
-  one_more : {d e : Declared} {ds es : List Declared} → DeclaredWithin d e → AllDeclaredWithin ds es
+  one_more : {d e : LocalDeclaration} {ds es : List LocalDeclaration} → DeclaredWithin d e → AllDeclaredWithin ds es
       → AllDeclaredWithin (d ∷ ds) (e ∷ es)
 
 pub data FirstWithin : First → First → Type 0 where
   nothing_first : FirstWithin q.Nothing q.Nothing
   value_first : {x y : Expr} → ExprWithin x y → FirstWithin (q.Value x) (q.Value y)
-  locals_first : {ds es : List Declared} → AllDeclaredWithin ds es → FirstWithin (q.Locals ds) (q.Locals es)
+  locals_first : {ds es : List LocalDeclaration} → AllDeclaredWithin ds es → FirstWithin (q.Locals ds) (q.Locals es)
 
 mutual
   pub data StmtWithin : Stmt → Stmt → Type 0 where
@@ -236,7 +236,7 @@ mutual
         → StmtWithin (q.Switch x ss) (q.Switch y ts)
     returns : {x y : Option Expr} → OptionWithin x y → StmtWithin (q.Return x) (q.Return y)
     expression : {x y : Expr} → ExprWithin x y → StmtWithin (q.Expression x) (q.Expression y)
-    declaration : {d e : Declared} → DeclaredWithin d e → StmtWithin (q.Declare d) (q.Declare e)
+    declaration : {d e : LocalDeclaration} → DeclaredWithin d e → StmtWithin (q.Declare d) (q.Declare e)
 
   pub data ElseWithin : Else → Else → Type 0 where
     no_other : ElseWithin no_else no_else

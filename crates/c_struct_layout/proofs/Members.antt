@@ -8,7 +8,7 @@ use Rattle.c_typed_tree.specs.View.{type_view}
 use Rattle.c_struct_layout.specs.declared.fields.Field.{Field}
 use Rattle.c_struct_layout.specs.declared.fields.Placement.{Placement}
 use Rattle.c_struct_layout.specs.declared.places.Span.{Span}
-use Rattle.c_struct_layout.specs.model.Spans.{span, placed}
+use Rattle.c_struct_layout.specs.model.Spans.{span, placement_of_fields}
 use Rattle.c_struct_layout.specs.StructLayout.{place_of, end_of, members_from, end_behind}
 use Rattle.c_struct_layout.proofs.Rounding.{aligned_up_ge}
 
@@ -45,7 +45,7 @@ no_span ds end f r is none = by (nat_le (end_of ds end f) MOST_DATA) refl (sym i
 
 -- past the data nothing is placed
 pub none_placed : (ds : List StructDef) (fs : List Field) → MOST_DATA < end_behind ds 0 fs
-    → ◌≡◌ {A = Option Placement} None (placed ds fs)
+    → ◌≡◌ {A = Option Placement} None (placement_of_fields ds fs)
 none_placed ds fs past = by (nat_le (end_behind ds 0 fs) MOST_DATA) refl
   where
     by : (b : Bool) → nat_le (end_behind ds 0 fs) MOST_DATA ≡ b

@@ -46,7 +46,7 @@ fn place_members(
     fields: &[Field],
 ) -> Result<Option<Placement>, AllocError>
     requires { All (λ f. IsTrue (layout.is_object structs.now (type_view f.ty))) fields.now }
-    ensures placed { IfOk result (λ r. r ≡ model.placed structs.now fields.now) }
+    ensures placement_of_fields { IfOk result (λ r. r ≡ model.placement_of_fields structs.now fields.now) }
     ensures within { IfOk result (λ r. IfSome r (λ p. p.end ≤ MOST_DATA)) }
 {
     let mut members = Seq::new(alloc);

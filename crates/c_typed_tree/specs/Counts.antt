@@ -2,7 +2,7 @@
 use Rattle.std.specs.Prelude.{ℕ, ◌+◌, length, sum_by, Option, Some, None}
 use Rattle.c_typed_tree.specs.declared.units.TypedFn.{TypedFn}
 use Rattle.c_typed_tree.specs.Expressions.{Expr, Number, Local, Global, Call, Unary, Binary, Assign, Conditional, Cast, Convert, Index, Field, Arrow, Postfix, Comma, Exprs, no_exprs, more_exprs}
-use Rattle.c_typed_tree.specs.Statements.{Declared, First, Nothing, Value, Locals, Stmt, Block, If, While, Do, For, Switch, Break, Continue, Return, Expression, Empty, Declare, Else, no_else, else_stmt, Stmts, no_stmts, more_stmts, Sections, no_sections, more_sections}
+use Rattle.c_typed_tree.specs.Statements.{LocalDeclaration, First, Nothing, Value, Locals, Stmt, Block, If, While, Do, For, Switch, Break, Continue, Return, Expression, Empty, Declare, Else, no_else, else_stmt, Stmts, no_stmts, more_stmts, Sections, no_sections, more_sections}
 use Rattle.c_typed_tree.specs.View.{stmt_view}
 
 abbrev mutual
@@ -31,7 +31,7 @@ abbrev pub optional_nodes : Option Expr → ℕ
 optional_nodes None = 0
 optional_nodes (Some x) = expr_nodes x
 
-abbrev pub declared_nodes : Declared → ℕ
+abbrev pub declared_nodes : LocalDeclaration → ℕ
 declared_nodes d = optional_nodes d.init
 
 abbrev pub first_nodes : First → ℕ

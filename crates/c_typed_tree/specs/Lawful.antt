@@ -15,6 +15,7 @@ use Rattle.c_typed_tree.specs.Layout.{is_object, IsLaidOut}
 use Rattle.c_typed_tree.specs.Typing.{is_same_type, int, is_void, is_scalar, is_type, depth_of, most_depth, Signature, Context}
 use Rattle.c_typed_tree.specs.TypingStatements.{no_jumps, is_typed_stmt}
 use Rattle.c_typed_tree.specs.Counts.{function_nodes}
+use Rattle.c_typed_tree.specs.Declarations.{declarations, most_declarations}
 
 -- ---- types that are declared
 
@@ -90,7 +91,7 @@ abbrev pub is_identifier : List ℕ → Bool
 is_identifier [] = false
 is_identifier (b ∷ bytes) = is_letter b && list_all is_letter_or_digit bytes
 
--- a function of a unit: its parameters are its first locals, and its body is well typed
+-- a function of a unit: its parameters are its first locals, its body is well typed and declares no local twice
 pub record IsTypedFn (u : TypedUnit) (f : TypedFn) : Type 0 where
   pub name : IsTrue (is_identifier f.name)
   pub result : IsTrue (is_result u.structs (type_view f.result))
@@ -99,6 +100,7 @@ pub record IsTypedFn (u : TypedUnit) (f : TypedFn) : Type 0 where
   pub count : length f.locals < 2 ^ 32
   pub locals : IsTrue (list_all (is_lawful_local u.structs) f.locals)
   pub body : IsTrue (is_typed_stmt (context_of u f) (type_view f.result) no_jumps (stmt_view f.body))
+  pub declares : (number : ℕ) → declarations number (stmt_view f.body) ≤ most_declarations f.params number
 
 -- ---- units
 

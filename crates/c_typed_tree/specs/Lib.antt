@@ -7,6 +7,7 @@ pub mod Constants
 pub mod Typing
 pub mod TypingStatements
 pub mod Counts
+pub mod Declarations
 pub mod Lawful
 pub mod Names
 pub mod Weight

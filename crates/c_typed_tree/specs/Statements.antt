@@ -4,7 +4,7 @@ use Rattle.c_typed_tree.specs.declared.statements.TLabel.{TLabel}
 use Rattle.c_typed_tree.specs.Expressions.{Expr}
 
 -- the declaration of a local, with its initialiser
-pub record Declared : Type 0 where
+pub record LocalDeclaration : Type 0 where
   pub number : ℕ
   pub init : Option Expr
 
@@ -12,7 +12,7 @@ pub record Declared : Type 0 where
 pub data First : Type 0 where
   Nothing : First
   Value : Expr → First
-  Locals : List Declared → First
+  Locals : List LocalDeclaration → First
 
 mutual
   pub data Stmt : Type 0 where
@@ -27,7 +27,7 @@ mutual
     Return : Option Expr → Stmt
     Expression : Expr → Stmt
     Empty : Stmt
-    Declare : Declared → Stmt
+    Declare : LocalDeclaration → Stmt
 
   pub data Else : Type 0 where
     no_else : Else

@@ -7,7 +7,7 @@ use Rattle.c_typed_tree.specs.declared.statements.TLabel.TheVariants.{Case, Defa
 use Rattle.c_typed_tree.specs.declared.units.Local.{Local}
 use Rattle.c_typed_tree.specs.Types.{PlainType}
 use Rattle.c_typed_tree.specs.Expressions.{Expr, type_of}
-use Rattle.c_typed_tree.specs.Statements.{Declared, First, Nothing, Value, Locals, Stmt, Block, If, While, Do, For, Switch, Break, Continue, Return, Expression, Empty, Declare, Else, no_else, else_stmt, Stmts, no_stmts, more_stmts, Sections, no_sections, more_sections}
+use Rattle.c_typed_tree.specs.Statements.{LocalDeclaration, First, Nothing, Value, Locals, Stmt, Block, If, While, Do, For, Switch, Break, Continue, Return, Expression, Empty, Declare, Else, no_else, else_stmt, Stmts, no_stmts, more_stmts, Sections, no_sections, more_sections}
 use Rattle.c_typed_tree.specs.View.{type_view}
 use Rattle.c_typed_tree.specs.Layout.{integer_of}
 use Rattle.c_typed_tree.specs.Typing.{is_same_type, is_void, is_scalar, is_struct, is_array, is_promoted, is_number, Context, is_typed}
@@ -57,7 +57,7 @@ abbrev pub is_initialiser : Context → Option Local → Option Expr → Bool
 is_initialiser c l None = is_there l
 is_initialiser c l (Some e) = has_initialised_type l (type_of e) && is_typed c e
 
-abbrev pub is_declared : Context → Declared → Bool
+abbrev pub is_declared : Context → LocalDeclaration → Bool
 is_declared c d = is_initialiser c (slice_get c.locals d.number) d.init
 
 abbrev pub is_first : Context → First → Bool

@@ -11,7 +11,7 @@ use Rattle.c_typed_tree.specs.Types.{PlainType}
 use Rattle.c_typed_tree.specs.Types as o
 use Rattle.c_typed_tree.specs.Expressions.{Expr, Exprs, no_exprs, more_exprs}
 use Rattle.c_typed_tree.specs.Expressions as p
-use Rattle.c_typed_tree.specs.Statements.{Declared, First, Stmt, Else, no_else, else_stmt, Stmts, no_stmts, more_stmts, Sections, no_sections, more_sections}
+use Rattle.c_typed_tree.specs.Statements.{LocalDeclaration, First, Stmt, Else, no_else, else_stmt, Stmts, no_stmts, more_stmts, Sections, no_sections, more_sections}
 use Rattle.c_typed_tree.specs.Statements as q
 
 -- ---- types
@@ -54,7 +54,7 @@ unfoldable mutual
 
 -- ---- statements
 
-abbrev pub local_view : TLocal → Declared
+abbrev pub local_view : TLocal → LocalDeclaration
 local_view l = record { number = l.number; init = option_map expr_view l.init }
 
 abbrev pub first_view : TFirst → First

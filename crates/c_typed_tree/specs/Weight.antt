@@ -10,7 +10,7 @@ use Rattle.c_typed_tree.specs.declared.units.TypedFn.{TypedFn}
 use Rattle.c_typed_tree.specs.declared.units.TypedUnit.{TypedUnit}
 use Rattle.c_typed_tree.specs.Types.{PlainType, Void, Int, Pointer, Array, Struct}
 use Rattle.c_typed_tree.specs.Expressions.{Expr, Number, Local, Global, Call, Unary, Binary, Assign, Conditional, Cast, Convert, Index, Field, Arrow, Postfix, Comma, Exprs, no_exprs, more_exprs, type_of}
-use Rattle.c_typed_tree.specs.Statements.{Declared, First, Nothing, Value, Locals, Stmt, Block, If, While, Do, For, Switch, Break, Continue, Return, Expression, Empty, Declare, Else, no_else, else_stmt, Stmts, no_stmts, more_stmts, Sections, no_sections, more_sections}
+use Rattle.c_typed_tree.specs.Statements.{LocalDeclaration, First, Nothing, Value, Locals, Stmt, Block, If, While, Do, For, Switch, Break, Continue, Return, Expression, Empty, Declare, Else, no_else, else_stmt, Stmts, no_stmts, more_stmts, Sections, no_sections, more_sections}
 use Rattle.std.specs.Int.{div_ceil}
 use Rattle.c_typed_tree.specs.Layout.{struct_size}
 use Rattle.c_typed_tree.specs.View.{stmt_view}
@@ -65,7 +65,7 @@ init_weight ds None = 0
 init_weight ds (Some e) = copy_weight ds (type_of e) + expr_weight ds e
 
 -- a local counts 1, with its initialiser
-abbrev pub declared_weight : List StructDef → Declared → ℕ
+abbrev pub declared_weight : List StructDef → LocalDeclaration → ℕ
 declared_weight ds d = 1 + init_weight ds d.init
 
 abbrev pub first_weight : List StructDef → First → ℕ

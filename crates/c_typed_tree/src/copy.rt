@@ -103,7 +103,7 @@ pub fn copy_expr(alloc: Global, e: &TExpr) -> Result<TExpr, AllocError>
 
 /// An equal expression in a box.
 #[cycle(copy)]
-fn copy_in_box(alloc: Global, e: &TExpr) -> Result<Box<TExpr>, AllocError>
+pub(crate) fn copy_in_box(alloc: Global, e: &TExpr) -> Result<Box<TExpr>, AllocError>
     ensures { IfOk result (λ r. r ≡ e.now) }
 {
     Box::new(alloc, copy_expr(alloc, e)?)
@@ -121,11 +121,14 @@ fn copy_exprs(alloc: Global, list: &Seq<TExpr>) -> Result<Seq<TExpr>, AllocError
 }
 
 /// An equal expression, where there is one.
-pub(crate) fn copy_optional(alloc: Global, e: &Option<TExpr>) -> Result<Option<TExpr>, AllocError>
+pub(crate) fn copy_optional(
+    alloc: Global,
+    e: &Option<Box<TExpr>>,
+) -> Result<Option<Box<TExpr>>, AllocError>
     ensures { IfOk result (λ r. r ≡ e.now) }
 {
     match e {
         None => Ok(None),
-        Some(e) => Ok(Some(copy_expr(alloc, e)?)),
+        Some(e) => Ok(Some(copy_in_box(alloc, e)?)),
     }
 }

@@ -3,7 +3,7 @@
 ghost use Rattle.std.specs.Prelude.{◌≡◌, IfOk};
 ghost use Rattle.c_typed_tree.specs.declared.statements.TStmt as t;
 
-use crate::copy::{copy_expr, copy_optional};
+use crate::copy::{copy_in_box, copy_optional};
 use crate::{TExpr, TFirst, TLocal, TSection, TStmt};
 use c_tree::{Box, Seq};
 use std::alloc::{AllocError, Global};
@@ -35,27 +35,27 @@ fn copy_first(alloc: Global, first: &TFirst) -> Result<TFirst, AllocError>
 {
     match first {
         TFirst::Nothing => Ok(TFirst::Nothing),
-        TFirst::Value(value) => Ok(TFirst::Value(copy_expr(alloc, value)?)),
+        TFirst::Value(value) => Ok(TFirst::Value(copy_in_box(alloc, value)?)),
         TFirst::Locals(list) => Ok(TFirst::Locals(copy_locals(alloc, list)?)),
     }
 }
 
-/// A `for` with a body and equal other parts. Each part waits in a box while the others are copied.
+/// A `for` with a body and equal other parts.
 fn for_around(
     alloc: Global,
     first: &TFirst,
-    condition: &Option<TExpr>,
-    step: &Option<TExpr>,
+    condition: &Option<Box<TExpr>>,
+    step: &Option<Box<TExpr>>,
     body: Box<TStmt>,
 ) -> Result<TStmt, AllocError>
     ensures { IfOk result (λ r. r ≡ t.For first.now condition.now step.now body) }
 {
-    let condition = Box::new(alloc, copy_optional(alloc, condition)?)?;
-    let step = Box::new(alloc, copy_optional(alloc, step)?)?;
+    let condition = copy_optional(alloc, condition)?;
+    let step = copy_optional(alloc, step)?;
     Ok(TStmt::For {
-        first: copy_first(alloc, first)?,
-        condition: Box::into_inner(condition),
-        step: Box::into_inner(step),
+        first: Box::new(alloc, copy_first(alloc, first)?)?,
+        condition,
+        step,
         body,
     })
 }
@@ -72,9 +72,9 @@ pub fn copy_stmt(alloc: Global, statement: &TStmt) -> Result<TStmt, AllocError>
             then,
             otherwise,
         } => {
-            let then = copy_in_box(alloc, then)?;
+            let then = copy_stmt_in_box(alloc, then)?;
             let otherwise = copy_else(alloc, otherwise)?;
-            let condition = copy_expr(alloc, condition)?;
+            let condition = copy_in_box(alloc, condition)?;
             Ok(TStmt::If {
                 condition,
                 then,
@@ -82,13 +82,13 @@ pub fn copy_stmt(alloc: Global, statement: &TStmt) -> Result<TStmt, AllocError>
             })
         }
         TStmt::While { condition, body } => {
-            let body = copy_in_box(alloc, body)?;
-            let condition = copy_expr(alloc, condition)?;
+            let body = copy_stmt_in_box(alloc, body)?;
+            let condition = copy_in_box(alloc, condition)?;
             Ok(TStmt::While { condition, body })
         }
         TStmt::Do { body, condition } => {
-            let body = copy_in_box(alloc, body)?;
-            let condition = copy_expr(alloc, condition)?;
+            let body = copy_stmt_in_box(alloc, body)?;
+            let condition = copy_in_box(alloc, condition)?;
             Ok(TStmt::Do { body, condition })
         }
         TStmt::For {
@@ -96,16 +96,16 @@ pub fn copy_stmt(alloc: Global, statement: &TStmt) -> Result<TStmt, AllocError>
             condition,
             step,
             body,
-        } => for_around(alloc, first, condition, step, copy_in_box(alloc, body)?),
+        } => for_around(alloc, first, condition, step, copy_stmt_in_box(alloc, body)?),
         TStmt::Switch { operand, sections } => {
             let sections = copy_sections(alloc, sections)?;
-            let operand = copy_expr(alloc, operand)?;
+            let operand = copy_in_box(alloc, operand)?;
             Ok(TStmt::Switch { operand, sections })
         }
         TStmt::Break => Ok(TStmt::Break),
         TStmt::Continue => Ok(TStmt::Continue),
         TStmt::Return(value) => Ok(TStmt::Return(copy_optional(alloc, value)?)),
-        TStmt::Expression(value) => Ok(TStmt::Expression(copy_expr(alloc, value)?)),
+        TStmt::Expression(value) => Ok(TStmt::Expression(copy_in_box(alloc, value)?)),
         TStmt::Empty => Ok(TStmt::Empty),
         TStmt::Local(local) => Ok(TStmt::Local(copy_local(alloc, local)?)),
     }
@@ -113,7 +113,7 @@ pub fn copy_stmt(alloc: Global, statement: &TStmt) -> Result<TStmt, AllocError>
 
 /// An equal statement in a box.
 #[cycle(statement)]
-fn copy_in_box(alloc: Global, statement: &TStmt) -> Result<Box<TStmt>, AllocError>
+fn copy_stmt_in_box(alloc: Global, statement: &TStmt) -> Result<Box<TStmt>, AllocError>
     ensures { IfOk result (λ r. r ≡ statement.now) }
 {
     Box::new(alloc, copy_stmt(alloc, statement)?)
@@ -139,7 +139,7 @@ fn copy_else(
 {
     match otherwise {
         None => Ok(None),
-        Some(statement) => Ok(Some(copy_in_box(alloc, statement)?)),
+        Some(statement) => Ok(Some(copy_stmt_in_box(alloc, statement)?)),
     }
 }
 

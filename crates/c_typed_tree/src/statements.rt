@@ -3,38 +3,39 @@
 use crate::TExpr;
 use c_tree::{Box, Seq};
 
-/// A statement, or a declaration in a block.
+/// A statement, or a declaration in a block. The larger parts are in boxes, so that a function which holds a statement
+/// takes little of the machine's stack.
 #[cycle(statement)]
 #[derive(Drop)]
 pub enum TStmt {
     Block(Seq<TStmt>),
     If {
-        condition: TExpr,
+        condition: Box<TExpr>,
         then: Box<TStmt>,
         otherwise: Option<Box<TStmt>>,
     },
     While {
-        condition: TExpr,
+        condition: Box<TExpr>,
         body: Box<TStmt>,
     },
     Do {
         body: Box<TStmt>,
-        condition: TExpr,
+        condition: Box<TExpr>,
     },
     For {
-        first: TFirst,
-        condition: Option<TExpr>,
-        step: Option<TExpr>,
+        first: Box<TFirst>,
+        condition: Option<Box<TExpr>>,
+        step: Option<Box<TExpr>>,
         body: Box<TStmt>,
     },
     Switch {
-        operand: TExpr,
+        operand: Box<TExpr>,
         sections: Seq<TSection>,
     },
     Break,
     Continue,
-    Return(Option<TExpr>),
-    Expression(TExpr),
+    Return(Option<Box<TExpr>>),
+    Expression(Box<TExpr>),
     Empty,
     Local(TLocal),
 }
@@ -59,13 +60,13 @@ pub enum TLabel {
 #[derive(Drop)]
 pub struct TLocal {
     pub number: u32,
-    pub init: Option<TExpr>,
+    pub init: Option<Box<TExpr>>,
 }
 
 /// The first part of a `for` (C99 6.8.5.3).
 #[derive(Drop)]
 pub enum TFirst {
     Nothing,
-    Value(TExpr),
+    Value(Box<TExpr>),
     Locals(Seq<TLocal>),
 }

@@ -16,8 +16,8 @@ use Rattle.c_typed_tree.specs.declared.units.Local.{Local}
 use Rattle.c_typed_tree.specs.declared.units.TypedFn.{TypedFn}
 use Rattle.std.proofs.lemmas.List.{map-append}
 use Rattle.std.proofs.lemmas.List.Sums.{sum_by_push}
-use Rattle.c_weight.specs.model.Lists.{sections_view}
-use Rattle.c_weight.proofs.Views.{view_call, view_comma, view_block, view_switch}
+use Rattle.c_typed_tree.specs.model.Lists.{sections_view}
+use Rattle.c_typed_tree.proofs.Views.{view_call, view_comma, view_block, view_switch}
 
 pub exprs_weight_end : (ds : List StructDef) (xs : List e.TExpr) (x : e.TExpr) → exprs_weight ds (exprs_view (xs ++ x ∷ [])) ≡ exprs_weight ds (exprs_view xs) + expr_weight ds (expr_view x)
 unfolding expr_weight

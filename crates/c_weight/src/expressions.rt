@@ -5,7 +5,7 @@ ghost use Rattle.c_typed_tree.specs.View.{type_view, expr_view};
 ghost use Rattle.c_typed_tree.specs.model.View.{exprs_view};
 ghost use Rattle.c_typed_tree.specs.Weight.{copy_weight, assign_weight, expr_weight, exprs_weight, optional_weight, init_weight};
 
-use c_tree::{AssignOp, Seq};
+use c_tree::{AssignOp, Box, Seq};
 use c_typed_tree::layout::struct_size;
 use c_typed_tree::{CType, StructDef, TExpr};
 
@@ -114,7 +114,7 @@ fn exprs_weight(list: &Seq<TExpr>, structs: &[StructDef]) -> u64
 }
 
 /// The weight of an expression that may be missing.
-pub(crate) fn optional_weight(e: &Option<TExpr>, structs: &[StructDef]) -> u64
+pub(crate) fn optional_weight(e: &Option<Box<TExpr>>, structs: &[StructDef]) -> u64
     ensures { result ≡ min (optional_weight structs.now (option_map expr_view e.now)) (2 ^ 64 - 1) }
 {
     match e {
@@ -124,7 +124,7 @@ pub(crate) fn optional_weight(e: &Option<TExpr>, structs: &[StructDef]) -> u64
 }
 
 /// The weight of an initialiser that may be missing.
-pub(crate) fn init_weight(e: &Option<TExpr>, structs: &[StructDef]) -> u64
+pub(crate) fn init_weight(e: &Option<Box<TExpr>>, structs: &[StructDef]) -> u64
     ensures { result ≡ min (init_weight structs.now (option_map expr_view e.now)) (2 ^ 64 - 1) }
 {
     match e {

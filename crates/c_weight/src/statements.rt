@@ -4,7 +4,7 @@ ghost use Rattle.std.specs.Prelude.{◌≡◌, ◌-◌, ◌^◌, min, map, sum_b
 ghost use Rattle.c_typed_tree.specs.View.{local_view, first_view, stmt_view};
 ghost use Rattle.c_typed_tree.specs.model.View.{stmts_view};
 ghost use Rattle.c_typed_tree.specs.Weight.{declared_weight, first_weight, label_weight, stmt_weight, else_weight, stmts_weight, sections_weight};
-ghost use Rattle.c_weight.specs.model.Lists.{sections_view, else_view};
+ghost use Rattle.c_typed_tree.specs.model.Lists.{sections_view, else_view};
 
 use crate::expressions::{expr_weight, init_weight, one_and, optional_weight};
 use c_tree::{Box, Seq};

@@ -43,8 +43,8 @@ fn body(alloc: Global) -> Result<TStmt, AllocError> {
         number: 1,
         init: None,
     }))?;
-    list.push(TStmt::Expression(copy_tree(alloc)?))?;
-    list.push(TStmt::Return(Some(conversion_tree(alloc)?)))?;
+    list.push(TStmt::Expression(Box::new(alloc, copy_tree(alloc)?)?))?;
+    list.push(TStmt::Return(Some(Box::new(alloc, conversion_tree(alloc)?)?)))?;
     Ok(TStmt::Block(list))
 }
 

@@ -10,7 +10,7 @@ use Rattle.c_typed_tree.specs.declared.units.Local.{Local}
 use Rattle.c_typed_tree.specs.Types.{PlainType, Struct, Int}
 use Rattle.c_typed_tree.specs.View.{type_view}
 use Rattle.c_typed_tree.specs.Expressions.{Expr, type_of}
-use Rattle.c_typed_tree.specs.Statements.{Declared, First, Stmt, Else, no_else, else_stmt, Stmts, no_stmts, more_stmts, Sections, no_sections, more_sections}
+use Rattle.c_typed_tree.specs.Statements.{LocalDeclaration, First, Stmt, Else, no_else, else_stmt, Stmts, no_stmts, more_stmts, Sections, no_sections, more_sections}
 use Rattle.c_typed_tree.specs.Statements as q
 use Rattle.suifvm_ir.specs.declared.types.VmType.TheVariants.{S32}
 use Rattle.suifvm_ir.specs.declared.insn.BranchOp.TheVariants.{IfTrue, IfFalse}
@@ -62,10 +62,10 @@ module _ (locals : ℕ) (ds : List StructDef) (ls : List Local) where
   initialise_code k None rest = rest
   initialise_code k (Some x) rest = value_code x (put_local_code k (slice_get ls k) rest)
 
-  abbrev pub declare_code : Declared → List Item → List Item
+  abbrev pub declare_code : LocalDeclaration → List Item → List Item
   declare_code d rest = initialise_code d.number d.init rest
 
-  abbrev pub declares_code : List Declared → List Item → List Item
+  abbrev pub declares_code : List LocalDeclaration → List Item → List Item
   declares_code [] rest = rest
   declares_code (d ∷ more) rest = declare_code d (declares_code more rest)
 

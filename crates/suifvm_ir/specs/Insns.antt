@@ -14,13 +14,13 @@ use Rattle.suifvm_ir.specs.declared.insn.VmInsn.{VmInsn}
 use Rattle.suifvm_ir.specs.declared.insn.VmInsn.TheVariants.{LoadConstant, LoadAddress, Load, Store, Copy, Unary, Binary, Shift, Convert, Compare, Branch, Jump, Call, Return, Mark, Nop}
 
 -- the register that is named, if one is
-abbrev pub named : Option ℕ → List ℕ
-named None = []
-named (Some register) = register ∷ []
+abbrev pub named_register : Option ℕ → List ℕ
+named_register None = []
+named_register (Some register) = register ∷ []
 
-abbrev pub returned : Option TypedRegister → List ℕ
-returned None = []
-returned (Some value) = value.register ∷ []
+abbrev pub returned_register : Option TypedRegister → List ℕ
+returned_register None = []
+returned_register (Some value) = value.register ∷ []
 
 -- the registers that an instruction reads, in order
 abbrev pub reads_of : VmInsn → List ℕ
@@ -37,7 +37,7 @@ reads_of (Compare op ty destination left right) = left ∷ right ∷ []
 reads_of (Branch op ty source block) = source ∷ []
 reads_of (Jump block) = []
 reads_of (Call destination callee arguments) = arguments
-reads_of (Return value) = returned value
+reads_of (Return value) = returned_register value
 reads_of Mark = []
 reads_of Nop = []
 
@@ -55,7 +55,7 @@ writes_of (Convert from to destination source) = destination ∷ []
 writes_of (Compare op ty destination left right) = destination ∷ []
 writes_of (Branch op ty source block) = []
 writes_of (Jump block) = []
-writes_of (Call destination callee arguments) = named destination
+writes_of (Call destination callee arguments) = named_register destination
 writes_of (Return value) = []
 writes_of Mark = []
 writes_of Nop = []

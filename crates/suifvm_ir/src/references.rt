@@ -29,7 +29,7 @@ fn of_two(first: u32, second: u32, k: u32) -> Option<u32>
 
 /// The register of a call's result.
 fn of_named(destination: Option<u32>, k: u32) -> Option<u32>
-    ensures { result ≡ slice_get (insns.named destination) k }
+    ensures { result ≡ slice_get (insns.named_register destination) k }
 {
     match destination {
         None => None,
@@ -39,7 +39,7 @@ fn of_named(destination: Option<u32>, k: u32) -> Option<u32>
 
 /// The register of what a return gives.
 fn of_returned(value: Option<TypedRegister>, k: u32) -> Option<u32>
-    ensures { result ≡ slice_get (insns.returned value) k }
+    ensures { result ≡ slice_get (insns.returned_register value) k }
 {
     match value {
         None => None,

@@ -16,7 +16,7 @@ use Rattle.suifvm_ir.specs.declared.insn.Builtin.{Builtin}
 use Rattle.suifvm_ir.specs.declared.insn.Builtin.TheVariants.{PutChar, GetChar, Abort, Exit}
 use Rattle.suifvm_ir.specs.declared.insn.Callee.{Callee}
 use Rattle.suifvm_ir.specs.declared.insn.Callee.TheVariants as c
-use Rattle.suifvm_ir.specs.Insns.{reads_of, writes_of, targets_of, named, returned}
+use Rattle.suifvm_ir.specs.Insns.{reads_of, writes_of, targets_of, named_register, returned_register}
 use Rattle.vm_meaning.specs.Effect.{input_word, does, takes_turn, fails, first, puts_char, exits, builtin_act, callee_act, call_act, return_act, is_taken, branches}
 use Rattle.vm_meaning.specs.Operations.{is_set, is_value_of}
 use Rattle.vm_meaning.specs.Behave.{Registers, registers_of, set_registers, insn_site, site_or_next, vm_code}
@@ -29,7 +29,7 @@ use Rattle.suifvm_run.specs.model.Tables.{block_insns}
 use Rattle.suifvm_run.proofs.Sites.{site_there}
 use Rattle.suifvm_run.proofs.Turns.{unwaited, turn_as, stops_there, wrote_none, fails_turn, traps_turn, exits_turn}
 
-pub puts_turn : (m new : Machine) (d : Option ℕ) (byte : ℕ) (i : VmInsn) → Wrote m new (named d) (Word byte) → writes_of i ≡ named d → TurnIs m new (turn.Puts byte) (λ rooms h. act_there rooms m h i (Writes (Word byte ∷ []) (put_byte (world_in m h).outer byte)))
+pub puts_turn : (m new : Machine) (d : Option ℕ) (byte : ℕ) (i : VmInsn) → Wrote m new (named_register d) (Word byte) → writes_of i ≡ named_register d → TurnIs m new (turn.Puts byte) (λ rooms h. act_there rooms m h i (Writes (Word byte ∷ []) (put_byte (world_in m h).outer byte)))
 puts_turn m new d byte i w is = record {
   sound = λ goes. w.sound;
   program = λ goes. w.program;
@@ -41,7 +41,7 @@ puts_turn m new d byte i w is = record {
   };
 }
 
-pub takes_turn_to : (m : Machine) (d : Option ℕ) (i : VmInsn) → IsSound m → m.here.at < length m.here.row.now.insns.items → writes_of i ≡ named d → TurnIs m m (turn.Takes d) (λ rooms h. act_there rooms m h i (Writes (Word (input_word (next_byte (world_in m h).outer)) ∷ []) (take_byte (world_in m h).outer)))
+pub takes_turn_to : (m : Machine) (d : Option ℕ) (i : VmInsn) → IsSound m → m.here.at < length m.here.row.now.insns.items → writes_of i ≡ named_register d → TurnIs m m (turn.Takes d) (λ rooms h. act_there rooms m h i (Writes (Word (input_word (next_byte (world_in m h).outer)) ∷ []) (take_byte (world_in m h).outer)))
 takes_turn_to m d i sound place is = record {
   sound = λ goes. sound;
   program = λ goes. refl;
@@ -133,7 +133,7 @@ acts m i act rooms h = act_there rooms m h i (act (world_in m h).outer)
 as_act : (m new : Machine) (r : Turn) (i : VmInsn) (a b : Outer → Act Value) → ((o : Outer) → a o ≡ b o) → TurnIs m new r (acts m i a) → TurnIs m new r (acts m i b)
 as_act m new r i a b same t = turn_as m new r (acts m i a) (acts m i b) (λ rooms h. ap (act_there rooms m h i) (same (world_in m h).outer)) t
 
-pub put_word : (m new : Machine) (d : Option ℕ) (n byte : ℕ) (value : Value) (i : VmInsn) → value ≡ Word n → byte ≡ n % 256 → Wrote m new (named d) (Word (n % 256)) → writes_of i ≡ named d → TurnIs m new (turn.Puts byte) (λ rooms h. act_there rooms m h i (puts_char value (world_in m h).outer))
+pub put_word : (m new : Machine) (d : Option ℕ) (n byte : ℕ) (value : Value) (i : VmInsn) → value ≡ Word n → byte ≡ n % 256 → Wrote m new (named_register d) (Word (n % 256)) → writes_of i ≡ named_register d → TurnIs m new (turn.Puts byte) (λ rooms h. act_there rooms m h i (puts_char value (world_in m h).outer))
 put_word m new d n byte value i is byte_is w written =
     subst (λ k. TurnIs m new (turn.Puts k) (acts m i (puts_char value))) (sym byte_is)
     (as_act m new (turn.Puts (n % 256)) i (puts_char (Word n)) (puts_char value) (λ o. ap (λ v. puts_char v o) (sym is)) (puts_turn m new d (n % 256) i w written))
@@ -163,7 +163,7 @@ builtin_put m new r i builtin vs value is value_is t = as_act m new r i (puts_ch
 pub builtin_exit : (m new : Machine) (r : Turn) (i : VmInsn) (builtin : Builtin) (vs : List Value) (value : Value) → builtin ≡ Exit → value ≡ first vs → TurnIs m new r (λ rooms h. act_there rooms m h i (exits value (world_in m h).outer)) → TurnIs m new r (λ rooms h. act_there rooms m h i (builtin_act builtin vs (world_in m h).outer))
 builtin_exit m new r i builtin vs value is value_is t = as_act m new r i (exits value) (builtin_act builtin vs) (λ o. ap (λ v. exits v o) value_is ∙ ap (λ b. builtin_act b vs o) (sym is)) t
 
-pub builtin_get : (m : Machine) (d : Option ℕ) (i : VmInsn) (builtin : Builtin) (vs : List Value) → builtin ≡ GetChar → IsSound m → m.here.at < length m.here.row.now.insns.items → writes_of i ≡ named d → TurnIs m m (turn.Takes d) (λ rooms h. act_there rooms m h i (builtin_act builtin vs (world_in m h).outer))
+pub builtin_get : (m : Machine) (d : Option ℕ) (i : VmInsn) (builtin : Builtin) (vs : List Value) → builtin ≡ GetChar → IsSound m → m.here.at < length m.here.row.now.insns.items → writes_of i ≡ named_register d → TurnIs m m (turn.Takes d) (λ rooms h. act_there rooms m h i (builtin_act builtin vs (world_in m h).outer))
 builtin_get m d i builtin vs is sound place written = as_act m m (turn.Takes d) i (builtin_act GetChar vs) (builtin_act builtin vs) (λ o. ap (λ b. builtin_act b vs o) (sym is)) (takes_turn_to m d i sound place written)
 
 pub builtin_abort : (m : Machine) (i : VmInsn) (builtin : Builtin) (vs : List Value) → builtin ≡ Abort → TurnIs m m (turn.Over (stop.Traps 2)) (λ rooms h. act_there rooms m h i (builtin_act builtin vs (world_in m h).outer))
@@ -185,11 +185,11 @@ call_builtin m new r i callee builtin vs is set t = as_act m new r i (builtin_ac
 
 -- ---- returns
 
-pub return_none : (m new : Machine) (r : Turn) (i : VmInsn) (value : Option TypedRegister) (rs : Registers) → value ≡ None → TurnIs m new r (λ rooms h. act_there rooms m h i (Returns [] (world_in m h).outer)) → TurnIs m new r (λ rooms h. act_there rooms m h i (return_act value (map rs (returned value)) (world_in m h).outer))
-return_none m new r i value rs is t = as_act m new r i (Returns []) (λ o. return_act value (map rs (returned value)) o) (λ o. ap (λ x. return_act x (map rs (returned x)) o) (sym is)) t
+pub return_none : (m new : Machine) (r : Turn) (i : VmInsn) (value : Option TypedRegister) (rs : Registers) → value ≡ None → TurnIs m new r (λ rooms h. act_there rooms m h i (Returns [] (world_in m h).outer)) → TurnIs m new r (λ rooms h. act_there rooms m h i (return_act value (map rs (returned_register value)) (world_in m h).outer))
+return_none m new r i value rs is t = as_act m new r i (Returns []) (λ o. return_act value (map rs (returned_register value)) o) (λ o. ap (λ x. return_act x (map rs (returned_register x)) o) (sym is)) t
 
-pub return_some : (m new : Machine) (r : Turn) (i : VmInsn) (value : Option TypedRegister) (typed : TypedRegister) (rs : Registers) → value ≡ Some typed → TurnIs m new r (λ rooms h. act_there rooms m h i (return_act (Some typed) (rs typed.register ∷ []) (world_in m h).outer)) → TurnIs m new r (λ rooms h. act_there rooms m h i (return_act value (map rs (returned value)) (world_in m h).outer))
-return_some m new r i value typed rs is t = as_act m new r i (λ o. return_act (Some typed) (rs typed.register ∷ []) o) (λ o. return_act value (map rs (returned value)) o) (λ o. ap (λ x. return_act x (map rs (returned x)) o) (sym is)) t
+pub return_some : (m new : Machine) (r : Turn) (i : VmInsn) (value : Option TypedRegister) (typed : TypedRegister) (rs : Registers) → value ≡ Some typed → TurnIs m new r (λ rooms h. act_there rooms m h i (return_act (Some typed) (rs typed.register ∷ []) (world_in m h).outer)) → TurnIs m new r (λ rooms h. act_there rooms m h i (return_act value (map rs (returned_register value)) (world_in m h).outer))
+return_some m new r i value typed rs is t = as_act m new r i (λ o. return_act (Some typed) (rs typed.register ∷ []) o) (λ o. return_act value (map rs (returned_register value)) o) (λ o. ap (λ x. return_act x (map rs (returned_register x)) o) (sym is)) t
 
 abbrev return_if : Value → Bool → Outer → Act Value
 return_if v b o = if b then Returns (v ∷ []) o else fails o

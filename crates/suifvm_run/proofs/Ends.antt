@@ -7,7 +7,7 @@ use Rattle.mem_model.specs.declared.value.Value.TheVariants.{Word}
 use Rattle.machine_model.specs.Machine.{Config, Goes, start}
 use Rattle.suifvm_ir.specs.declared.insn.VmInsn.{VmInsn}
 use Rattle.suifvm_ir.specs.declared.program.VmProgram.{VmProgram}
-use Rattle.suifvm_ir.specs.Insns.{named}
+use Rattle.suifvm_ir.specs.Insns.{named_register}
 use Rattle.suifvm_ir.specs.Programs.{VmFunction, IsLawfulFunction, goes_back_to_marks}
 use Rattle.vm_meaning.specs.Behave.{FunctionCode, Registers, code_of, main_of, start_world, vm_code}
 use Rattle.vm_meaning.specs.Effect.{input_word}
@@ -91,9 +91,9 @@ module _ (m new : Machine) (marked : AreMarked (program_of m)) where
       let g : GoesTo (step_there [] m nothing_hidden) (λ x. config_of new (with_byte byte x)) nothing_hidden = t.comes [] nothing_hidden in
       same_program (config_of new (with_byte byte g.hidden)) new (t.program refl) (falls_there (config_of new (with_byte byte g.hidden)) g.goes)
 
-  pub takes_falls : (d : Option ℕ) (byte : Option ℕ) (last : Machine) → TurnIs m new (turn.Takes d) (λ rs h. step_there rs m h) → Wrote new last (named d) (Word (input_word byte)) → machine_left last < machine_left m
+  pub takes_falls : (d : Option ℕ) (byte : Option ℕ) (last : Machine) → TurnIs m new (turn.Takes d) (λ rs h. step_there rs m h) → Wrote new last (named_register d) (Word (input_word byte)) → machine_left last < machine_left m
   takes_falls d byte last t w =
-      let g : GoesTo (step_there [] m nothing_hidden) (λ x. wrote (named d) (Word (input_word (slice_get x.input 0)) ∷ []) (config_of new (with_taken x))) nothing_hidden = t.comes [] nothing_hidden in
-      let same : steps_left (program_of m) (config_of last (with_taken g.hidden)) ≡ steps_left (program_of m) (wrote (named d) (Word (input_word byte) ∷ []) (config_of new (with_taken g.hidden))) = ap (steps_left (program_of m)) (w.config (with_taken g.hidden)) in
+      let g : GoesTo (step_there [] m nothing_hidden) (λ x. wrote (named_register d) (Word (input_word (slice_get x.input 0)) ∷ []) (config_of new (with_taken x))) nothing_hidden = t.comes [] nothing_hidden in
+      let same : steps_left (program_of m) (config_of last (with_taken g.hidden)) ≡ steps_left (program_of m) (wrote (named_register d) (Word (input_word byte) ∷ []) (config_of new (with_taken g.hidden))) = ap (steps_left (program_of m)) (w.config (with_taken g.hidden)) in
       same_program (config_of last (with_taken g.hidden)) last (w.program ∙ t.program refl)
-      (subst (λ n. n < machine_left m) (sym same) (falls_there (wrote (named d) (Word (input_word (slice_get g.hidden.input 0)) ∷ []) (config_of new (with_taken g.hidden))) g.goes))
+      (subst (λ n. n < machine_left m) (sym same) (falls_there (wrote (named_register d) (Word (input_word (slice_get g.hidden.input 0)) ∷ []) (config_of new (with_taken g.hidden))) g.goes))

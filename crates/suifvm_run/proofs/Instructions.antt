@@ -17,7 +17,7 @@ use Rattle.suifvm_ir.specs.declared.insn.Callee.{Callee}
 use Rattle.suifvm_ir.specs.declared.insn.TypedRegister.{TypedRegister}
 use Rattle.suifvm_ir.specs.declared.insn.VmInsn.{VmInsn}
 use Rattle.suifvm_ir.specs.declared.insn.VmInsn.TheVariants.{LoadConstant, LoadAddress, Load, Store, Copy, Unary, Binary, Shift, Convert, Compare, Branch, Call, Return}
-use Rattle.suifvm_ir.specs.Insns.{returned}
+use Rattle.suifvm_ir.specs.Insns.{returned_register}
 use Rattle.suifvm_ir.specs.Programs.{alignment_bytes}
 use Rattle.vm_meaning.specs.declared.answer.Answer.{Answer}
 use Rattle.vm_meaning.specs.declared.answer.Answer.TheVariants.{Gives}
@@ -84,5 +84,5 @@ module _ (m new : Machine) (r : Turn) (insn : VmInsn) where
   pub call_done : (d : Option ℕ) (callee : Callee) (arguments slice : List ℕ) → insn ≡ Call d callee arguments → slice ≡ arguments → Does (Call d callee arguments) (call_act callee (map rs slice)) → Done
   call_done d callee arguments slice is read t = done_as m new r insn (Call d callee arguments) (call_act callee (map rs slice)) is (λ o same. ap (λ x. call_act callee (map rs x) o) read) t
 
-  pub return_done : (value : Option TypedRegister) → insn ≡ Return value → Does (Return value) (return_act value (map rs (returned value))) → Done
-  return_done value is t = done_as m new r insn (Return value) (return_act value (map rs (returned value))) is (λ o same. refl) t
+  pub return_done : (value : Option TypedRegister) → insn ≡ Return value → Does (Return value) (return_act value (map rs (returned_register value))) → Done
+  return_done value is t = done_as m new r insn (Return value) (return_act value (map rs (returned_register value))) is (λ o same. refl) t

@@ -9,7 +9,7 @@ use Rattle.mem_model.specs.World.{World, Rooms}
 use Rattle.machine_model.specs.Laws.{next_world}
 use Rattle.machine_model.specs.Machine.{Config, Next, Goes, go_on, exec}
 use Rattle.machine_model.proofs.Runs.{steps_add_up}
-use Rattle.suifvm_ir.specs.Insns.{named}
+use Rattle.suifvm_ir.specs.Insns.{named_register}
 use Rattle.vm_meaning.specs.Effect.{input_word}
 use Rattle.vm_meaning.specs.Behave.{Registers, vm_code}
 use Rattle.suifvm_run.specs.declared.ending.VmEnding.{VmEnding}
@@ -135,7 +135,7 @@ module _ (rooms : Rooms) (start : Config Registers) (turns : ℕ) (told : Traffi
 
   -- a byte that was taken, and is still to be written
   abbrev waiting : Option ℕ → Hidden → Config Registers
-  waiting d x = wrote (named d) (Word (input_word (slice_get x.input 0)) ∷ []) (config_of new (with_taken x))
+  waiting d x = wrote (named_register d) (Word (input_word (slice_get x.input 0)) ∷ []) (config_of new (with_taken x))
 
   pub take_failed : (now after : Traffic) (d : Option ℕ) → TurnIs m new (turn.Takes d) (λ rs h. step_there rs m h) → StandsAt rooms p start told now m → after.left ≡ now.left → after.made ≡ option_map next_count now.made → after.taken ≡ now.taken → IsRun run turns e.InputFault told after
   take_failed now after d t at left made taken =
@@ -151,14 +151,14 @@ module _ (rooms : Rooms) (start : Config Registers) (turns : ℕ) (told : Traffi
         taken = taken ∙ at.taken;
       }
 
-  pub take_done : (now after : Traffic) (d : Option ℕ) (byte : Option ℕ) (last : Machine) → TurnIs m new (turn.Takes d) (λ rs h. step_there rs m h) → StandsAt rooms p start told now m → ((bytes : List ℕ) → now.left ≡ Some bytes → byte ≡ slice_get bytes 0) → Wrote new last (named d) (Word (input_word byte)) → after.left ≡ option_map (drop 1) now.left → after.made ≡ option_map next_count now.made → after.taken ≡ now.taken → StandsAt rooms p start told after last
+  pub take_done : (now after : Traffic) (d : Option ℕ) (byte : Option ℕ) (last : Machine) → TurnIs m new (turn.Takes d) (λ rs h. step_there rs m h) → StandsAt rooms p start told now m → ((bytes : List ℕ) → now.left ≡ Some bytes → byte ≡ slice_get bytes 0) → Wrote new last (named_register d) (Word (input_word byte)) → after.left ≡ option_map (drop 1) now.left → after.made ≡ option_map next_count now.made → after.taken ≡ now.taken → StandsAt rooms p start told after last
   take_done now after d byte last t at first w left made taken =
       let g : GoesTo (step_there rooms m at.hidden) (waiting d) at.hidden = t.comes rooms at.hidden in
       let is : byte ≡ slice_get g.hidden.input 0 = first g.hidden.input (at.left ∙ ap (λ x. Some x) (sym g.same.input)) in record {
         hidden = with_taken g.hidden;
         steps = suc at.steps;
         reached = one at.steps at.hidden (waiting d g.hidden) at.reached g.goes
-            ∙ ap (λ b. Goes (wrote (named d) (Word (input_word b) ∷ []) (config_of new (with_taken g.hidden)))) (sym is)
+            ∙ ap (λ b. Goes (wrote (named_register d) (Word (input_word b) ∷ []) (config_of new (with_taken g.hidden)))) (sym is)
             ∙ sym (ap (λ k. Goes k) (w.config (with_taken g.hidden)));
         left = left ∙ ap (option_map (drop 1)) (at.left ∙ ap (λ x. Some x) (sym g.same.input));
         made = made ∙ ap (option_map next_count) at.made ∙ counted at.hidden.takings told.made

@@ -11,7 +11,7 @@ use Rattle.machine_model.specs.Code.{Code, Returns}
 use Rattle.machine_model.specs.Machine.{Frame, Next, Goes, Over, go_on, status_ending, resume, return_to}
 use Rattle.suifvm_ir.specs.declared.function.Object.{Object}
 use Rattle.suifvm_ir.specs.declared.insn.VmInsn.{VmInsn}
-use Rattle.suifvm_ir.specs.Insns.{writes_of, named}
+use Rattle.suifvm_ir.specs.Insns.{writes_of, named_register}
 use Rattle.vm_meaning.specs.Behave.{Registers, registers_of, set_registers, first_or_unset, value_status, sizes_in, insn_site, site_or_next, vm_code}
 use Rattle.suifvm_run.specs.declared.machine.Machine.{Machine}
 use Rattle.suifvm_run.specs.declared.machine.Stop.{Stop}
@@ -27,7 +27,7 @@ same_status rooms c at w None = refl
 same_status rooms c at w (Some status) = refl
 
 -- a register that is written gets the first value alone
-first_alone : (d : Option ℕ) (vs : List Value) (v : Value) (rs : Registers) → v ≡ first_or_unset vs → set_registers (named d) vs rs ≡ set_registers (named d) (v ∷ []) rs
+first_alone : (d : Option ℕ) (vs : List Value) (v : Value) (rs : Registers) → v ≡ first_or_unset vs → set_registers (named_register d) vs rs ≡ set_registers (named_register d) (v ∷ []) rs
 first_alone None vs v rs is = refl
 first_alone (Some r) vs v rs is = ap (λ x. set_registers (r ∷ []) (x ∷ []) rs) (sym is)
 
@@ -110,7 +110,7 @@ module _ (m mid : Machine) (sound : IsSound m)
     back_place = wait.1
 
     -- the call that waits goes on
-    pub returned : (new : Machine) (i j : VmInsn) (vs : List Value) (v : Value) (d : Option ℕ) → slice_get (block_insns mid.here.row.now) mid.here.at ≡ Some j → writes_of j ≡ named d → v ≡ first_or_unset vs → Wrote mid new (named d) v → TurnIs m new turn.Goes (λ rooms h. act_there rooms m h i (Returns vs (world_in m h).outer))
+    pub returned : (new : Machine) (i j : VmInsn) (vs : List Value) (v : Value) (d : Option ℕ) → slice_get (block_insns mid.here.row.now) mid.here.at ≡ Some j → writes_of j ≡ named_register d → v ≡ first_or_unset vs → Wrote mid new (named_register d) v → TurnIs m new turn.Goes (λ rooms h. act_there rooms m h i (Returns vs (world_in m h).outer))
     returned new i j vs v d there written is w = record {
       sound = λ goes. w.sound;
       program = λ goes. w.program ∙ ap (λ (x : Machine). x.program.now) only;
@@ -148,6 +148,6 @@ module _ (m mid : Machine) (sound : IsSound m)
             ∙ ap (resume Value Registers rooms (vm_code (program_of m)) (frame_of mid.here (drop mid.here.base mid.stack.items)) fs (world_left rooms m objects h) vs) site
             ∙ ap (λ rs. shape rooms h (set_registers rs vs store) objects) written
             ∙ ap (λ rs. shape rooms h rs objects) (first_alone d vs v store is)
-            ∙ ap (λ x. shape rooms h (set_registers (named d) (v ∷ []) store) x) (sym memory)
-            ∙ ap (λ x. Goes (wrote (named d) (v ∷ []) (config_of x (left rooms m h)))) (sym only)
+            ∙ ap (λ x. shape rooms h (set_registers (named_register d) (v ∷ []) store) x) (sym memory)
+            ∙ ap (λ x. Goes (wrote (named_register d) (v ∷ []) (config_of x (left rooms m h)))) (sym only)
             ∙ sym (ap (λ k. Goes k) (w.config (left rooms m h)))

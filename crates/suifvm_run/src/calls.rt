@@ -32,7 +32,7 @@ fn is_set(value: Value) -> bool
 
 /// The register that an instruction writes, if it writes one.
 fn destination_of(insn: &VmInsn) -> Option<u32>
-    ensures { insns.writes_of insn.now ≡ insns.named result }
+    ensures { insns.writes_of insn.now ≡ insns.named_register result }
 {
     match insn {
         VmInsn::LoadConstant { destination, .. } => Some(*destination),
@@ -205,7 +205,7 @@ impl<'c, 'p> Machine<'c, 'p> {
         requires within { self.old.here.at < length self.old.here.row.now.insns.items }
         ensures { (i : Insn) → config.TurnIs self.old self.new result (λ rooms h. config.act_there rooms self.old h i
             (effect.return_act value
-            (map (registers_of (drop self.old.here.base self.old.stack.items)) (insns.returned value))
+            (map (registers_of (drop self.old.here.base self.old.stack.items)) (insns.returned_register value))
             (config.world_in self.old h).outer)) }
     {
         match value {
@@ -219,7 +219,7 @@ impl<'c, 'p> Machine<'c, 'p> {
     fn put_char(&mut self, destination: Option<u32>, value: Value) -> Turn
         requires sound { config.IsSound self.old }
         requires within { self.old.here.at < length self.old.here.row.now.insns.items }
-        ensures { (i : Insn) → insns.writes_of i ≡ insns.named destination →
+        ensures { (i : Insn) → insns.writes_of i ≡ insns.named_register destination →
             config.TurnIs self.old self.new result (λ rooms h. config.act_there rooms self.old h i
             (effect.puts_char value (config.world_in self.old h).outer)) }
     {
@@ -258,7 +258,7 @@ impl<'c, 'p> Machine<'c, 'p> {
     ) -> Turn
         requires sound { config.IsSound self.old }
         requires within { self.old.here.at < length self.old.here.row.now.insns.items }
-        ensures { (i : Insn) → insns.writes_of i ≡ insns.named destination →
+        ensures { (i : Insn) → insns.writes_of i ≡ insns.named_register destination →
             config.TurnIs self.old self.new result (λ rooms h. config.act_there rooms self.old h i
             (effect.builtin_act builtin
             (map (registers_of (drop self.old.here.base self.old.stack.items)) arguments.now)
@@ -283,7 +283,7 @@ impl<'c, 'p> Machine<'c, 'p> {
     ) -> Turn
         requires sound { config.IsSound self.old }
         requires within { self.old.here.at < length self.old.here.row.now.insns.items }
-        ensures { (i : Insn) → insns.writes_of i ≡ insns.named destination →
+        ensures { (i : Insn) → insns.writes_of i ≡ insns.named_register destination →
             config.TurnIs self.old self.new result (λ rooms h. config.act_there rooms self.old h i
             (effect.call_act callee (map (registers_of (drop self.old.here.base self.old.stack.items)) arguments.now)
             (config.world_in self.old h).outer)) }

@@ -62,7 +62,7 @@ impl<'c, 'p> Machine<'c, 'p> {
     pub(crate) fn write(&mut self, destination: Option<u32>, value: Value) -> Result<(), AllocError>
         requires sound { config.IsSound self.old }
         requires within { self.old.here.at < length self.old.here.row.now.insns.items }
-        ensures { OnOk result (config.Wrote self.old self.new (insns.named destination) value) }
+        ensures { OnOk result (config.Wrote self.old self.new (insns.named_register destination) value) }
     {
         match destination {
             None => {

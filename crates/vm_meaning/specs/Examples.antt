@@ -20,29 +20,29 @@ use Rattle.suifvm_ir.specs.declared.insn.VmInsn.TheVariants.{LoadConstant, LoadA
 use Rattle.vm_meaning.specs.Behave.{FunctionCode, Registers, vm_run, start_world}
 
 -- what is seen of a run: how it ended, if it did, and its output
-pub data Shown : Type 0 where
-  ShowsDone : (status : ℕ) → (output : List ℕ) → Shown
-  ShowsTrap : (code : ℕ) → (output : List ℕ) → Shown
-  ShowsUndefined : (at : ℕ) → (output : List ℕ) → Shown
-  ShowsMore : (output : List ℕ) → Shown
-  GoesOn : Shown
+pub data Observation : Type 0 where
+  ShowsDone : (status : ℕ) → (output : List ℕ) → Observation
+  ShowsTrap : (code : ℕ) → (output : List ℕ) → Observation
+  ShowsUndefined : (at : ℕ) → (output : List ℕ) → Observation
+  ShowsMore : (output : List ℕ) → Observation
+  GoesOn : Observation
 
-abbrev pub shown_ending : Ending → Shown
+abbrev pub shown_ending : Ending → Observation
 shown_ending (Done w status) = ShowsDone status w.outer.output
 shown_ending (Trap w code) = ShowsTrap code w.outer.output
 shown_ending (Undefined w at) = ShowsUndefined at w.outer.output
 shown_ending (More w) = ShowsMore w.outer.output
 
-abbrev pub shown : Next Registers → Shown
-shown (Goes k) = GoesOn
-shown (Over e) = shown_ending e
+abbrev pub observe : Next Registers → Observation
+observe (Goes k) = GoesOn
+observe (Over e) = shown_ending e
 
 -- a run of functions, of which the first is `main`, in at most 30 steps
-abbrev pub run_functions : List FunctionCode → List DataObject → (input : List ℕ) → (turns : ℕ) → Shown
-run_functions functions globals input turns = shown (vm_run [] functions 0 (start_world globals input turns) 30)
+abbrev pub run_functions : List FunctionCode → List DataObject → (input : List ℕ) → (turns : ℕ) → Observation
+run_functions functions globals input turns = observe (vm_run [] functions 0 (start_world globals input turns) 30)
 
 -- a run of one function without memory locals
-abbrev pub run_blocks : List (List VmInsn) → (input : List ℕ) → (turns : ℕ) → Shown
+abbrev pub run_blocks : List (List VmInsn) → (input : List ℕ) → (turns : ℕ) → Observation
 run_blocks blocks input turns = run_functions (record { sizes = []; blocks = blocks } ∷ []) [] input turns
 
 abbrev pub give : (register : ℕ) → VmInsn

@@ -73,8 +73,8 @@ pub record TooFarForth (items : List AsmItem) (far : List Bool) (k : ℕ) : Type
   pub beyond : rest items far (label_index items l) + reach ≤ rest items far (k + 1)
 
 -- a sweep made a branch far, or left all as it was
-abbrev pub Grown : List Bool → List Bool → Bool → Type 0
-Grown old new grew = MatchBool grew (near new < near old) (new ≡ old)
+abbrev pub GrowsWhere : List Bool → List Bool → Bool → Type 0
+GrowsWhere old new grew = MatchBool grew (near new < near old) (new ≡ old)
 
 -- the places of the items and of the end
 pub record ArePlaces (items : List AsmItem) (far : List Bool) (places : List ℕ) : Type 0 where

@@ -24,10 +24,10 @@ most_u32 = 2 ^ 32 - 1
 unfoldable pub number32_of : List ℕ → Option ℕ
 number32_of s = number_of most_u32 s
 
-abbrev pub zipped : {A B : Type 0} → Option A → Option B → Option (A × B)
-zipped (Some a) (Some b) = Some (a, b)
-zipped (Some a) None = None
-zipped None b = None
+abbrev pub both_of : {A B : Type 0} → Option A → Option B → Option (A × B)
+both_of (Some a) (Some b) = Some (a, b)
+both_of (Some a) None = None
+both_of None b = None
 
 abbrev pub if_empty : List ℕ → List ℕ → Option (List ℕ)
 if_empty a [] = Some a
@@ -67,7 +67,7 @@ indirect_of (b ∷ s) = if b == 40 then inner_of s else None
 
 abbrev pub address_in : Option (List ℕ × List ℕ) → Option (ℤ × ℕ)
 address_in None = None
-address_in (Some p) = zipped (displacement_of p.0) (inner_of p.1)
+address_in (Some p) = both_of (displacement_of p.0) (inner_of p.1)
 
 unfoldable pub address_of : List ℕ → Option (ℤ × ℕ)
 address_of s = address_in (cut 40 s)
@@ -76,7 +76,7 @@ address_of s = address_in (cut 40 s)
 abbrev pub each_of : {A B : Type 0} → (List ℕ → Option A) → (List ℕ → Option B) → Option (List ℕ × List ℕ) →
     Option (A × B)
 each_of f g None = None
-each_of f g (Some p) = zipped (f p.0) (g p.1)
+each_of f g (Some p) = both_of (f p.0) (g p.1)
 
 unfoldable pub two_of : {A B : Type 0} → (List ℕ → Option A) → (List ℕ → Option B) → List ℕ → Option (A × B)
 two_of f g s = each_of f g (pair_of s)

@@ -11,9 +11,9 @@ points None id = false
 points (Some other) id = nat_eq other id
 
 -- an end of a chain after a link past it was set: it moves only where there is no node
-abbrev pub moved : Option ℕ → Option ℕ → Option ℕ → Option ℕ
-moved None to end = to
-moved (Some id) to end = end
+abbrev pub end_behind : Option ℕ → Option ℕ → Option ℕ → Option ℕ
+end_behind None to end = to
+end_behind (Some id) to end = end
 
 module _ {T : Type 0} where
   -- the item at an id, if there is one
@@ -44,14 +44,14 @@ module _ {T : Type 0} where
   node item prev next = record { item = Some item; next = next; prev = prev }
 
   -- each pair has its node, which names those beside it; `prev` and `next` are named at the ends
-  abbrev pub Linked : (ℕ → Option (Node T)) → Option ℕ → List (ℕ × T) → Option ℕ → Type 0
-  Linked node_at prev [] next = Unit {0}
-  Linked node_at prev (p ∷ pairs) next =
-      (node_at p.0 ≡ Some (node p.1 prev (first_or pairs next))) × Linked node_at (Some p.0) pairs next
+  abbrev pub IsChainPart : (ℕ → Option (Node T)) → Option ℕ → List (ℕ × T) → Option ℕ → Type 0
+  IsChainPart node_at prev [] next = Unit {0}
+  IsChainPart node_at prev (p ∷ pairs) next =
+      (node_at p.0 ≡ Some (node p.1 prev (first_or pairs next))) × IsChainPart node_at (Some p.0) pairs next
 
   -- the nodes chain these pairs both ways, from `first` to `last`
   pub record IsChain (nodes : List (Node T)) (first last : Option ℕ) (pairs : List (ℕ × T)) : Type 0 where
-    pub linked : Linked (slice_get nodes) None pairs None
+    pub linked : IsChainPart (slice_get nodes) None pairs None
     pub begins : first ≡ first_id pairs
     pub ends : last ≡ last_id pairs
     pub distinct : IsDistinct nat_eq (ids pairs)
@@ -60,7 +60,7 @@ module _ {T : Type 0} where
   -- the nodes chain these pairs from this link to the last
   pub record IsTail (nodes : List (Node T)) (at : Option ℕ) (pairs : List (ℕ × T)) : Type 0 where
     pub prev : Option ℕ
-    pub linked : Linked (slice_get nodes) prev pairs None
+    pub linked : IsChainPart (slice_get nodes) prev pairs None
     pub begins : at ≡ first_id pairs
     pub short : length pairs ≤ length nodes
 
@@ -88,9 +88,9 @@ module _ {T : Type 0} where
   with_prev prev n = record n { prev = prev }
 
   -- a node after a change of the one that a link names
-  abbrev pub changed : (Node T → Node T) → Option ℕ → ℕ → Option (Node T) → Option (Node T)
-  changed change at id found = if points at id then option_map change found else found
+  abbrev pub node_behind : (Node T → Node T) → Option ℕ → ℕ → Option (Node T) → Option (Node T)
+  node_behind change at id found = if points at id then option_map change found else found
 
   -- the node that a link names has changed, and no other
   abbrev pub Changes : (Node T → Node T) → Option ℕ → List (Node T) → List (Node T) → Type 0
-  Changes change at old new = (id : ℕ) → slice_get new id ≡ changed change at id (slice_get old id)
+  Changes change at old new = (id : ℕ) → slice_get new id ≡ node_behind change at id (slice_get old id)

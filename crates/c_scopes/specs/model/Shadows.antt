@@ -11,12 +11,12 @@ place_of None = None
 place_of (Some x) = Some x.0
 
 -- what is not in the map has no place, and neither has what is there without one
-abbrev pub joined : Option (Option ℕ) → Option ℕ
-joined None = None
-joined (Some x) = x
+abbrev pub flatten : Option (Option ℕ) → Option ℕ
+flatten None = None
+flatten (Some x) = x
 
 abbrev pub IsNewest : {X S : Type 0} → HashMap (Bor (List ℕ)) (Option ℕ) S → List (Entry X) → Type 0
-IsNewest m xs = (q : List ℕ) → joined (get_by (λ k. bytes_eq q k.now) m) ≡ place_of (find q xs)
+IsNewest m xs = (q : List ℕ) → flatten (get_by (λ k. bytes_eq q k.now) m) ≡ place_of (find q xs)
 
 abbrev pub entry_of : {X : Type 0} → Declaration X → Entry X
 entry_of d = record { name = d.name.now; value = d.value }

@@ -12,8 +12,8 @@ span ds end f =
     if nat_le (end_of ds end f) MOST_DATA then Some (record { from = place_of ds end f; to = end_of ds end f })
     else None
 
-abbrev pub placed : List StructDef → List Field → Option Placement
-placed ds fs =
+abbrev pub placement_of_fields : List StructDef → List Field → Option Placement
+placement_of_fields ds fs =
     if nat_le (end_behind ds 0 fs) MOST_DATA
     then Some (record { members = members_from ds 0 fs; end = end_behind ds 0 fs })
     else None

@@ -7,7 +7,7 @@ use Rattle.mem_model.specs.Ending.{Ending, Done, Trap, Undefined, More}
 use Rattle.machine_model.specs.Code.{Point, Act}
 use Rattle.machine_model.specs.Machine.{Frame, Config, Next, Goes, Over, go_on, exec, step, act_on}
 use Rattle.suifvm_ir.specs.declared.insn.VmInsn.{VmInsn}
-use Rattle.suifvm_ir.specs.Insns.{named}
+use Rattle.suifvm_ir.specs.Insns.{named_register}
 use Rattle.vm_meaning.specs.Effect.{input_word}
 use Rattle.vm_meaning.specs.Behave.{FunctionCode, Registers, registers_of, set_registers, insn_site, vm_code}
 use Rattle.suifvm_run.specs.declared.machine.Call.{Call}
@@ -152,7 +152,7 @@ Comes rooms p (turn.Over s) m h next = EndsBy rooms p next s h
 Comes rooms p (turn.Puts byte) m h next = GoesTo next (λ g. config_of m (with_byte byte g)) h
 Comes rooms p (turn.Takes destination) m h next =
     GoesTo next
-    (λ g. wrote (named destination) (Word (input_word (slice_get g.input 0)) ∷ []) (config_of m (with_taken g))) h
+    (λ g. wrote (named_register destination) (Word (input_word (slice_get g.input 0)) ∷ []) (config_of m (with_taken g))) h
 Comes rooms p turn.NoMemory m h next = Unit {0}
 
 -- what an instruction does where the machine stands, by what is done with its values

@@ -1,8 +1,8 @@
 use Rattle.c_struct_layout.proofs.Members.{past_data, no_span, none_placed}
 use Rattle.c_struct_layout.proofs.fields.place_members.Goals as goal
 
-pub returns-in-None-clause-placed : goal.returns-in-None-clause-placed
-returns-in-None-clause-placed c =
+pub returns-in-None-clause-placement_of_fields : goal.returns-in-None-clause-placement_of_fields
+returns-in-None-clause-placement_of_fields c =
     let past =
     no_span c.args.structs.now c.loop-field.end c.field-item.result c.span_of.result c.span_of.ensures
     c.in-None.is in

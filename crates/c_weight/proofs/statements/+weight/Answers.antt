@@ -3,7 +3,7 @@ use Rattle.std.proofs.Common.{◌+◌}
 use Rattle.c_typed_tree.specs.View.{stmt_view}
 use Rattle.c_typed_tree.specs.model.View.{stmts_view}
 use Rattle.c_typed_tree.specs.Weight.{label_weight, stmt_weight, stmts_weight, sections_weight}
-use Rattle.c_weight.specs.model.Lists.{sections_view}
+use Rattle.c_typed_tree.specs.model.Lists.{sections_view}
 use Rattle.c_weight.proofs.Weights.{one_more, stmts_weight_end, sections_weight_end, block_is, switch_is, least_sum}
 use Rattle.c_weight.proofs.statements.+weight.Goals as goal
 

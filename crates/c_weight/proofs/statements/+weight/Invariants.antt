@@ -2,7 +2,7 @@
 use Rattle.std.proofs.Common.{◌≡◌, ◌-◌, ◌^◌, min, take}
 use Rattle.c_typed_tree.specs.model.View.{stmts_view}
 use Rattle.c_typed_tree.specs.Weight.{stmts_weight, sections_weight}
-use Rattle.c_weight.specs.model.Lists.{sections_view}
+use Rattle.c_typed_tree.specs.model.Lists.{sections_view}
 use Rattle.c_weight.proofs.statements.+weight.Given as goal
 
 abbrev pub invariant-stmts_weight-loop-statement : goal.invariant-stmts_weight-loop-statement

@@ -2,7 +2,7 @@
 use Rattle.std.proofs.Common.{◌≡◌, List, ℕ, refl, subst}
 use Rattle.std.specs.Prelude.{slice_get, IfSome}
 use Rattle.mem_model.specs.declared.value.Value.TheVariants.{Word}
-use Rattle.suifvm_ir.specs.Insns.{named}
+use Rattle.suifvm_ir.specs.Insns.{named_register}
 use Rattle.suifvm_run.specs.model.Config.{Wrote}
 use Rattle.suifvm_run.proofs.Progress.{goes_on, over_as, put_done, put_failed, take_failed, take_done, take_no_memory, no_memory_left}
 use Rattle.suifvm_run.proofs.Ends.{goes_falls, puts_falls, takes_falls}
@@ -27,7 +27,7 @@ pub returns-in-Ok-write-clause-run : goal.returns-in-Ok-write-clause-run
 returns-in-Ok-write-clause-run g c rooms start told at =
     take_done rooms start c.args.turns told c.args.self.now c.step.new.self _ _ c.in-Takes.destination c.in-Ok-next.byte c.write.new.self c.in-Takes.ensures at
     (λ bytes is. subst (λ o. IfSome o (λ (bytes : List ℕ). c.in-Ok-next.byte ≡ slice_get bytes 0)) is c.in-Ok-next.ensures.byte)
-    (subst (λ n. Wrote c.step.new.self c.write.new.self (named c.in-Takes.destination) (Word n)) c.word_of.ensures c.in-Ok-write.ensures)
+    (subst (λ n. Wrote c.step.new.self c.write.new.self (named_register c.in-Takes.destination) (Word n)) c.word_of.ensures c.in-Ok-write.ensures)
     c.in-Ok-next.ensures.left c.in-Ok-next.ensures.made refl
 
 pub returns-in-Err-write-clause-run : goal.returns-in-Err-write-clause-run
@@ -45,4 +45,4 @@ returns-in-Ok-clause-falls g c = puts_falls c.args.self.now c.step.new.self c.re
 pub returns-in-Ok-write-clause-falls : goal.returns-in-Ok-write-clause-falls
 returns-in-Ok-write-clause-falls g c =
     takes_falls c.args.self.now c.step.new.self c.requires.marked c.in-Takes.destination c.in-Ok-next.byte c.write.new.self c.in-Takes.ensures
-    (subst (λ n. Wrote c.step.new.self c.write.new.self (named c.in-Takes.destination) (Word n)) c.word_of.ensures c.in-Ok-write.ensures)
+    (subst (λ n. Wrote c.step.new.self c.write.new.self (named_register c.in-Takes.destination) (Word n)) c.word_of.ensures c.in-Ok-write.ensures)

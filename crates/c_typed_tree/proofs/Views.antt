@@ -14,7 +14,7 @@ use Rattle.c_typed_tree.specs.Statements as q
 use Rattle.c_typed_tree.specs.Statements.{Stmt, Stmts, no_stmts, more_stmts, Sections, no_sections, more_sections}
 use Rattle.c_typed_tree.specs.View.{type_view, expr_view, stmt_view}
 use Rattle.c_typed_tree.specs.model.View.{exprs_view, stmts_view, opens}
-use Rattle.c_weight.specs.model.Lists.{sections_view, else_view}
+use Rattle.c_typed_tree.specs.model.Lists.{sections_view, else_view}
 
 -- ---- expressions
 
