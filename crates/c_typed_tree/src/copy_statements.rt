@@ -96,7 +96,13 @@ pub fn copy_stmt(alloc: Global, statement: &TStmt) -> Result<TStmt, AllocError>
             condition,
             step,
             body,
-        } => for_around(alloc, first, condition, step, copy_stmt_in_box(alloc, body)?),
+        } => for_around(
+            alloc,
+            first,
+            condition,
+            step,
+            copy_stmt_in_box(alloc, body)?,
+        ),
         TStmt::Switch { operand, sections } => {
             let sections = copy_sections(alloc, sections)?;
             let operand = copy_in_box(alloc, operand)?;
