@@ -47,6 +47,7 @@ pub stmt_itself : (s : Stmt) → StmtRefines s s
 stmt_itself s unit n j p = record {
   typed = p;
   declares = refl;
+  declarations = λ number. omega arith;
   named = λ a h. h;
   weight = omega arith;
   does = λ rooms m scope. run_itself _;
@@ -59,6 +60,7 @@ stmt_on s t u h g unit n j p =
     record {
       typed = l.typed;
       declares = l.declares ∙ k.declares;
+      declarations = λ number. omega (arith, l.declarations number, k.declarations number);
       named = λ a m. k.named a (l.named a m);
       weight = omega (arith, l.weight, k.weight);
       does = λ rooms m scope. run_on (l.does rooms m scope) (k.does rooms m scope);

@@ -1,6 +1,6 @@
 -- A refinement in the place of a part refines the whole statement, by induction on the level.
 use Rattle.std.proofs.Common.{◌≡◌, ◌≤◌, ◌+◌, ℕ, zero, suc, Bool, true, ◌&&◌, ◌||◌, not, IsTrue, List, [], ◌∷◌, ◌++◌, Option, Some, None, refl, sym, ap, ◌∙◌, subst, arith, sum_by}
-use Rattle.std.specs.Prelude.{slice_get, map, if◌then◌else◌}
+use Rattle.std.specs.Prelude.{slice_get, map, if◌then◌else◌, cond, ◌==◌}
 use Rattle.std.specs.List.{list_all, list_any}
 use Rattle.std.proofs.lemmas.List.Sums.{sum_by_from}
 use Rattle.mem_model.specs.World.{Rooms}
@@ -19,6 +19,7 @@ use Rattle.c_typed_tree.specs.Typing.{Context, is_same_type, is_void, is_scalar,
 use Rattle.c_typed_tree.specs.TypingStatements as types
 use Rattle.c_typed_tree.specs.TypingStatements.{Jumps, in_loop, in_switch, is_value, is_condition, is_optional_value, is_optional_condition, has_initialised_type, is_initialiser, is_declared, is_first, is_returned, is_label, is_same_label, are_labels, is_typed_stmt, is_typed_else, are_typed_stmts, are_typed_sections}
 use Rattle.c_typed_tree.specs.Names.{Referent, is_local, names, optional_names, declared_names, first_names, stmt_names, else_names, stmts_names, sections_names}
+use Rattle.c_typed_tree.specs.Declarations.{declarations_here, first_declarations, declarations, else_declarations, stmts_declarations, sections_declarations}
 use Rattle.c_typed_tree.specs.Weight.{copy_weight, expr_weight, optional_weight, init_weight, declared_weight, first_weight, stmt_weight, else_weight, stmts_weight, sections_weight}
 use Rattle.c_semantics.specs.Runs.{Run, ◌>>=◌, ◌>>◌, pure, turn}
 use Rattle.c_semantics.specs.Objects.{Scope, with_locals}
@@ -41,6 +42,19 @@ first_numbers : {a b : First} → FirstWithin a b → declared_first a ≡ decla
 first_numbers r.nothing_first = refl
 first_numbers (r.value_first h) = refl
 first_numbers (r.locals_first h) = all_numbers h
+
+here_within : (number : ℕ) {d e : LocalDeclaration} → DeclaredWithin d e → declarations_here number d ≡ declarations_here number e
+here_within number h = ap (λ k. cond (k == number) 1 0) h.number
+
+all_within : (number : ℕ) {a b : List LocalDeclaration} → AllDeclaredWithin a b → sum_by (declarations_here number) a ≡ sum_by (declarations_here number) b
+all_within number r.no_more = refl
+all_within number (r.one_more {d = d} {e = e} {ds = ds} {es = es} h g) =
+    omega (arith, here_within number h, all_within number g, sum_by_from (declarations_here number) (0 + declarations_here number d) ds, sum_by_from (declarations_here number) (0 + declarations_here number e) es)
+
+first_within : (number : ℕ) {a b : First} → FirstWithin a b → first_declarations number a ≡ first_declarations number b
+first_within number r.nothing_first = refl
+first_within number (r.value_first h) = refl
+first_within number (r.locals_first h) = all_within number h
 
 same_labels : (target : Option ℕ) {a b : Sections} → SectionsWithin a b → has_label target a ≡ has_label target b
 same_labels target r.no_section_left = refl
@@ -169,6 +183,7 @@ module _ (c : Context) where
 record StmtIn (unit : TypedUnit) (n : ℕ) (j : Jumps) (s t : Stmt) : Type 0 where
   typed : IsTypedAt unit n j s
   declares : declared_by s ≡ declared_by t
+  declarations : (number : ℕ) → declarations number s ≤ declarations number t
   named : (a : Referent) → IsTrue (stmt_names a s) → IsTrue (stmt_names a t)
   weight : stmt_weight unit.structs s ≤ stmt_weight unit.structs t
 
@@ -181,17 +196,20 @@ module _ (unit : TypedUnit) (n : ℕ) where
 
   record ElseIn (j : Jumps) (s t : Else) : Type 0 where
     typed : IsTrue (is_typed_else here gives j s)
+    declarations : (number : ℕ) → else_declarations number s ≤ else_declarations number t
     named : (a : Referent) → IsTrue (else_names a s) → IsTrue (else_names a t)
     weight : else_weight unit.structs s ≤ else_weight unit.structs t
 
   record StmtsIn (j : Jumps) (s t : Stmts) : Type 0 where
     typed : IsTrue (are_typed_stmts here gives j s)
     declares : declared_in s ≡ declared_in t
+    declarations : (number : ℕ) → stmts_declarations number s ≤ stmts_declarations number t
     named : (a : Referent) → IsTrue (stmts_names a s) → IsTrue (stmts_names a t)
     weight : stmts_weight unit.structs s ≤ stmts_weight unit.structs t
 
   record SectionsIn (j : Jumps) (s t : Sections) : Type 0 where
     typed : IsTrue (are_typed_sections here gives j s)
+    declarations : (number : ℕ) → sections_declarations number s ≤ sections_declarations number t
     named : (a : Referent) → IsTrue (sections_names a s) → IsTrue (sections_names a t)
     weight : sections_weight unit.structs s ≤ sections_weight unit.structs t
 
@@ -199,8 +217,8 @@ module _ (unit : TypedUnit) (n : ℕ) where
     unfolding stmt_weight
 
     stmt_in : {s t : Stmt} → StmtWithin s t → (j : Jumps) → IsTypedAt unit n j t → StmtIn unit n j s t
-    stmt_in (r.refined h) j p = let k = h unit n j p in record { typed = k.typed; declares = k.declares; named = k.named; weight = k.weight }
-    stmt_in (r.block h) j p = let k = stmts_in h j p in record { typed = k.typed; declares = refl; named = k.named; weight = omega (arith, k.weight) }
+    stmt_in (r.refined h) j p = let k = h unit n j p in record { typed = k.typed; declares = k.declares; declarations = k.declarations; named = k.named; weight = k.weight }
+    stmt_in (r.block h) j p = let k = stmts_in h j p in record { typed = k.typed; declares = refl; declarations = k.declarations; named = k.named; weight = omega (arith, k.weight) }
     stmt_in (r.choice {x = x} {y = y} {s = s} {t = t} {a = a} {b = b} h g l) j p =
         let p3 = back (is_condition here y && is_typed_stmt here gives j t) (is_typed_else here gives j b) p in
         let q3 = front (is_condition here y && is_typed_stmt here gives j t) (is_typed_else here gives j b) p in
@@ -210,6 +228,7 @@ module _ (unit : TypedUnit) (n : ℕ) where
         record {
           typed = three (is_condition here x) (is_typed_stmt here gives j s) (is_typed_else here gives j a) e.fits k.typed m.typed;
           declares = refl;
+          declarations = λ o. omega (arith, k.declarations o, m.declarations o);
           named = λ o. either_on (names o x || stmt_names o s) (else_names o a) (names o y || stmt_names o t) (else_names o b) (either_on (names o x) (stmt_names o s) (names o y) (stmt_names o t) (e.names o) (k.named o)) (m.named o);
           weight = omega (arith, e.light, k.weight, m.weight);
         }
@@ -219,6 +238,7 @@ module _ (unit : TypedUnit) (n : ℕ) where
         record {
           typed = also (is_condition here x) (is_typed_stmt here gives in_loop s) e.fits k.typed;
           declares = refl;
+          declarations = k.declarations;
           named = λ o. either_on (names o x) (stmt_names o s) (names o y) (stmt_names o t) (e.names o) (k.named o);
           weight = omega (arith, e.light, k.weight);
         }
@@ -228,6 +248,7 @@ module _ (unit : TypedUnit) (n : ℕ) where
         record {
           typed = also (is_condition here x) (is_typed_stmt here gives in_loop s) e.fits k.typed;
           declares = refl;
+          declarations = k.declarations;
           named = λ o. either_on (stmt_names o s) (names o x) (stmt_names o t) (names o y) (k.named o) (e.names o);
           weight = omega (arith, e.light, k.weight);
         }
@@ -243,6 +264,7 @@ module _ (unit : TypedUnit) (n : ℕ) where
         record {
           typed = four (is_first here a) (is_optional_condition here x) (is_optional_value here v) (is_typed_stmt here gives in_loop s) d.fits e.fits f.fits k.typed;
           declares = refl;
+          declarations = λ o. omega (arith, first_within o h, k.declarations o);
           named = λ o. either_on (first_names o a || optional_names o x || optional_names o v) (stmt_names o s) (first_names o b || optional_names o y || optional_names o w) (stmt_names o t)
               (either_on (first_names o a || optional_names o x) (optional_names o v) (first_names o b || optional_names o y) (optional_names o w)
               (either_on (first_names o a) (optional_names o x) (first_names o b) (optional_names o y) (d.names o) (e.names o)) (f.names o)) (k.named o);
@@ -261,36 +283,39 @@ module _ (unit : TypedUnit) (n : ℕ) where
               (labels_on (integer_of (type_of x)) g ∙ along (λ o. are_labels (integer_of o) b) e.types (back (is_promoted (type_of y)) (are_labels (integer_of (type_of y)) b) q3))
               e.typed k.typed;
           declares = refl;
+          declarations = k.declarations;
           named = λ o. either_on (names o x) (sections_names o a) (names o y) (sections_names o b) (e.named o) (k.named o);
           weight = omega (arith, e.weight, k.weight);
         }
-    stmt_in (r.returns h) j p = let k = returned_part here gives h p in record { typed = k.fits; declares = refl; named = k.names; weight = omega (arith, k.light) }
-    stmt_in (r.expression h) j p = let k = value_part here h p in record { typed = k.fits; declares = refl; named = k.names; weight = omega (arith, k.light) }
-    stmt_in (r.declaration h) j p = let k = declared_part here h p in record { typed = k.fits; declares = ap (λ i. i ∷ []) h.number; named = k.names; weight = k.light }
+    stmt_in (r.returns h) j p = let k = returned_part here gives h p in record { typed = k.fits; declares = refl; declarations = λ o. omega arith; named = k.names; weight = omega (arith, k.light) }
+    stmt_in (r.expression h) j p = let k = value_part here h p in record { typed = k.fits; declares = refl; declarations = λ o. omega arith; named = k.names; weight = omega (arith, k.light) }
+    stmt_in (r.declaration h) j p = let k = declared_part here h p in record { typed = k.fits; declares = ap (λ i. i ∷ []) h.number; declarations = λ o. omega (arith, here_within o h); named = k.names; weight = k.light }
 
     else_in : {s t : Else} → ElseWithin s t → (j : Jumps) → IsTrue (is_typed_else here gives j t) → ElseIn j s t
-    else_in r.no_other j p = record { typed = p; named = λ a h. h; weight = omega arith }
-    else_in (r.other h) j p = let k = stmt_in h j p in record { typed = k.typed; named = k.named; weight = k.weight }
+    else_in r.no_other j p = record { typed = p; declarations = λ o. omega arith; named = λ a h. h; weight = omega arith }
+    else_in (r.other h) j p = let k = stmt_in h j p in record { typed = k.typed; declarations = k.declarations; named = k.named; weight = k.weight }
 
     stmts_in : {s t : Stmts} → StmtsWithin s t → (j : Jumps) → IsTrue (are_typed_stmts here gives j t) → StmtsIn j s t
-    stmts_in r.no_statement j p = record { typed = p; declares = refl; named = λ a h. h; weight = omega arith }
+    stmts_in r.no_statement j p = record { typed = p; declares = refl; declarations = λ o. omega arith; named = λ a h. h; weight = omega arith }
     stmts_in (r.then_stmts {s = s} {t = t} {ss = ss} {ts = ts} h g) j p =
         let k = stmt_in h j (front (is_typed_stmt here gives j t) (are_typed_stmts here gives j ts) p) in
         let m = stmts_in g j (back (is_typed_stmt here gives j t) (are_typed_stmts here gives j ts) p) in
         record {
           typed = also (is_typed_stmt here gives j s) (are_typed_stmts here gives j ss) k.typed m.typed;
           declares = ap (λ ks. ks ++ declared_in ss) k.declares ∙ ap (λ ks. declared_by t ++ ks) m.declares;
+          declarations = λ o. omega (arith, k.declarations o, m.declarations o);
           named = λ o. either_on (stmt_names o s) (stmts_names o ss) (stmt_names o t) (stmts_names o ts) (k.named o) (m.named o);
           weight = omega (arith, k.weight, m.weight);
         }
 
     sections_in : {s t : Sections} → SectionsWithin s t → (j : Jumps) → IsTrue (are_typed_sections here gives j t) → SectionsIn j s t
-    sections_in r.no_section_left j p = record { typed = p; named = λ a h. h; weight = omega arith }
+    sections_in r.no_section_left j p = record { typed = p; declarations = λ o. omega arith; named = λ a h. h; weight = omega arith }
     sections_in (r.one_section {label = label} {ss = ss} {ts = ts} {a = a} {b = b} h g) j p =
         let k = stmts_in h j (front (are_typed_stmts here gives j ts) (are_typed_sections here gives j b) p) in
         let m = sections_in g j (back (are_typed_stmts here gives j ts) (are_typed_sections here gives j b) p) in
         record {
           typed = also (are_typed_stmts here gives j ss) (are_typed_sections here gives j a) k.typed m.typed;
+          declarations = λ o. omega (arith, k.declarations o, m.declarations o);
           named = λ o. either_on (stmts_names o ss) (sections_names o a) (stmts_names o ts) (sections_names o b) (k.named o) (m.named o);
           weight = omega (arith, k.weight, m.weight);
         }
@@ -459,6 +484,7 @@ stmt_refines h unit n j p =
     record {
       typed = k.typed;
       declares = k.declares;
+      declarations = k.declarations;
       named = k.named;
       weight = k.weight;
       does = λ rooms m scope. below_refines (level_below unit rooms m n scope h j p);

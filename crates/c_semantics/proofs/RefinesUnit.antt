@@ -25,6 +25,7 @@ use Rattle.c_semantics.specs.Executes.{Flow, Goes, Breaks, Continues, Returns, w
 use Rattle.c_semantics.specs.Behaves.{world_of, status_of, ended_by, ending_of, run_of, place_of_main, main_of, run}
 use Rattle.c_semantics.specs.Refines as r
 use Rattle.c_semantics.specs.Refines.{with_peak, lower_peak, GivesBelow, IsBelow, context_at, result_at, IsTypedAt, FnRefines, FnsRefine, EndingRefines, with_functions, WeighNoMore, UnitRefines, UnitsRefine}
+use Rattle.c_typed_tree.specs.Declarations.{declarations, most_declarations}
 use Rattle.c_semantics.proofs.Facts.{no_true, along}
 use Rattle.c_semantics.proofs.Forms as forms
 use Rattle.c_semantics.proofs.Below.{below_on, refines_below, onto, BelowOf, kept, no_turn_below}
@@ -178,6 +179,9 @@ typed_fn unit fs n h {f = f} {g = g} e k t p =
       body = subst (λ ss. body_by unit ss f.locals (type_view f.result) (stmt_view f.body)) (sym (same_signatures fs unit.functions h))
           (subst (λ ls. body_by unit (map signature_of unit.functions) ls (type_view f.result) (stmt_view f.body)) (sym k.locals)
           (subst (λ x. body_by unit (map signature_of unit.functions) g.locals (type_view x) (stmt_view f.body)) (sym k.result) body));
+      declares = λ number.
+          subst (λ params. declarations number (stmt_view f.body) ≤ most_declarations params number) (sym k.params)
+          (let l = (k.body unit n no_jumps p).declarations number in omega (arith, l, t.declares number));
     }
 
 typed_by : (unit : TypedUnit) (fs : List TypedFn) (n : ℕ) → FnsRefine fs unit.functions → (a b : Option TypedFn) → Related unit n a b → slice_get unit.functions n ≡ b

@@ -23,6 +23,7 @@ use Rattle.c_typed_tree.specs.Constants.{is_built, constant}
 use Rattle.c_typed_tree.specs.Typing.{Context, is_place, is_in_memory, is_typed}
 use Rattle.c_typed_tree.specs.TypingStatements.{Jumps, is_typed_stmt}
 use Rattle.c_typed_tree.specs.Lawful.{signature_of, IsTypedUnit}
+use Rattle.c_typed_tree.specs.Declarations.{declarations}
 use Rattle.c_typed_tree.specs.Names.{Referent, names, stmt_names}
 use Rattle.c_typed_tree.specs.Weight.{expr_weight, stmt_weight, function_weight}
 use Rattle.c_semantics.specs.Runs.{State, in_world, Run}
@@ -110,10 +111,12 @@ abbrev pub IsTypedAt : TypedUnit → (function : ℕ) → Jumps → Stmt → Typ
 IsTypedAt unit n j s =
     IsTrue (is_typed_stmt (context_at unit (slice_get unit.functions n)) (result_at (slice_get unit.functions n)) j s)
 
--- a statement refines another one that declares the same locals, at every level
+-- a statement refines another one that declares the same locals directly, and each local within it at most as often,
+-- at every level
 pub record StmtRefinesIn (unit : TypedUnit) (n : ℕ) (j : Jumps) (s t : Stmt) : Type 0 where
   pub typed : IsTypedAt unit n j s
   pub declares : declared_by s ≡ declared_by t
+  pub declarations : (number : ℕ) → declarations number s ≤ declarations number t
   pub named : (a : Referent) → IsTrue (stmt_names a s) → IsTrue (stmt_names a t)
   pub weight : stmt_weight unit.structs s ≤ stmt_weight unit.structs t
   pub does : (rooms : Rooms) (m : ℕ) (scope : Scope) →
