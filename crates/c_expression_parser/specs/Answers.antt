@@ -4,16 +4,16 @@
 use Rattle.std.specs.Prelude.{◌≡◌, ◌≢◌, ℕ, List, [], ◌∷◌, Result, Ok, Err}
 use Rattle.bk_memory.specs.Shortage.{MemoryIsShort}
 use Rattle.c_lexer.specs.Pieces.{Lexeme}
-use Rattle.c_expression_parser.specs.declared.cursor.Fault.{Fault}
-use Rattle.c_expression_parser.specs.declared.cursor.Fault.TheVariants.{Refused, NoMemory}
+use Rattle.c_expression_parser.specs.declared.cursor.ParseStop.{ParseStop}
+use Rattle.c_expression_parser.specs.declared.cursor.ParseStop.TheVariants.{Refused, NoMemory}
 use Rattle.c_grammar.specs.Parser.{ParseOutcome}
 
 -- want of memory has its cause
-abbrev pub HasCause : Fault → Type 0
+abbrev pub HasCause : ParseStop → Type 0
 HasCause Refused = Unit {0}
 HasCause NoMemory = MemoryIsShort
 
-abbrev pub Answers : {A : Type 0} → ParseOutcome A → Result A Fault → List Lexeme → Type 0
+abbrev pub Answers : {A : Type 0} → ParseOutcome A → Result A ParseStop → List Lexeme → Type 0
 Answers outcome (Ok a) new = outcome ≡ Ok (a, new)
 Answers outcome (Err e) new = (e ≢ NoMemory → outcome ≡ Err new) × HasCause e
 

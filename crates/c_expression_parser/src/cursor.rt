@@ -5,7 +5,7 @@ ghost use Rattle.c_lexer.specs.Pieces.{lexemes};
 ghost use Rattle.c_grammar.specs.Tokens as tokens;
 ghost use Rattle.c_grammar.specs.Parser as model;
 ghost use Rattle.c_expression_parser.specs.Answers.{Answers, place_or};
-ghost use Rattle.c_expression_parser.specs.declared.cursor.Fault.TheVariants.{Refused};
+ghost use Rattle.c_expression_parser.specs.declared.cursor.ParseStop.TheVariants.{Refused};
 
 use bk_memory::memory_is_short;
 use c_lexer::{Keyword, Punct, Token, TokenKind};
@@ -15,23 +15,23 @@ use std::marker::Model;
 
 /// Why a function that reads has stopped.
 #[derive(Clone, Copy, Debug, PartialEq, Eq)]
-pub enum Fault {
+pub enum ParseStop {
     /// The grammar's function refuses the token at the cursor.
     Refused,
     /// Memory is short, or too many constructs are open. Nothing is known of the cursor then.
     NoMemory,
 }
 
-impl From<AllocError> for Fault {
+impl From<AllocError> for ParseStop {
     ghost use Rattle.std.specs.Prelude.{◌≡◌};
     ghost use Rattle.bk_memory.specs.Shortage.{MemoryIsShort};
-    ghost use Rattle.c_expression_parser.specs.declared.cursor.Fault.TheVariants.{NoMemory};
+    ghost use Rattle.c_expression_parser.specs.declared.cursor.ParseStop.TheVariants.{NoMemory};
 
     ghost from_gives = { λ _ e. (e ≡ NoMemory) × MemoryIsShort };
 
-    fn from(error: AllocError) -> Fault {
+    fn from(error: AllocError) -> ParseStop {
         memory_is_short(error);
-        Fault::NoMemory
+        ParseStop::NoMemory
     }
 }
 
@@ -41,8 +41,8 @@ const MOST_OPEN: usize = 1024;
 
 /// The tokens that are still to be read, which contracts see with their spellings.
 ///
-/// A function that takes them by `&mut` goes past what it reads. Where it answers [`Fault::Refused`], the
-/// refused token is the next one; where it answers [`Fault::NoMemory`], nothing is known of them: no more
+/// A function that takes them by `&mut` goes past what it reads. Where it answers [`ParseStop::Refused`], the
+/// refused token is the next one; where it answers [`ParseStop::NoMemory`], nothing is known of them: no more
 /// is to be read from them then.
 #[derive(Drop)]
 pub struct Tokens<'a> {
@@ -224,9 +224,9 @@ impl<'a> Tokens<'a> {
     ///
     /// # Errors
     ///
-    /// [`Fault::Refused`] where another token stands here.
+    /// [`ParseStop::Refused`] where another token stands here.
     #[tactic(auto, unfolding(c_grammar::specs::Parser::expect))]
-    pub fn expect(&mut self, mark: Punct) -> Result<(), Fault>
+    pub fn expect(&mut self, mark: Punct) -> Result<(), ParseStop>
         ensures reads { Answers (model.expect mark self.old) result self.new }
         ensures fault { IfErr result (λ e. e ≡ Refused) }
     {
@@ -234,7 +234,7 @@ impl<'a> Tokens<'a> {
             self.take();
             Ok(())
         } else {
-            Err(Fault::Refused)
+            Err(ParseStop::Refused)
         }
     }
 
@@ -242,8 +242,8 @@ impl<'a> Tokens<'a> {
     ///
     /// # Errors
     ///
-    /// [`Fault::Refused`] where another token stands here.
-    pub fn close<T: Drop>(&mut self, mark: Punct, found: T) -> Result<T, Fault>
+    /// [`ParseStop::Refused`] where another token stands here.
+    pub fn close<T: Drop>(&mut self, mark: Punct, found: T) -> Result<T, ParseStop>
         ensures reads { Answers (model.and_then (model.expect mark self.old) (λ _. model.pure found)) result self.new }
         ensures fault { IfErr result (λ e. e ≡ Refused) }
     {
@@ -255,9 +255,9 @@ impl<'a> Tokens<'a> {
     ///
     /// # Errors
     ///
-    /// [`Fault::Refused`] where another token stands here.
+    /// [`ParseStop::Refused`] where another token stands here.
     #[tactic(auto, unfolding(c_grammar::specs::Parser::expect_word))]
-    pub fn expect_word(&mut self, word: Keyword) -> Result<(), Fault>
+    pub fn expect_word(&mut self, word: Keyword) -> Result<(), ParseStop>
         ensures reads { Answers (model.expect_word word self.old) result self.new }
         ensures fault { IfErr result (λ e. e ≡ Refused) }
     {
@@ -265,7 +265,7 @@ impl<'a> Tokens<'a> {
             self.take();
             Ok(())
         } else {
-            Err(Fault::Refused)
+            Err(ParseStop::Refused)
         }
     }
 

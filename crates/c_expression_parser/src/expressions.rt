@@ -10,7 +10,7 @@ ghost use Rattle.c_grammar.specs.declared.classes.Prefix.TheVariants as fronts;
 ghost use Rattle.c_expression_parser.specs.Answers.{Answers};
 ghost use Rattle.c_expression_parser.specs.model.Suffixes as suffixes;
 
-use crate::cursor::{Fault, Tokens};
+use crate::cursor::{ParseStop, Tokens};
 use crate::parts::{core_name, member, no_name, texts};
 use crate::scope::Scope;
 use crate::shapes::{
@@ -31,7 +31,7 @@ fn assignments(
     scope: &Scope,
     tokens: &mut Tokens<'_>,
     depth: usize,
-) -> Result<Seq<Expr>, Fault>
+) -> Result<Seq<Expr>, ParseStop>
     ensures { Answers (model.list_from (model.expr scope.now depth levels.assignment) (length tokens.old) []
         tokens.old) result tokens.new }
 {
@@ -43,15 +43,15 @@ fn assignments(
         }
         tokens.take();
     }
-    Err(Fault::Refused)
+    Err(ParseStop::Refused)
 }
 
 /// Reads an expression with its commas.
 ///
 /// # Errors
 ///
-/// [`Fault::Refused`] where the grammar refuses a token, at which the cursor then stands, and
-/// [`Fault::NoMemory`], after which nothing is known of the cursor.
+/// [`ParseStop::Refused`] where the grammar refuses a token, at which the cursor then stands, and
+/// [`ParseStop::NoMemory`], after which nothing is known of the cursor.
 #[cycle(expr)]
 #[tactic(auto, unfolding(c_grammar::specs::ParseExpr::whole))]
 pub fn whole(
@@ -59,7 +59,7 @@ pub fn whole(
     scope: &Scope,
     tokens: &mut Tokens<'_>,
     depth: usize,
-) -> Result<Expr, Fault>
+) -> Result<Expr, ParseStop>
     ensures { Answers (model.whole scope.now (model.expr scope.now depth) (model.declarator scope.now depth)
         tokens.old) result tokens.new }
 {
@@ -76,7 +76,7 @@ fn type_name(
     scope: &Scope,
     tokens: &mut Tokens<'_>,
     depth: usize,
-) -> Result<TypeName, Fault>
+) -> Result<TypeName, ParseStop>
     ensures { Answers (model.type_name scope.now (model.expr scope.now depth)
         (model.declarator scope.now depth) tokens.old) result tokens.new }
 {
@@ -95,7 +95,7 @@ fn parameter(
     scope: &Scope,
     tokens: &mut Tokens<'_>,
     depth: usize,
-) -> Result<Parameter, Fault>
+) -> Result<Parameter, ParseStop>
     ensures { Answers (model.parameter scope.now (model.expr scope.now depth)
         (model.declarator scope.now depth) tokens.old) result tokens.new }
 {
@@ -114,7 +114,7 @@ fn parameter_list(
     scope: &Scope,
     tokens: &mut Tokens<'_>,
     depth: usize,
-) -> Result<Seq<Parameter>, Fault>
+) -> Result<Seq<Parameter>, ParseStop>
     ensures { Answers (model.list_from (model.parameter scope.now (model.expr scope.now depth)
         (model.declarator scope.now depth)) (length tokens.old) [] tokens.old) result tokens.new }
 {
@@ -126,7 +126,7 @@ fn parameter_list(
         }
         tokens.take();
     }
-    Err(Fault::Refused)
+    Err(ParseStop::Refused)
 }
 
 /// Reads parameters behind their bracket, up to the one that closes it.
@@ -137,7 +137,7 @@ fn parameters(
     scope: &Scope,
     tokens: &mut Tokens<'_>,
     depth: usize,
-) -> Result<Seq<Parameter>, Fault>
+) -> Result<Seq<Parameter>, ParseStop>
     ensures { Answers (model.parameters scope.now (model.expr scope.now depth)
         (model.declarator scope.now depth) tokens.old) result tokens.new }
 {
@@ -157,7 +157,7 @@ fn arguments(
     scope: &Scope,
     tokens: &mut Tokens<'_>,
     depth: usize,
-) -> Result<Seq<Expr>, Fault>
+) -> Result<Seq<Expr>, ParseStop>
     ensures { Answers (model.arguments scope.now (model.expr scope.now depth)
         (model.declarator scope.now depth) tokens.old) result tokens.new }
 {
@@ -179,7 +179,7 @@ fn behind_name(
     depth: usize,
     at: u32,
     name: Name,
-) -> Result<(Expr, u8), Fault>
+) -> Result<(Expr, u8), ParseStop>
     ensures { Answers (model.behind_name scope.now (model.expr scope.now depth)
         (model.declarator scope.now depth) at name tokens.old) result tokens.new }
 {
@@ -207,7 +207,7 @@ fn cast_behind(
     tokens: &mut Tokens<'_>,
     depth: usize,
     at: u32,
-) -> Result<(Expr, u8), Fault>
+) -> Result<(Expr, u8), ParseStop>
     ensures { Answers (model.cast_behind scope.now (model.expr scope.now depth)
         (model.declarator scope.now depth) at tokens.old) result tokens.new }
 {
@@ -225,7 +225,7 @@ fn brackets_behind(
     scope: &Scope,
     tokens: &mut Tokens<'_>,
     depth: usize,
-) -> Result<(Expr, u8), Fault>
+) -> Result<(Expr, u8), ParseStop>
     ensures { Answers (model.brackets_behind scope.now (model.expr scope.now depth)
         (model.declarator scope.now depth) tokens.old) result tokens.new }
 {
@@ -242,7 +242,7 @@ fn size_of_type(
     tokens: &mut Tokens<'_>,
     depth: usize,
     at: u32,
-) -> Result<(Expr, u8), Fault>
+) -> Result<(Expr, u8), ParseStop>
     ensures { Answers (model.size_of_type scope.now (model.expr scope.now depth)
         (model.declarator scope.now depth) at tokens.old) result tokens.new }
 {
@@ -262,7 +262,7 @@ fn size_of_value(
     tokens: &mut Tokens<'_>,
     depth: usize,
     at: u32,
-) -> Result<(Expr, u8), Fault>
+) -> Result<(Expr, u8), ParseStop>
     ensures { Answers (model.size_of_value scope.now (model.expr scope.now depth)
         (model.declarator scope.now depth) at tokens.old) result tokens.new }
 {
@@ -278,7 +278,7 @@ fn size_of(
     tokens: &mut Tokens<'_>,
     depth: usize,
     at: u32,
-) -> Result<(Expr, u8), Fault>
+) -> Result<(Expr, u8), ParseStop>
     ensures { Answers (model.size_of scope.now (model.expr scope.now depth)
         (model.declarator scope.now depth) at tokens.old) result tokens.new }
 {
@@ -297,13 +297,13 @@ fn name_or_call(
     scope: &Scope,
     tokens: &mut Tokens<'_>,
     depth: usize,
-) -> Result<(Expr, u8), Fault>
+) -> Result<(Expr, u8), ParseStop>
     ensures { Answers (model.operand_by scope.now (model.expr scope.now depth)
         (model.declarator scope.now depth) 0 fronts.Name tokens.old) result tokens.new }
 {
     let at = tokens.place();
     if scope.is_type_at(tokens) {
-        return Err(Fault::Refused);
+        return Err(ParseStop::Refused);
     }
     let name = tokens.name(alloc)?;
     tokens.take();
@@ -320,7 +320,7 @@ fn bracket_operand(
     depth: usize,
     at: u32,
     least: u8,
-) -> Result<(Expr, u8), Fault>
+) -> Result<(Expr, u8), ParseStop>
     ensures { Answers (model.bracket_operand scope.now (model.expr scope.now depth)
         (model.declarator scope.now depth) least at tokens.old) result tokens.new }
 {
@@ -328,7 +328,7 @@ fn bracket_operand(
         return brackets_behind(alloc, scope, tokens, depth);
     }
     if least >= levels::UNARY {
-        return Err(Fault::Refused);
+        return Err(ParseStop::Refused);
     }
     cast_behind(alloc, scope, tokens, depth, at)
 }
@@ -343,7 +343,7 @@ fn unary(
     least: u8,
     at: u32,
     op: UnaryOp,
-) -> Result<(Expr, u8), Fault>
+) -> Result<(Expr, u8), ParseStop>
     ensures { Answers (and_then (model.expr scope.now depth least tokens.old)
         (λ x. pure (trees.Unary at op x, levels.unary))) result tokens.new }
 {
@@ -361,7 +361,7 @@ fn operand(
     tokens: &mut Tokens<'_>,
     depth: usize,
     least: u8,
-) -> Result<(Expr, u8), Fault>
+) -> Result<(Expr, u8), ParseStop>
     ensures { Answers (model.operand scope.now (model.expr scope.now depth)
         (model.declarator scope.now depth) least tokens.old) result tokens.new }
 {
@@ -398,7 +398,7 @@ fn operand(
             tokens.take();
             size_of(alloc, scope, tokens, depth, at)
         }
-        Prefix::Nothing => Err(Fault::Refused),
+        Prefix::Nothing => Err(ParseStop::Refused),
     }
 }
 
@@ -412,7 +412,7 @@ fn step(
     kind: Infix,
     at: u32,
     left: Expr,
-) -> Result<Expr, Fault>
+) -> Result<Expr, ParseStop>
     ensures { Answers (model.step_by scope.now (model.expr scope.now depth)
         (model.declarator scope.now depth) kind at left tokens.old) result tokens.new }
 {
@@ -443,7 +443,7 @@ fn step(
         Infix::Binary(op) => binary(alloc, scope, tokens, depth, at, op, left),
         Infix::Conditional => choice(alloc, scope, tokens, depth, at, left),
         Infix::Assign(op) => assignment(alloc, scope, tokens, depth, at, op, left),
-        _ => Err(Fault::Refused),
+        _ => Err(ParseStop::Refused),
     }
 }
 
@@ -456,7 +456,7 @@ fn index(
     depth: usize,
     at: u32,
     left: Box<Expr>,
-) -> Result<Expr, Fault>
+) -> Result<Expr, ParseStop>
     ensures { Answers (model.step_by scope.now (model.expr scope.now depth)
         (model.declarator scope.now depth) roles.Index at left tokens.old) result tokens.new }
 {
@@ -474,7 +474,7 @@ fn binary(
     at: u32,
     op: BinaryOp,
     left: Box<Expr>,
-) -> Result<Expr, Fault>
+) -> Result<Expr, ParseStop>
     ensures { Answers (model.step_by scope.now (model.expr scope.now depth)
         (model.declarator scope.now depth) (roles.Binary op) at left tokens.old) result tokens.new }
 {
@@ -498,7 +498,7 @@ fn assignment(
     at: u32,
     op: AssignOp,
     left: Box<Expr>,
-) -> Result<Expr, Fault>
+) -> Result<Expr, ParseStop>
     ensures { Answers (model.step_by scope.now (model.expr scope.now depth)
         (model.declarator scope.now depth) (roles.Assign op) at left tokens.old) result tokens.new }
 {
@@ -521,7 +521,7 @@ fn choice(
     depth: usize,
     at: u32,
     condition: Box<Expr>,
-) -> Result<Expr, Fault>
+) -> Result<Expr, ParseStop>
     ensures { Answers (model.step_by scope.now (model.expr scope.now depth)
         (model.declarator scope.now depth) roles.Conditional at condition tokens.old) result tokens.new }
 {
@@ -548,7 +548,7 @@ fn climb(
     at: u32,
     least: u8,
     first: (Expr, u8),
-) -> Result<Expr, Fault>
+) -> Result<Expr, ParseStop>
     ensures { Answers (model.climb scope.now (model.expr scope.now depth) (model.declarator scope.now depth)
         at least (length tokens.old) first.1 first.0 tokens.old) result tokens.new }
 {
@@ -559,7 +559,7 @@ fn climb(
             return Ok(left);
         }
         if level < operand_level(kind) {
-            return Err(Fault::Refused);
+            return Err(ParseStop::Refused);
         }
         tokens.take();
         left = step(alloc, scope, tokens, depth, kind, at, left)?;
@@ -573,8 +573,8 @@ fn climb(
 ///
 /// # Errors
 ///
-/// [`Fault::Refused`] where the grammar refuses a token, at which the cursor then stands, and
-/// [`Fault::NoMemory`], after which nothing is known of the cursor.
+/// [`ParseStop::Refused`] where the grammar refuses a token, at which the cursor then stands, and
+/// [`ParseStop::NoMemory`], after which nothing is known of the cursor.
 #[cycle(expr)]
 #[tactic(auto, using(crate::proofs::Deeper::expr_deeper), unfolding(c_grammar::specs::ParseExpr::expr))]
 pub fn expr(
@@ -583,11 +583,11 @@ pub fn expr(
     tokens: &mut Tokens<'_>,
     depth: usize,
     least: u8,
-) -> Result<Expr, Fault>
+) -> Result<Expr, ParseStop>
     ensures { Answers (model.expr scope.now depth least tokens.old) result tokens.new }
 {
     if depth == 0 {
-        return Err(Fault::Refused);
+        return Err(ParseStop::Refused);
     }
     tokens.open(depth)?;
     let at = tokens.place();
@@ -603,7 +603,7 @@ fn array_length(
     scope: &Scope,
     tokens: &mut Tokens<'_>,
     depth: usize,
-) -> Result<Option<Expr>, Fault>
+) -> Result<Option<Expr>, ParseStop>
     ensures { Answers (suffixes.array_length (model.expr scope.now depth) tokens.old) result tokens.new }
 {
     if tokens.sees(Punct::RightBracket) {
@@ -623,7 +623,7 @@ fn suffixes(
     tokens: &mut Tokens<'_>,
     depth: usize,
     mut found: Declarator,
-) -> Result<Declarator, Fault>
+) -> Result<Declarator, ParseStop>
     ensures { Answers (model.suffixes scope.now (model.expr scope.now depth)
         (model.declarator scope.now depth) (length tokens.old) found tokens.old) result tokens.new }
 {
@@ -652,7 +652,7 @@ fn group_behind(
     tokens: &mut Tokens<'_>,
     depth: usize,
     naming: Naming,
-) -> Result<Declarator, Fault>
+) -> Result<Declarator, ParseStop>
     ensures { Answers (model.group_behind scope.now (model.expr scope.now depth)
         (model.declarator scope.now depth) naming tokens.old) result tokens.new }
 {
@@ -669,7 +669,7 @@ fn core(
     tokens: &mut Tokens<'_>,
     depth: usize,
     naming: Naming,
-) -> Result<Declarator, Fault>
+) -> Result<Declarator, ParseStop>
     ensures { Answers (model.core scope.now (model.expr scope.now depth) (model.declarator scope.now depth)
         naming tokens.old) result tokens.new }
 {
@@ -699,7 +699,7 @@ fn pointer_declarator(
     tokens: &mut Tokens<'_>,
     depth: usize,
     naming: Naming,
-) -> Result<Declarator, Fault>
+) -> Result<Declarator, ParseStop>
     ensures { Answers (model.pointer_declarator scope.now (model.expr scope.now depth)
         (model.declarator scope.now depth) naming tokens.old) result tokens.new }
 {
@@ -712,8 +712,8 @@ fn pointer_declarator(
 ///
 /// # Errors
 ///
-/// [`Fault::Refused`] where the grammar refuses a token, at which the cursor then stands, and
-/// [`Fault::NoMemory`], after which nothing is known of the cursor.
+/// [`ParseStop::Refused`] where the grammar refuses a token, at which the cursor then stands, and
+/// [`ParseStop::NoMemory`], after which nothing is known of the cursor.
 #[cycle(expr)]
 #[tactic(auto, using(crate::proofs::Deeper::declarator_deeper), unfolding(c_grammar::specs::ParseExpr::declarator))]
 pub fn declarator(
@@ -722,11 +722,11 @@ pub fn declarator(
     tokens: &mut Tokens<'_>,
     depth: usize,
     naming: Naming,
-) -> Result<Declarator, Fault>
+) -> Result<Declarator, ParseStop>
     ensures { Answers (model.declarator scope.now depth naming tokens.old) result tokens.new }
 {
     if depth == 0 {
-        return Err(Fault::Refused);
+        return Err(ParseStop::Refused);
     }
     tokens.open(depth)?;
     if tokens.sees(Punct::Star) {

@@ -14,7 +14,7 @@ mod shapes;
 mod specifier_type;
 mod specifiers;
 
-pub use cursor::{Fault, Tokens};
+pub use cursor::{ParseStop, Tokens};
 pub use expressions::{declarator, expr, whole};
 pub use scope::Scope;
 pub use shapes::with_shapes;

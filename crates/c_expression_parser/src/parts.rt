@@ -4,7 +4,7 @@ ghost use Rattle.std.specs.Prelude.{◌≡◌, [], length};
 ghost use Rattle.c_grammar.specs.ParseExpr as model;
 ghost use Rattle.c_expression_parser.specs.Answers.{Answers};
 
-use crate::cursor::{Fault, Tokens};
+use crate::cursor::{ParseStop, Tokens};
 use crate::scope::Scope;
 use crate::shapes::{may_be_nameless, takes_name};
 use c_grammar::{Declarator, DeclaredName, Naming};
@@ -13,7 +13,7 @@ use std::alloc::Global;
 
 /// Reads the text literals that stand here side by side.
 #[tactic(auto, using(crate::proofs::Loops::texts_turn, crate::proofs::Loops::texts_end))]
-pub fn texts(alloc: Global, tokens: &mut Tokens<'_>) -> Result<Seq<Name>, Fault>
+pub fn texts(alloc: Global, tokens: &mut Tokens<'_>) -> Result<Seq<Name>, ParseStop>
     ensures { Answers (model.texts_from (length tokens.old) [] tokens.old) result tokens.new }
 {
     let mut found = Seq::new(alloc);
@@ -29,11 +29,11 @@ pub fn texts(alloc: Global, tokens: &mut Tokens<'_>) -> Result<Seq<Name>, Fault>
 
 /// Reads the name of a member.
 #[tactic(auto, unfolding(c_grammar::specs::ParseExpr::member))]
-pub fn member(alloc: Global, tokens: &mut Tokens<'_>) -> Result<Name, Fault>
+pub fn member(alloc: Global, tokens: &mut Tokens<'_>) -> Result<Name, ParseStop>
     ensures { Answers (model.member tokens.old) result tokens.new }
 {
     if !tokens.sees_name() {
-        return Err(Fault::Refused);
+        return Err(ParseStop::Refused);
     }
     let name = tokens.name(alloc)?;
     tokens.take();
@@ -41,11 +41,11 @@ pub fn member(alloc: Global, tokens: &mut Tokens<'_>) -> Result<Name, Fault>
 }
 
 /// Reads no name, where a declarator may do without one.
-pub fn no_name(alloc: Global, tokens: &Tokens<'_>, naming: Naming) -> Result<Declarator, Fault>
+pub fn no_name(alloc: Global, tokens: &Tokens<'_>, naming: Naming) -> Result<Declarator, ParseStop>
     ensures { Answers (model.no_name naming tokens.now) result tokens.now }
 {
     if !may_be_nameless(naming) {
-        return Err(Fault::Refused);
+        return Err(ParseStop::Refused);
     }
     Ok(Declarator {
         name: None,
@@ -59,7 +59,7 @@ pub fn core_name(
     scope: &Scope,
     tokens: &mut Tokens<'_>,
     naming: Naming,
-) -> Result<Declarator, Fault>
+) -> Result<Declarator, ParseStop>
     ensures { Answers (model.core_name scope.now naming tokens.old) result tokens.new }
 {
     if !takes_name(naming, scope.is_type_at(tokens)) {

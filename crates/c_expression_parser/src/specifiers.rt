@@ -6,7 +6,7 @@ ghost use Rattle.c_grammar.specs.ParseExpr as model;
 ghost use Rattle.c_grammar.specs.Types as types;
 ghost use Rattle.c_expression_parser.specs.Answers.{Answers};
 
-use crate::cursor::{Fault, Tokens};
+use crate::cursor::{ParseStop, Tokens};
 use crate::scope::Scope;
 use crate::specifier_type::SpecifierType;
 use c_grammar::{Specifier, SpecifierStart, WordSet, specifier_of};
@@ -54,19 +54,19 @@ pub fn read_words(tokens: &mut Tokens<'_>) -> SpecifierStart
 ///
 /// # Errors
 ///
-/// [`Fault::Refused`] where the grammar refuses a token, at which the cursor then stands, and
-/// [`Fault::NoMemory`], after which nothing is known of the cursor.
+/// [`ParseStop::Refused`] where the grammar refuses a token, at which the cursor then stands, and
+/// [`ParseStop::NoMemory`], after which nothing is known of the cursor.
 #[tactic(auto, unfolding(c_grammar::specs::ParseExpr::named_type))]
 pub fn named_type(
     alloc: Global,
     scope: &Scope,
     tokens: &mut Tokens<'_>,
-) -> Result<SpecifierType, Fault>
+) -> Result<SpecifierType, ParseStop>
     ensures answers { Answers (model.named_type scope.now tokens.old) result tokens.new }
     ensures bare { IfOk result (λ base. types.bare base ≡ base) }
 {
     if !scope.is_type_at(tokens) {
-        return Err(Fault::Refused);
+        return Err(ParseStop::Refused);
     }
     let name = tokens.name(alloc)?;
     tokens.take();
@@ -76,12 +76,12 @@ pub fn named_type(
 
 /// Reads the tag behind its word.
 #[tactic(auto, unfolding(c_grammar::specs::ParseExpr::tag))]
-fn tag(alloc: Global, tokens: &mut Tokens<'_>, word: Specifier) -> Result<SpecifierType, Fault>
+fn tag(alloc: Global, tokens: &mut Tokens<'_>, word: Specifier) -> Result<SpecifierType, ParseStop>
     ensures answers { Answers (model.tag word tokens.old) result tokens.new }
     ensures bare { IfOk result (λ base. types.bare base ≡ base) }
 {
     if !tokens.sees_name() {
-        return Err(Fault::Refused);
+        return Err(ParseStop::Refused);
     }
     let at = tokens.place();
     let name = tokens.name(alloc)?;
@@ -94,10 +94,14 @@ fn tag(alloc: Global, tokens: &mut Tokens<'_>, word: Specifier) -> Result<Specif
 ///
 /// # Errors
 ///
-/// [`Fault::Refused`] where the grammar refuses a token, at which the cursor then stands, and
-/// [`Fault::NoMemory`], after which nothing is known of the cursor.
+/// [`ParseStop::Refused`] where the grammar refuses a token, at which the cursor then stands, and
+/// [`ParseStop::NoMemory`], after which nothing is known of the cursor.
 #[tactic(auto, using(crate::proofs::Deeper::plain_words))]
-pub fn plain(alloc: Global, scope: &Scope, tokens: &mut Tokens<'_>) -> Result<SpecifierType, Fault>
+pub fn plain(
+    alloc: Global,
+    scope: &Scope,
+    tokens: &mut Tokens<'_>,
+) -> Result<SpecifierType, ParseStop>
     ensures answers { Answers (model.plain scope.now tokens.old) result tokens.new }
     ensures bare { IfOk result (λ base. types.bare base ≡ base) }
 {
@@ -112,6 +116,6 @@ pub fn plain(alloc: Global, scope: &Scope, tokens: &mut Tokens<'_>) -> Result<Sp
             tag(alloc, tokens, Specifier::Enum)
         }
         SpecifierStart::Other(Specifier::Name) => named_type(alloc, scope, tokens),
-        SpecifierStart::Other(_) => Err(Fault::Refused),
+        SpecifierStart::Other(_) => Err(ParseStop::Refused),
     }
 }

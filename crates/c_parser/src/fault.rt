@@ -6,7 +6,7 @@ ghost use Rattle.c_parser.specs.declared.fault.ParseFault.TheVariants.{NoMemory}
 ghost use Rattle.c_parser.specs.model.Faults as faults;
 
 use bk_memory::memory_is_short;
-use c_expression_parser::Fault;
+use c_expression_parser::ParseStop;
 use c_nesting::ScanFault;
 use std::alloc::AllocError;
 use thiserror::Error;
@@ -50,12 +50,12 @@ impl ParseFault {
     }
 
     /// Why tokens are not read, where a reading has stopped at this offset.
-    pub(crate) fn of_stop(fault: Fault, at: u32) -> ParseFault
+    pub(crate) fn of_stop(fault: ParseStop, at: u32) -> ParseFault
         ensures { result ≡ faults.of_stop fault at }
     {
         match fault {
-            Fault::Refused => ParseFault::Syntax { at },
-            Fault::NoMemory => ParseFault::NoMemory,
+            ParseStop::Refused => ParseFault::Syntax { at },
+            ParseStop::NoMemory => ParseFault::NoMemory,
         }
     }
 }

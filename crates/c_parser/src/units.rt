@@ -9,7 +9,7 @@ ghost use Rattle.c_parser.specs.model.Answers.{AnswersIn, AnswersUnit};
 ghost use Rattle.c_parser.specs.model.Parts as parts;
 ghost use Rattle.c_grammar.specs.Units.{external_of, is_function};
 
-use c_expression_parser::{Fault, Scope, SpecifierType, Tokens, declarator, expr, with_shapes};
+use c_expression_parser::{ParseStop, Scope, SpecifierType, Tokens, declarator, expr, with_shapes};
 use c_grammar::{Declarator, DeclaredName, Naming, Opening, Shape, levels, opening_of};
 use c_lexer::Punct;
 use c_statement_parser::{append, declaration, items, specifier};
@@ -24,7 +24,7 @@ fn inits(
     scope: &Scope,
     tokens: &mut Tokens<'_>,
     depth: usize,
-) -> Result<Seq<Init>, Fault>
+) -> Result<Seq<Init>, ParseStop>
     ensures { Answers (braced_list_from (model.init scope.now depth) (length tokens.old) [] tokens.old)
         result tokens.new }
 {
@@ -39,17 +39,22 @@ fn inits(
             return Ok(found);
         }
     }
-    Err(Fault::Refused)
+    Err(ParseStop::Refused)
 }
 
 /// Reads an initialiser. The depth bounds how deep it goes: as much as there are tokens is enough.
 #[cycle(init)]
 #[tactic(auto, using(crate::proofs::Deeper::init_deeper), unfolding(crate::proofs::Opens::initialiser))]
-fn init(alloc: Global, scope: &Scope, tokens: &mut Tokens<'_>, depth: usize) -> Result<Init, Fault>
+fn init(
+    alloc: Global,
+    scope: &Scope,
+    tokens: &mut Tokens<'_>,
+    depth: usize,
+) -> Result<Init, ParseStop>
     ensures { Answers (model.init scope.now depth tokens.old) result tokens.new }
 {
     if depth == 0 {
-        return Err(Fault::Refused);
+        return Err(ParseStop::Refused);
     }
     tokens.open(depth)?;
     if !tokens.sees(Punct::LeftBrace) {
@@ -70,7 +75,7 @@ fn typedef_declarator(
     tokens: &mut Tokens<'_>,
     depth: usize,
     base: SpecifierType,
-) -> Result<External, Fault>
+) -> Result<External, ParseStop>
     ensures { AnswersIn (parts.typedef_declarator scope.old depth base tokens.old) result scope.new tokens.new }
 {
     let declaration = declaration(alloc, scope, tokens, depth, Naming::Required, base)?;
@@ -87,7 +92,7 @@ fn typedef_declarators(
     tokens: &mut Tokens<'_>,
     depth: usize,
     base: SpecifierType,
-) -> Result<Seq<External>, Fault>
+) -> Result<Seq<External>, ParseStop>
     ensures { AnswersIn (model.typedefs_from scope.old depth (length tokens.old) base [] tokens.old) result
         scope.new tokens.new }
 {
@@ -103,7 +108,7 @@ fn typedef_declarators(
         }
         tokens.take();
     }
-    Err(Fault::Refused)
+    Err(ParseStop::Refused)
 }
 
 /// Reads a `typedef` behind its word.
@@ -113,7 +118,7 @@ fn typedefs(
     scope: &mut Scope,
     tokens: &mut Tokens<'_>,
     depth: usize,
-) -> Result<Seq<External>, Fault>
+) -> Result<Seq<External>, ParseStop>
     ensures { AnswersIn (model.typedefs scope.old depth tokens.old) result scope.new tokens.new }
 {
     let base = specifier(alloc, scope, tokens, depth)?;
@@ -205,7 +210,7 @@ fn object(
     depth: usize,
     storage: Option<Storage>,
     typed: TypedDeclarator,
-) -> Result<External, Fault>
+) -> Result<External, ParseStop>
     ensures { Answers (model.object_by scope.now depth storage typed.ty typed.named typed.shapes tokens.old)
         result tokens.new }
 {
@@ -226,12 +231,12 @@ fn object_declarator(
     depth: usize,
     storage: Option<Storage>,
     ty: Box<SpecifierType>,
-) -> Result<External, Fault>
+) -> Result<External, ParseStop>
     ensures { Answers (parts.object_declarator scope.now depth storage ty tokens.old) result tokens.new }
 {
     let Declarator { name, shapes } = declarator(alloc, scope, tokens, depth, Naming::Required)?;
     let Some(named) = name else {
-        return Err(Fault::Refused);
+        return Err(ParseStop::Refused);
     };
     object(
         alloc,
@@ -253,7 +258,7 @@ fn objects(
     storage: Option<Storage>,
     base: Box<SpecifierType>,
     found: Seq<External>,
-) -> Result<Seq<External>, Fault>
+) -> Result<Seq<External>, ParseStop>
     ensures { Answers (model.objects_from scope.now depth storage (length tokens.old) base found tokens.old)
         result tokens.new }
 {
@@ -268,7 +273,7 @@ fn objects(
         }
         tokens.take();
     }
-    Err(Fault::Refused)
+    Err(ParseStop::Refused)
 }
 
 /// Reads what stands behind the first declarator, of which the further ones have the bare type.
@@ -281,7 +286,7 @@ fn objects_behind(
     storage: Option<Storage>,
     typed: TypedDeclarator,
     bare: Box<SpecifierType>,
-) -> Result<Seq<External>, Fault>
+) -> Result<Seq<External>, ParseStop>
     requires { types.bare typed.ty ≡ bare }
     ensures { Answers (model.objects_behind scope.now depth storage typed.ty typed.named typed.shapes
         tokens.old) result tokens.new }
@@ -304,7 +309,7 @@ fn body_behind(
     depth: usize,
     storage: Option<Storage>,
     declaration: Box<Declaration>,
-) -> Result<Seq<External>, Fault>
+) -> Result<Seq<External>, ParseStop>
     ensures { Answers (model.body_behind scope.now depth storage declaration tokens.old) result tokens.new }
 {
     let body = items(alloc, scope, tokens, depth, depth)?;
@@ -327,7 +332,7 @@ fn objects_or_body(
     storage: Option<Storage>,
     typed: TypedDeclarator,
     bare: Box<SpecifierType>,
-) -> Result<Seq<External>, Fault>
+) -> Result<Seq<External>, ParseStop>
     requires { types.bare typed.ty ≡ bare }
     ensures { Answers (model.objects_named scope.now depth storage typed.ty typed.named typed.shapes
         tokens.old) result tokens.new }
@@ -351,7 +356,7 @@ fn behind_type(
     depth: usize,
     storage: Option<Storage>,
     base: SpecifierType,
-) -> Result<Seq<External>, Fault>
+) -> Result<Seq<External>, ParseStop>
     ensures { Answers (model.behind_type scope.now depth storage base tokens.old) result tokens.new }
 {
     if tokens.sees(Punct::Semicolon) {
@@ -364,7 +369,7 @@ fn behind_type(
     let ty = Box::new(alloc, base)?;
     let Declarator { name, shapes } = declarator(alloc, scope, tokens, depth, Naming::Required)?;
     let Some(named) = name else {
-        return Err(Fault::Refused);
+        return Err(ParseStop::Refused);
     };
     let bare = Box::new(alloc, ty.bare()?)?;
     let typed = TypedDeclarator { ty, named, shapes };
@@ -379,7 +384,7 @@ fn behind_storage(
     tokens: &mut Tokens<'_>,
     depth: usize,
     storage: Option<Storage>,
-) -> Result<Seq<External>, Fault>
+) -> Result<Seq<External>, ParseStop>
     ensures { AnswersIn (model.behind_storage scope.now depth storage tokens.old) result scope.now tokens.new }
 {
     let base = specifier(alloc, scope, tokens, depth)?;
@@ -393,7 +398,7 @@ fn external(
     scope: &mut Scope,
     tokens: &mut Tokens<'_>,
     depth: usize,
-) -> Result<Seq<External>, Fault>
+) -> Result<Seq<External>, ParseStop>
     ensures { AnswersIn (model.external scope.old depth tokens.old) result scope.new tokens.new }
 {
     match opening_of(tokens.peek()) {
@@ -419,7 +424,7 @@ pub fn externals(
     alloc: Global,
     scope: &mut Scope,
     tokens: &mut Tokens<'_>,
-) -> Result<Seq<External>, Fault>
+) -> Result<Seq<External>, ParseStop>
     ensures { AnswersUnit (model.externals_from (length tokens.old) scope.old [] tokens.old) result tokens.new }
 {
     let mut found = Seq::new(alloc);

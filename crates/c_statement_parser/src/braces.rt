@@ -5,7 +5,7 @@ ghost use Rattle.c_grammar.specs.ParseSpecifiers as model;
 ghost use Rattle.c_expression_parser.specs.Answers.{Answers};
 
 use c_expression_parser::{
-    Fault, Scope, SpecifierType, Tokens, declarator, expr, named_type, read_words, with_shapes,
+    ParseStop, Scope, SpecifierType, Tokens, declarator, expr, named_type, read_words, with_shapes,
 };
 use c_grammar::{Declarator, Naming, Specifier, SpecifierStart, levels};
 use c_lexer::Punct;
@@ -26,8 +26,8 @@ pub fn append<T: Drop>(found: Seq<T>, more: Seq<T>) -> Result<Seq<T>, AllocError
 ///
 /// # Errors
 ///
-/// [`Fault::Refused`] where the grammar refuses a token, at which the cursor then stands, and
-/// [`Fault::NoMemory`], after which nothing is known of the cursor.
+/// [`ParseStop::Refused`] where the grammar refuses a token, at which the cursor then stands, and
+/// [`ParseStop::NoMemory`], after which nothing is known of the cursor.
 #[tactic(auto, unfolding(c_grammar::specs::ParseSpecifiers::declaration))]
 pub fn declaration(
     alloc: Global,
@@ -36,13 +36,13 @@ pub fn declaration(
     depth: usize,
     naming: Naming,
     base: SpecifierType,
-) -> Result<Declaration, Fault>
+) -> Result<Declaration, ParseStop>
     ensures { Answers (model.declaration scope.now depth naming base tokens.old) result tokens.new }
 {
     let base = Box::new(alloc, base)?;
     let Declarator { name, shapes } = declarator(alloc, scope, tokens, depth, naming)?;
     let Some(named) = name else {
-        return Err(Fault::Refused);
+        return Err(ParseStop::Refused);
     };
     let ty = with_shapes(alloc, shapes, Box::into_inner(base).into_type())?;
     Ok(Declaration {
@@ -59,14 +59,14 @@ fn constant(
     scope: &Scope,
     tokens: &mut Tokens<'_>,
     depth: usize,
-) -> Result<Constant, Fault>
+) -> Result<Constant, ParseStop>
     ensures { Answers (model.constant scope.now depth tokens.old) result tokens.new }
 {
     if !tokens.sees_name() {
-        return Err(Fault::Refused);
+        return Err(ParseStop::Refused);
     }
     if scope.is_type_at(tokens) {
-        return Err(Fault::Refused);
+        return Err(ParseStop::Refused);
     }
     let at = tokens.place();
     let name = tokens.name(alloc)?;
@@ -94,7 +94,7 @@ fn constants(
     scope: &Scope,
     tokens: &mut Tokens<'_>,
     depth: usize,
-) -> Result<Seq<Constant>, Fault>
+) -> Result<Seq<Constant>, ParseStop>
     ensures { Answers (model.braced_list_from (model.constant scope.now depth) (length tokens.old) []
         tokens.old) result tokens.new }
 {
@@ -109,7 +109,7 @@ fn constants(
             return Ok(found);
         }
     }
-    Err(Fault::Refused)
+    Err(ParseStop::Refused)
 }
 
 /// Reads the declarators of members behind their type.
@@ -120,7 +120,7 @@ fn member_declarators(
     tokens: &mut Tokens<'_>,
     depth: usize,
     base: SpecifierType,
-) -> Result<Seq<Declaration>, Fault>
+) -> Result<Seq<Declaration>, ParseStop>
     ensures { Answers (model.declarators_from scope.now depth (length tokens.old) base [] tokens.old) result
         tokens.new }
 {
@@ -136,7 +136,7 @@ fn member_declarators(
         }
         tokens.take();
     }
-    Err(Fault::Refused)
+    Err(ParseStop::Refused)
 }
 
 /// Reads one declaration of members.
@@ -147,7 +147,7 @@ fn member(
     scope: &Scope,
     tokens: &mut Tokens<'_>,
     depth: usize,
-) -> Result<Seq<Declaration>, Fault>
+) -> Result<Seq<Declaration>, ParseStop>
     ensures { Answers (model.member scope.now depth (model.specifier scope.now depth) tokens.old) result
         tokens.new }
 {
@@ -164,7 +164,7 @@ fn members(
     scope: &Scope,
     tokens: &mut Tokens<'_>,
     depth: usize,
-) -> Result<Seq<Declaration>, Fault>
+) -> Result<Seq<Declaration>, ParseStop>
     ensures { Answers (model.members_from scope.now depth (model.specifier scope.now depth)
         (length tokens.old) [] tokens.old) result tokens.new }
 {
@@ -175,7 +175,7 @@ fn members(
             return Ok(found);
         }
     }
-    Err(Fault::Refused)
+    Err(ParseStop::Refused)
 }
 
 /// Reads the braces of a `struct` or an `enum`.
@@ -189,7 +189,7 @@ fn braces(
     word: Specifier,
     at: u32,
     tag: Option<Name>,
-) -> Result<SpecifierType, Fault>
+) -> Result<SpecifierType, ParseStop>
     ensures { Answers (model.braces scope.now depth (model.specifier scope.now depth) word at tag tokens.old)
         result tokens.new }
 {
@@ -220,7 +220,7 @@ fn tag_or_body(
     depth: usize,
     word: Specifier,
     at: u32,
-) -> Result<SpecifierType, Fault>
+) -> Result<SpecifierType, ParseStop>
     ensures { Answers (model.tag_or_body scope.now depth (model.specifier scope.now depth) word at
         tokens.old) result tokens.new }
 {
@@ -241,8 +241,8 @@ fn tag_or_body(
 ///
 /// # Errors
 ///
-/// [`Fault::Refused`] where the grammar refuses a token, at which the cursor then stands, and
-/// [`Fault::NoMemory`], after which nothing is known of the cursor.
+/// [`ParseStop::Refused`] where the grammar refuses a token, at which the cursor then stands, and
+/// [`ParseStop::NoMemory`], after which nothing is known of the cursor.
 #[cycle(specifier)]
 #[tactic(auto, using(crate::proofs::Deeper::specifier_deeper), unfolding(c_grammar::specs::ParseSpecifiers::specifier))]
 pub fn specifier(
@@ -250,11 +250,11 @@ pub fn specifier(
     scope: &Scope,
     tokens: &mut Tokens<'_>,
     depth: usize,
-) -> Result<SpecifierType, Fault>
+) -> Result<SpecifierType, ParseStop>
     ensures { Answers (model.specifier scope.now depth tokens.old) result tokens.new }
 {
     if depth == 0 {
-        return Err(Fault::Refused);
+        return Err(ParseStop::Refused);
     }
     tokens.open(depth)?;
     match read_words(tokens) {
@@ -270,6 +270,6 @@ pub fn specifier(
             tag_or_body(alloc, scope, tokens, depth - 1, Specifier::Enum, at)
         }
         SpecifierStart::Other(Specifier::Name) => named_type(alloc, scope, tokens),
-        SpecifierStart::Other(_) => Err(Fault::Refused),
+        SpecifierStart::Other(_) => Err(ParseStop::Refused),
     }
 }

@@ -11,7 +11,7 @@ ghost use Rattle.c_grammar.specs.ParseStatements as model;
 ghost use Rattle.c_expression_parser.specs.Answers.{Answers};
 
 use crate::braces::declaration;
-use c_expression_parser::{Fault, Scope, SpecifierType, Tokens, expr, plain, whole};
+use c_expression_parser::{ParseStop, Scope, SpecifierType, Tokens, expr, plain, whole};
 use c_grammar::{Head, Naming, head_of, levels};
 use c_lexer::{Keyword, Punct};
 use c_tree::{Box, Expr, ForFirst, Label, Local, Section, Seq, Stmt};
@@ -25,7 +25,7 @@ fn local(
     tokens: &mut Tokens<'_>,
     depth: usize,
     base: SpecifierType,
-) -> Result<Local, Fault>
+) -> Result<Local, ParseStop>
     ensures { Answers (model.local scope.now depth base tokens.old) result tokens.new }
 {
     let declaration = declaration(alloc, scope, tokens, depth, Naming::Required, base)?;
@@ -55,7 +55,7 @@ fn locals(
     tokens: &mut Tokens<'_>,
     depth: usize,
     base: &SpecifierType,
-) -> Result<Seq<Local>, Fault>
+) -> Result<Seq<Local>, ParseStop>
     requires { bare base.now ≡ base.now }
     ensures { Answers (list_from (model.local scope.now depth base.now) (length tokens.old) [] tokens.old) result
         tokens.new }
@@ -68,7 +68,7 @@ fn locals(
         }
         tokens.take();
     }
-    Err(Fault::Refused)
+    Err(ParseStop::Refused)
 }
 
 /// Reads a declaration in a block.
@@ -78,7 +78,7 @@ fn line(
     scope: &Scope,
     tokens: &mut Tokens<'_>,
     depth: usize,
-) -> Result<Seq<Local>, Fault>
+) -> Result<Seq<Local>, ParseStop>
     ensures { Answers (model.line scope.now depth tokens.old) result tokens.new }
 {
     let base = Box::new(alloc, plain(alloc, scope, tokens)?)?;
@@ -94,7 +94,7 @@ fn optional(
     tokens: &mut Tokens<'_>,
     depth: usize,
     mark: Punct,
-) -> Result<Option<Box<Expr>>, Fault>
+) -> Result<Option<Box<Expr>>, ParseStop>
     ensures { Answers (model.optional scope.now depth mark tokens.old) result tokens.new }
 {
     if tokens.sees(mark) {
@@ -110,7 +110,7 @@ fn condition(
     scope: &Scope,
     tokens: &mut Tokens<'_>,
     depth: usize,
-) -> Result<Box<Expr>, Fault>
+) -> Result<Box<Expr>, ParseStop>
     ensures { Answers (model.condition scope.now depth tokens.old) result tokens.new }
 {
     tokens.expect(Punct::LeftParen)?;
@@ -125,7 +125,7 @@ fn first_value(
     scope: &Scope,
     tokens: &mut Tokens<'_>,
     depth: usize,
-) -> Result<Box<ForFirst>, Fault>
+) -> Result<Box<ForFirst>, ParseStop>
     ensures { Answers (model.first_value scope.now depth tokens.old) result tokens.new }
 {
     let found = ForFirst::Value(whole(alloc, scope, tokens, depth)?);
@@ -140,7 +140,7 @@ fn for_first(
     scope: &Scope,
     tokens: &mut Tokens<'_>,
     depth: usize,
-) -> Result<Box<ForFirst>, Fault>
+) -> Result<Box<ForFirst>, ParseStop>
     ensures { Answers (model.first scope.now depth tokens.old) result tokens.new }
 {
     if tokens.sees(Punct::Semicolon) {
@@ -162,7 +162,7 @@ fn case_label(
     tokens: &mut Tokens<'_>,
     depth: usize,
     at: u32,
-) -> Result<Label, Fault>
+) -> Result<Label, ParseStop>
     ensures { Answers (model.case_label scope.now depth at tokens.old) result tokens.new }
 {
     let value = expr(alloc, scope, tokens, depth, levels::CONDITIONAL)?;
@@ -176,7 +176,7 @@ fn label(
     scope: &Scope,
     tokens: &mut Tokens<'_>,
     depth: usize,
-) -> Result<Label, Fault>
+) -> Result<Label, ParseStop>
     ensures { Answers (model.label scope.now depth tokens.old) result tokens.new }
 {
     let at = tokens.place();
@@ -189,7 +189,11 @@ fn label(
 }
 
 /// Reads the semicolon that ends this statement, and gives that in a box.
-fn end_statement(alloc: Global, tokens: &mut Tokens<'_>, found: Stmt) -> Result<Box<Stmt>, Fault>
+fn end_statement(
+    alloc: Global,
+    tokens: &mut Tokens<'_>,
+    found: Stmt,
+) -> Result<Box<Stmt>, ParseStop>
     ensures { Answers (and_then (expect Semicolon tokens.old) (λ _. pure found)) result tokens.new }
 {
     let found = Box::new(alloc, found)?;
@@ -204,7 +208,7 @@ fn return_behind(
     tokens: &mut Tokens<'_>,
     depth: usize,
     at: u32,
-) -> Result<Box<Stmt>, Fault>
+) -> Result<Box<Stmt>, ParseStop>
     ensures { Answers (model.return scope.now depth at tokens.old) result tokens.new }
 {
     let value = optional(alloc, scope, tokens, depth, Punct::Semicolon)?;
@@ -218,7 +222,7 @@ fn expression_statement(
     scope: &Scope,
     tokens: &mut Tokens<'_>,
     depth: usize,
-) -> Result<Box<Stmt>, Fault>
+) -> Result<Box<Stmt>, ParseStop>
     ensures { Answers (model.value scope.now depth tokens.old) result tokens.new }
 {
     let found = Box::new(alloc, whole(alloc, scope, tokens, depth)?)?;
@@ -248,8 +252,8 @@ fn push_locals(alloc: Global, found: &mut Seq<Stmt>, locals: Seq<Local>) -> Resu
 ///
 /// # Errors
 ///
-/// [`Fault::Refused`] where the grammar refuses a token, at which the cursor then stands, and
-/// [`Fault::NoMemory`], after which nothing is known of the cursor.
+/// [`ParseStop::Refused`] where the grammar refuses a token, at which the cursor then stands, and
+/// [`ParseStop::NoMemory`], after which nothing is known of the cursor.
 #[cycle(stmt)]
 #[tactic(auto, using(crate::proofs::Loops::items_turn, crate::proofs::Loops::items_end))]
 pub fn items(
@@ -258,7 +262,7 @@ pub fn items(
     tokens: &mut Tokens<'_>,
     depth: usize,
     inner: usize,
-) -> Result<Seq<Stmt>, Fault>
+) -> Result<Seq<Stmt>, ParseStop>
     ensures { Answers (model.items_from scope.now depth (model.stmt scope.now inner) (length tokens.old) []
         tokens.old) result tokens.new }
 {
@@ -274,7 +278,7 @@ pub fn items(
             found.push(Box::into_inner(stmt(alloc, scope, tokens, inner)?))?;
         }
     }
-    Err(Fault::Refused)
+    Err(ParseStop::Refused)
 }
 
 /// Reads a block behind its brace.
@@ -285,7 +289,7 @@ fn block(
     tokens: &mut Tokens<'_>,
     depth: usize,
     inner: usize,
-) -> Result<Box<Stmt>, Fault>
+) -> Result<Box<Stmt>, ParseStop>
     ensures { Answers (and_then (model.items_from scope.now depth (model.stmt scope.now inner) (length tokens.old)
         [] tokens.old) (λ xs. pure (trees.Block xs))) result tokens.new }
 {
@@ -302,7 +306,7 @@ fn stmts(
     tokens: &mut Tokens<'_>,
     depth: usize,
     inner: usize,
-) -> Result<Seq<Stmt>, Fault>
+) -> Result<Seq<Stmt>, ParseStop>
     ensures { Answers (model.stmts_from scope.now depth (model.stmt scope.now inner) (length tokens.old) []
         tokens.old) result tokens.new }
 {
@@ -313,7 +317,7 @@ fn stmts(
         }
         found.push(Box::into_inner(stmt(alloc, scope, tokens, inner)?))?;
     }
-    Err(Fault::Refused)
+    Err(ParseStop::Refused)
 }
 
 /// Reads a label and the statements under it.
@@ -325,7 +329,7 @@ fn section(
     tokens: &mut Tokens<'_>,
     depth: usize,
     inner: usize,
-) -> Result<Section, Fault>
+) -> Result<Section, ParseStop>
     ensures { Answers (model.section scope.now depth (model.stmt scope.now inner) tokens.old) result tokens.new }
 {
     let label = Box::new(alloc, label(alloc, scope, tokens, depth)?)?;
@@ -345,7 +349,7 @@ fn sections(
     tokens: &mut Tokens<'_>,
     depth: usize,
     inner: usize,
-) -> Result<Seq<Section>, Fault>
+) -> Result<Seq<Section>, ParseStop>
     ensures { Answers (model.sections_from scope.now depth (model.stmt scope.now inner) (length tokens.old)
         [] tokens.old) result tokens.new }
 {
@@ -357,7 +361,7 @@ fn sections(
         }
         found.push(section(alloc, scope, tokens, depth, inner)?)?;
     }
-    Err(Fault::Refused)
+    Err(ParseStop::Refused)
 }
 
 /// Reads the second branch of an `if`, which goes to the nearest one.
@@ -371,7 +375,7 @@ fn alternative(
     inner: usize,
     condition: Box<Expr>,
     then: Box<Stmt>,
-) -> Result<Box<Stmt>, Fault>
+) -> Result<Box<Stmt>, ParseStop>
     ensures { Answers (model.alternative scope.now depth (model.stmt scope.now inner) condition then
         tokens.old) result tokens.new }
 {
@@ -402,7 +406,7 @@ fn if_else(
     tokens: &mut Tokens<'_>,
     depth: usize,
     inner: usize,
-) -> Result<Box<Stmt>, Fault>
+) -> Result<Box<Stmt>, ParseStop>
     ensures { Answers (model.if_else scope.now depth (model.stmt scope.now inner) tokens.old) result tokens.new }
 {
     let condition = condition(alloc, scope, tokens, depth)?;
@@ -419,7 +423,7 @@ fn while_loop(
     tokens: &mut Tokens<'_>,
     depth: usize,
     inner: usize,
-) -> Result<Box<Stmt>, Fault>
+) -> Result<Box<Stmt>, ParseStop>
     ensures { Answers (model.while scope.now depth (model.stmt scope.now inner) tokens.old) result tokens.new }
 {
     let condition = condition(alloc, scope, tokens, depth)?;
@@ -436,7 +440,7 @@ fn do_loop(
     tokens: &mut Tokens<'_>,
     depth: usize,
     inner: usize,
-) -> Result<Box<Stmt>, Fault>
+) -> Result<Box<Stmt>, ParseStop>
     ensures { Answers (model.do_while scope.now depth (model.stmt scope.now inner) tokens.old) result tokens.new }
 {
     let body = stmt(alloc, scope, tokens, inner)?;
@@ -454,7 +458,7 @@ fn for_loop(
     tokens: &mut Tokens<'_>,
     depth: usize,
     inner: usize,
-) -> Result<Box<Stmt>, Fault>
+) -> Result<Box<Stmt>, ParseStop>
     ensures { Answers (model.for scope.now depth (model.stmt scope.now inner) tokens.old) result tokens.new }
 {
     tokens.expect(Punct::LeftParen)?;
@@ -482,7 +486,7 @@ fn switch(
     tokens: &mut Tokens<'_>,
     depth: usize,
     inner: usize,
-) -> Result<Box<Stmt>, Fault>
+) -> Result<Box<Stmt>, ParseStop>
     ensures { Answers (model.switch scope.now depth (model.stmt scope.now inner) tokens.old) result tokens.new }
 {
     let operand = condition(alloc, scope, tokens, depth)?;
@@ -496,8 +500,8 @@ fn switch(
 ///
 /// # Errors
 ///
-/// [`Fault::Refused`] where the grammar refuses a token, at which the cursor then stands, and
-/// [`Fault::NoMemory`], after which nothing is known of the cursor.
+/// [`ParseStop::Refused`] where the grammar refuses a token, at which the cursor then stands, and
+/// [`ParseStop::NoMemory`], after which nothing is known of the cursor.
 #[cycle(stmt)]
 #[tactic(auto, using(crate::proofs::Deeper::stmt_deeper), unfolding(crate::proofs::Opens::statement))]
 pub fn stmt(
@@ -505,11 +509,11 @@ pub fn stmt(
     scope: &Scope,
     tokens: &mut Tokens<'_>,
     depth: usize,
-) -> Result<Box<Stmt>, Fault>
+) -> Result<Box<Stmt>, ParseStop>
     ensures { Answers (model.stmt scope.now depth tokens.old) result tokens.new }
 {
     if depth == 0 {
-        return Err(Fault::Refused);
+        return Err(ParseStop::Refused);
     }
     tokens.open(depth)?;
     let at = tokens.place();

@@ -2,20 +2,20 @@
 use Rattle.std.specs.Prelude.{◌≡◌, ◌≢◌, List, Result, Ok, Err}
 use Rattle.c_lexer.specs.Pieces.{Lexeme}
 use Rattle.c_expression_parser.specs.Answers.{HasCause}
-use Rattle.c_expression_parser.specs.declared.cursor.Fault.{Fault}
-use Rattle.c_expression_parser.specs.declared.cursor.Fault.TheVariants.{NoMemory}
+use Rattle.c_expression_parser.specs.declared.cursor.ParseStop.{ParseStop}
+use Rattle.c_expression_parser.specs.declared.cursor.ParseStop.TheVariants.{NoMemory}
 use Rattle.c_tree.specs.declared.declarations.External.{External}
 use Rattle.c_grammar.specs.Tokens.{TypeNames}
 use Rattle.c_grammar.specs.Parser.{ParseOutcome}
 
 -- of a function that leaves a scope
 abbrev pub AnswersIn :
-    {A : Type 0} → ParseOutcome (A × TypeNames) → Result A Fault → TypeNames → List Lexeme → Type 0
+    {A : Type 0} → ParseOutcome (A × TypeNames) → Result A ParseStop → TypeNames → List Lexeme → Type 0
 AnswersIn outcome (Ok a) scope new = outcome ≡ Ok ((a, scope), new)
 AnswersIn outcome (Err e) scope new = (e ≢ NoMemory → outcome ≡ Err new) × HasCause e
 
 -- of a function that reads all tokens
 abbrev pub AnswersUnit :
-    Result (List External) (List Lexeme) → Result (List External) Fault → List Lexeme → Type 0
+    Result (List External) (List Lexeme) → Result (List External) ParseStop → List Lexeme → Type 0
 AnswersUnit outcome (Ok a) new = outcome ≡ Ok a
 AnswersUnit outcome (Err e) new = (e ≢ NoMemory → outcome ≡ Err new) × HasCause e
