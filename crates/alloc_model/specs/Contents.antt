@@ -1,7 +1,7 @@
 -- What temporaries and registers hold over a memory of objects, and what the operations of the machine do with it. On
 -- words each operation is that of the machine's step; a pointer moves within its object, and two of one object compare,
 -- as in C (C99 6.5.6, 6.5.8, 6.5.9). What a load reads that is neither a number nor a pointer can be moved and stored.
-use Rattle.std.specs.Prelude.{ℕ, zero, ◌+◌, ◌==◌, ◌-ℤ◌, ◌*ℤ◌, not, ℤ, pos, Bool, true, false, List, length, Option, Some, None, option_map, option_and_then, if◌then◌else◌}
+use Rattle.std.specs.Prelude.{ℕ, zero, suc, ◌+◌, ◌-◌, ◌%◌, ◌^◌, ◌==◌, ◌-ℤ◌, ◌*ℤ◌, not, ℤ, pos, negsuc, Bool, true, false, List, length, Option, Some, None, option_map, option_and_then, if◌then◌else◌}
 use Rattle.std.specs.Int.{w32, w64}
 use Rattle.mem_model.specs.declared.value.Ptr.{Ptr}
 use Rattle.mem_model.specs.declared.value.Value.{Value}
@@ -59,9 +59,14 @@ effect_answer (isa.Gives n) = word_answer n
 effect_answer Keeps = Fails
 effect_answer Overflows = TrapsWith 3
 
+-- a whole number modulo 2^64
+abbrev pub residue : ℤ → ℕ
+residue (pos n) = n % 2 ^ 64
+residue (negsuc n) = 2 ^ 64 - suc (n % 2 ^ 64)
+
 -- the word of a distance, and of a test
 abbrev pub distance_word : Option ℤ → Option Content
-distance_word z = option_map (λ d. word (word_from d)) z
+distance_word z = option_map (λ d. word (residue d)) z
 
 abbrev pub test_word : Option Bool → Option Content
 test_word test = option_map (λ b. word (if b then 1 else 0)) test

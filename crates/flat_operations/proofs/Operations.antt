@@ -9,17 +9,19 @@ use Rattle.std.proofs.lemmas.Nat.{or_shifted}
 use Rattle.alpha_isa.specs.Arithmetic as isa
 use Rattle.alpha_isa.specs.Arithmetic.{OperationEffect, Keeps, Overflows, word_at, word_from, signed_value, difference, operation_effect}
 use Rattle.alpha_isa.specs.Step.{is_taken}
+use Rattle.mem_model.specs.declared.value.Ptr.{Ptr}
 use Rattle.mem_model.specs.declared.value.Value.{Value}
 use Rattle.mem_model.specs.declared.value.Value.TheVariants.{Word, Address, Unset}
 use Rattle.mem_model.specs.Memory.{Memory}
-use Rattle.mem_model.specs.Pointers.{pointer_plus, pointer_minus, pointer_lt, pointer_le, pointer_eq, is_null}
+use Rattle.mem_model.specs.Pointers.{pointer_plus, pointer_minus, pointer_lt, pointer_le, pointer_eq, is_null, share_object}
+use Rattle.mem_model.proofs.Pointers.{when-some}
 use Rattle.temp_ir.specs.declared.operation.BranchOp.{BranchOp}
 use Rattle.temp_ir.specs.declared.operation.BranchOp.TheVariants.{Blbc, Beq, Blt, Ble, Blbs, Bne, Bge, Bgt}
 use Rattle.temp_ir.specs.declared.operation.Operation.{Operation}
 use Rattle.temp_ir.specs.declared.operation.Operation.TheVariants.{Addl, Subl, Cmpult, Addq, S4addq, Subq, Cmpeq, S8addq, Cmpule, AddlV, SublV, Cmplt, AddqV, SubqV, Cmple, And, Bic, Bis, Ornot, Xor, Eqv, Zapnot, Srl, Sll, Sra, Mull, Mulq, Umulh, MullV, MulqV}
 use Rattle.temp_ir.specs.declared.operation.ExtendOp.{ExtendOp}
 use Rattle.temp_ir.specs.Operations.{branch_op, operate_op, extend_op}
-use Rattle.alloc_model.specs.Contents.{Content, Plain, Bundle, word, Gives, content_answer, effect_answer, test_word, pointer_moved, other_content, operate_answer, extend_answer, moved_content, pointer_test, test_of}
+use Rattle.alloc_model.specs.Contents.{Content, Plain, Bundle, word, Gives, residue, content_answer, effect_answer, test_word, pointer_moved, other_content, operate_answer, extend_answer, moved_content, pointer_test, test_of}
 use Rattle.flat_memory.specs.Bytes.{Bytes, low_bytes}
 use Rattle.flat_memory.specs.Relation.{Extents, ValueIs, CellsAre, Owners, MemoryIs}
 use Rattle.flat_memory.specs.Laws.{MoreExtents}
@@ -60,6 +62,11 @@ from-negated x n (negsuc a) (pos b) fits e w small =
     let h : word_at (x + b) ≡ word_at (difference x n) = omega (arith, f, g, small, fits.sfits) in h
 from-negated x n (negsuc a) (negsuc b) fits e w small = let f : ⊥ = omega (arith, ints, e) in absurd f
 
+-- the word of a number that lies between -2^64 and 2^64 is its residue
+small-residue : (a b : ℕ) (d : ℤ) → pos a -ℤ pos b ≡ d → a < 2 ^ 64 → b < 2 ^ 64 → word_from d ≡ residue d
+small-residue a b (pos n) e f g = let h : a ≡ b + n = omega (arith, ints, e) in omega (arith, h, f)
+small-residue a b (negsuc n) e f g = let h : a + suc n ≡ b = omega (arith, ints, e) in omega (arith, h, g)
+
 module _ (xs : Extents) (memory : Memory) (owner : Owners) (m : Bytes) (mem : MemoryIs xs memory owner m) where
   -- an operation gives a word for a content
   GivesFor : OperationEffect → Content → Type 0
@@ -94,14 +101,22 @@ module _ (xs : Extents) (memory : Memory) (owner : Owners) (m : Bytes) (mem : Me
   sum-gives (Plain Unset) b x y c fy fx h k e = absurd (cc)
   sum-gives (Bundle cells) b x y c fy fx h k e = absurd (cc)
 
+  -- the distance of two pointers is below 2^64, so its residue is its word
+  distance-small : (p q : Ptr) (x y : ℕ) (d : ℤ) → ValueIs xs (Address p) x → ValueIs xs (Address q) y → pointer_minus memory (Address p) (Address q) ≡ Some d → word_from d ≡ residue d
+  distance-small p q x y d h k e =
+      let made = when-some (share_object memory p q) (p.offset -ℤ q.offset) d e in
+      let apart : pos h.at -ℤ pos k.at ≡ d = ap (λ z. z -ℤ pos k.at) (sym h.offset) ∙ ap (λ z. p.offset -ℤ z) (sym k.offset) ∙ made.1 in
+      small-residue h.at k.at d apart (omega (arith, h.within, h.sound.small)) (omega (arith, k.within, k.sound.small))
+
   difference-gives : (a b : Content) (x y : ℕ) (c : Content) → y < 2 ^ 64 → ContentIs xs a x → ContentIs xs b y → other_content memory Subq a b ≡ Some c → GivesFor (isa.Gives (word_at (difference x y))) c
   unfolding GivesFor
   difference-gives (Plain (Address p)) (Plain (Word n)) x y c fy h k e =
       let small : n < 2 ^ 64 = subst (λ j. j < 2 ^ 64) k fy in
       moved-gives (Address p) x (pos 0 -ℤ signed_value w64 n) c (word_at (difference x y)) h e (from-negated x y (signed_value w64 n) (pos 0 -ℤ signed_value w64 n) (reading-fits n) refl (from-signed n small ∙ sym k) fy)
   difference-gives (Plain (Address p)) (Plain (Address q)) x y c fy h k e =
-      let d = map-some (λ z. word (word_from z)) (pointer_minus memory (Address p) (Address q)) c e in
-      (word_at (difference x y), refl, subst (λ z. ContentIs xs z (word_at (difference x y))) d.2 ((pointers_answer xs memory owner m mem (Address p) (Address q) x y h k).minus d.0 d.1))
+      let d = map-some (λ z. word (residue z)) (pointer_minus memory (Address p) (Address q)) c e in
+      let is : word_at (difference x y) ≡ residue d.0 = (pointers_answer xs memory owner m mem (Address p) (Address q) x y h k).minus d.0 d.1 ∙ distance-small p q x y d.0 h k d.1 in
+      (word_at (difference x y), refl, subst (λ z. ContentIs xs z (word_at (difference x y))) d.2 is)
   difference-gives (Plain (Address p)) (Plain Unset) x y c fy h k e = absurd (cc)
   difference-gives (Plain (Address p)) (Bundle cells) x y c fy h k e = absurd (cc)
   difference-gives (Plain (Word n)) b x y c fy h k e = absurd (cc)
