@@ -52,7 +52,7 @@ fn label_weight(label: TLabel) -> u64
 
 /// The weight of a statement.
 #[cycle(weight)]
-#[tactic(auto, using(crate::proofs::Views::view_if), unfolding(crate::proofs::Opens::statements))]
+#[tactic(auto, using(c_typed_tree::proofs::Views::view_if), unfolding(crate::proofs::Opens::statements))]
 pub fn stmt_weight(statement: &TStmt, structs: &[StructDef]) -> u64
     ensures { result ≡ min (stmt_weight structs.now (stmt_view statement.now)) (2 ^ 64 - 1) }
 {

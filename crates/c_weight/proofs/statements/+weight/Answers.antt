@@ -1,8 +1,8 @@
 -- What the forms with a list weigh, and one turn of the loops over lists.
-use Rattle.std.proofs.Common.{◌+◌}
-use Rattle.c_typed_tree.specs.View.{stmt_view}
+use Rattle.std.proofs.Common.{◌+◌, ◌-◌, ◌^◌, min, ap, ◌∙◌}
+use Rattle.c_typed_tree.specs.View.{expr_view, stmt_view}
 use Rattle.c_typed_tree.specs.model.View.{stmts_view}
-use Rattle.c_typed_tree.specs.Weight.{label_weight, stmt_weight, stmts_weight, sections_weight}
+use Rattle.c_typed_tree.specs.Weight.{expr_weight, label_weight, stmt_weight, stmts_weight, sections_weight}
 use Rattle.c_typed_tree.specs.model.Lists.{sections_view}
 use Rattle.c_weight.proofs.Weights.{one_more, stmts_weight_end, sections_weight_end, block_is, switch_is, least_sum}
 use Rattle.c_weight.proofs.statements.+weight.Goals as goal
@@ -11,7 +11,10 @@ pub stmt_weight-returns-in-Block : goal.stmt_weight-returns-in-Block
 stmt_weight-returns-in-Block t c = block_is _ _ _ _ _ _ c.in-Block.is c.stmts_weight.ensures c.one_and.ensures
 
 pub stmt_weight-returns-in-Switch : goal.stmt_weight-returns-in-Switch
-stmt_weight-returns-in-Switch t c = switch_is _ _ _ _ _ _ _ _ c.in-Switch.is c.expr_weight-in-Switch.ensures c.sections_weight.ensures c.one_and-in-Switch.ensures
+stmt_weight-returns-in-Switch t c =
+    switch_is _ _ _ _ _ _ _ _ c.in-Switch.is
+      (c.expr_weight-in-Switch.ensures ∙ ap (λ x. min (expr_weight c.args.structs.now (expr_view x)) (2 ^ 64 - 1)) c.deref-in-Switch.ensures)
+      c.sections_weight.ensures c.one_and-in-Switch.ensures
 
 pub stmts_weight-loop-statement-preserved : goal.stmts_weight-loop-statement-preserved
 stmts_weight-loop-statement-preserved t c =
