@@ -31,7 +31,7 @@ use Rattle.alloc_model.specs.Temporaries.{Temps}
 use Rattle.alpha_forms.specs.Straight.{runs}
 use Rattle.alpha_forms.specs.Registers.{ComesTo}
 use Rattle.alpha_forms.specs.Operations.{on_two, on_number, on_zero, sum_op, product_op, difference_op, is_unsigned, less_op, less_or_equal_op, convert_item}
-use Rattle.alpha_forms.specs.Laws.{UnaryIsDone, BinaryIsDone, DifferencesAreDone, CompareIsDone, ConversionsAreDone}
+use Rattle.alpha_forms.specs.Laws.{UnaryIsDone, BinaryIsDone, CompareIsDone, ConversionsAreDone}
 use Rattle.alpha_forms.proofs.Prepares.{Matches, nothing_yet, prepare, finish}
 use Rattle.alpha_forms.proofs.Numbers.{sum_matches, product_matches, and_matches, or_matches, xor_matches, difference_matches, negate_matches, complement_matches, move_matches}
 use Rattle.alpha_forms.proofs.Comparing.{equal_matches, less_matches, at_most_matches, test_of}
@@ -156,8 +156,8 @@ disjunctions_done ty widest own d a b s o x y i j ha hb = two_comes widest own s
 pub exclusive_disjunctions_done : BinaryIsDone ExclusiveOr
 exclusive_disjunctions_done ty widest own d a b s o x y i j ha hb = two_comes widest own s o d code.Xor a b x y (binary_answer o.memory ExclusiveOr ty x y) ha hb (xor_matches o.memory ty x y)
 
-pub differences_done : DifferencesAreDone
-differences_done ty t is widest own d a b s o x y i j ha hb = two_comes widest own s o d (difference_op ty) a b x y (binary_answer o.memory Subtract ty x y) ha hb (difference_matches o.memory ty t is x y)
+pub differences_done : BinaryIsDone Subtract
+differences_done ty widest own d a b s o x y i j ha hb = two_comes widest own s o d (difference_op ty) a b x y (binary_answer o.memory Subtract ty x y) ha hb (difference_matches o.memory ty x y)
 
 pub equalities_done : CompareIsDone Equal
 equalities_done ty widest own d a b s o x y i j ha hb = two_comes widest own s o d code.Cmpeq a b x y (compare_answer o.memory Equal ty x y) ha hb (equal_matches o.memory ty x y)

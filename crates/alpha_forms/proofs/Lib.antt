@@ -1,11 +1,13 @@
-mod Runs
-mod Making
-mod Prepares
-mod Rows
-mod Reading
-mod Storing
-mod Numbers
-mod Comparing
-mod Converting
-mod Done
-mod Moving
+pub mod Runs
+pub mod Making
+pub mod Prepares
+pub mod Rows
+pub mod Reading
+pub mod Storing
+pub mod Numbers
+pub mod Comparing
+pub mod Converting
+pub mod Done
+pub mod Dividing
+pub mod Others
+pub mod Moving

@@ -5,12 +5,11 @@ use Rattle.std.specs.Int.{Width, w32, w64}
 use Rattle.std.specs.Int.RustNames.{FitsSigned}
 use Rattle.std.proofs.lemmas.Int.{ints}
 use Rattle.std.proofs.lemmas.Bool.{eqb-true, ltb-true, ltb-false}
-use Rattle.std.proofs.lemmas.Option.{none-some}
 use Rattle.std.proofs.lemmas.Bool.Decides.{nat_tests}
 use Rattle.mem_model.specs.declared.value.Value.{Value}
 use Rattle.mem_model.specs.declared.value.Value.TheVariants.{Word, Address, Unset}
 use Rattle.mem_model.specs.Memory.{Memory}
-use Rattle.mem_model.specs.Pointers.{pointer_plus}
+use Rattle.mem_model.specs.Pointers.{pointer_plus, pointer_minus}
 use Rattle.alpha_isa.specs.Arithmetic as isa
 use Rattle.alpha_isa.specs.Arithmetic.{word_at, word_from, signed_value, sign_extension, checked_effect, operation_effect}
 use Rattle.alpha_isa.proofs.Arithmetic.{signed-word_from}
@@ -31,10 +30,10 @@ use Rattle.suifvm_ir.specs.declared.insn.UnaryOp.TheVariants.{Move, Negate, Comp
 use Rattle.suifvm_ir.specs.declared.insn.BinaryOp.TheVariants.{Add, Subtract, Multiply, And, Or, ExclusiveOr}
 use Rattle.vm_meaning.specs.declared.answer.Answer as vm
 use Rattle.vm_meaning.specs.declared.answer.Answer.TheVariants as v
-use Rattle.vm_meaning.specs.Operations.{integer_of, on_number, on_numbers, outcome_answer, word_answer, value_answer, unary_answer, binary_answer}
+use Rattle.vm_meaning.specs.Operations.{integer_of, on_number, on_numbers, outcome_answer, word_answer, value_answer, distance_answer, unary_answer, binary_answer}
 use Rattle.temp_ir.specs.declared.operation.Operation.TheVariants as o
 use Rattle.alloc_model.specs.Contents as contents
-use Rattle.alloc_model.specs.Contents.{Content, Plain, word, Answer, Gives, content_answer, effect_answer, operate_answer}
+use Rattle.alloc_model.specs.Contents.{Content, Plain, word, Answer, Gives, distance_word, content_answer, effect_answer, operate_answer}
 use Rattle.alpha_forms.specs.Operations.{sum_op, difference_op, product_op}
 use Rattle.alpha_forms.proofs.Prepares.{Matches}
 
@@ -62,11 +61,11 @@ small t n e = subst (λ k. k < 2 ^ 64) e (extension-below t n)
 
 -- ---- results that have to fit
 
-fits_int : (z : ℤ) → types.fits Int z ≡ isa.fits w32 z
+pub fits_int : (z : ℤ) → types.fits Int z ≡ isa.fits w32 z
 fits_int (pos n) = grind (arith, nat_tests)
 fits_int (negsuc n) = grind (arith, nat_tests)
 
-fits_long : (z : ℤ) → types.fits Long z ≡ isa.fits w64 z
+pub fits_long : (z : ℤ) → types.fits Long z ≡ isa.fits w64 z
 fits_long (pos n) = grind (arith, nat_tests)
 fits_long (negsuc n) = grind (arith, nat_tests)
 
@@ -74,12 +73,12 @@ fits_number : (w : Width) (z : ℤ) → isa.fits w z ≡ true → FitsSigned w z
 fits_number w (pos n) e = record { sfits = ltb-true n _ e }
 fits_number w (negsuc n) e = record { sfits = ltb-true n _ e }
 
-int_word : (z : ℤ) → types.fits Int z ≡ true → words.word Int z ≡ word_from z
+pub int_word : (z : ℤ) → types.fits Int z ≡ true → words.word Int z ≡ word_from z
 int_word z e =
     ap (λ n. extension Int n) (residue-fits z (fits-wide Int z refl e))
     ∙ ap word_from (signed-word_from w32 z (omega arith) (fits_number w32 z (sym (fits_int z) ∙ e)))
 
-long_word : (z : ℤ) → types.fits Long z ≡ true → words.word Long z ≡ word_from z
+pub long_word : (z : ℤ) → types.fits Long z ≡ true → words.word Long z ≡ word_from z
 long_word z e = ap (λ n. extension Long n) (residue-fits z f) ∙ in_word z f
   where
     f : FitsSigned w64 z
@@ -106,6 +105,11 @@ checked_long z = by_fit (types.fits Long z) refl (sym (fits_long z))
     by_fit false e f = ap (λ b. effect_answer (if b then isa.Gives (word_from z) else isa.Overflows)) (f ∙ e)
 
 -- ---- sums, differences, products
+
+-- a residue is below 2^64
+long_residue : (z : ℤ) → words.word Long z ≡ contents.residue z
+long_residue (pos n) = omega arith
+long_residue (negsuc n) = omega arith
 
 pub pointer_matches : (r : Option Value) → Matches (value_answer r) (content_answer (option_map Plain r))
 pointer_matches (Some a) = refl
@@ -250,22 +254,33 @@ module _ (m : Memory) where
 
   -- ---- differences, negations, complements, copies
 
-  -- of numbers
-  pub difference_matches : (ty : VmType) (t : IntegerType) → integer_of ty ≡ Some t → (a b : Value) →
+  -- two pointers have a distance, which is taken modulo 2^64
+  distance_matches : (r : Option ℤ) → Matches (distance_answer r) (content_answer (distance_word r))
+  distance_matches None = tt
+  distance_matches (Some z) = ap contents.word_answer (sym (long_residue z))
+
+  difference_pointer : (a b : Value) → Matches (binary_answer m Subtract P64 a b) (operate_answer m o.Subq (Plain a) (Plain b))
+  difference_pointer (Address p) (Address q) = distance_matches (pointer_minus m (Address p) (Address q))
+  difference_pointer (Address p) (Word n) = tt
+  difference_pointer (Address p) Unset = tt
+  difference_pointer (Word k) b = tt
+  difference_pointer Unset b = tt
+
+  pub difference_matches : (ty : VmType) (a b : Value) →
       Matches (binary_answer m Subtract ty a b) (operate_answer m (difference_op ty) (Plain a) (Plain b))
-  difference_matches S32 t is a b =
+  difference_matches S32 a b =
       two_numbers Int a b (λ t x y. outcome_answer (c.difference t x y)) (λ a b. operate_answer m o.SublV (Plain a) (Plain b))
       (λ x y e k. checked_int (value Int x -ℤ value Int y))
-  difference_matches U32 t is a b =
+  difference_matches U32 a b =
       two_numbers UnsignedInt a b (λ t x y. outcome_answer (c.difference t x y)) (λ a b. operate_answer m o.Subl (Plain a) (Plain b))
       (λ x y e k. ap contents.word_answer (sym (word-difference UnsignedInt x y (small UnsignedInt y k))))
-  difference_matches S64 t is a b =
+  difference_matches S64 a b =
       two_numbers Long a b (λ t x y. outcome_answer (c.difference t x y)) (λ a b. operate_answer m o.SubqV (Plain a) (Plain b))
       (λ x y e k. checked_long (value Long x -ℤ value Long y))
-  difference_matches U64 t is a b =
+  difference_matches U64 a b =
       two_numbers UnsignedLong a b (λ t x y. outcome_answer (c.difference t x y)) (λ a b. operate_answer m o.Subq (Plain a) (Plain b))
       (λ x y e k. ap contents.word_answer (sym (word-difference UnsignedLong x y (small UnsignedLong y k))))
-  difference_matches P64 t is a b = absurd (none-some t is)
+  difference_matches P64 a b = difference_pointer a b
 
   pub negate_matches : (ty : VmType) (a : Value) → Matches (unary_answer Negate ty a) (operate_answer m (difference_op ty) (word 0) (Plain a))
   negate_matches S32 a =

@@ -1,9 +1,10 @@
 -- The laws of the forms.
-use Rattle.std.specs.Prelude.{◌≡◌, ℕ, ℤ, ◌^◌, ◌<◌, ◌≤◌, List, length, Some, FitsSigned}
+use Rattle.std.specs.Prelude.{◌≡◌, ℕ, ℤ, ◌^◌, ◌<◌, ◌≤◌, Bool, List, [], ◌∷◌, length, Some, FitsSigned}
 use Rattle.std.specs.Int.{w64}
 use Rattle.mem_model.specs.declared.value.Value.{Value}
+use Rattle.mem_model.specs.declared.value.Value.TheVariants.{Word}
 use Rattle.mem_model.specs.World.{Outer}
-use Rattle.alloc_model.specs.Contents.{Plain, word}
+use Rattle.alloc_model.specs.Contents.{Plain, word, test_of}
 use Rattle.alloc_model.specs.Effect.{Temp}
 use Rattle.alloc_model.specs.Temporaries.{Temps}
 use Rattle.mem_model.specs.Memory.{Memory}
@@ -11,12 +12,15 @@ use Rattle.suifvm_ir.specs.declared.types.MemoryType.{MemoryType}
 use Rattle.suifvm_ir.specs.declared.types.VmType.{VmType}
 use Rattle.suifvm_ir.specs.declared.insn.UnaryOp.{UnaryOp}
 use Rattle.suifvm_ir.specs.declared.insn.BinaryOp.{BinaryOp}
-use Rattle.suifvm_ir.specs.declared.insn.BinaryOp.TheVariants.{Subtract}
 use Rattle.suifvm_ir.specs.declared.insn.ShiftOp.{ShiftOp}
 use Rattle.suifvm_ir.specs.declared.insn.CompareOp.{CompareOp}
-use Rattle.c_arithmetic.specs.declared.integer_type.IntegerType.{IntegerType}
+use Rattle.suifvm_ir.specs.declared.insn.BranchOp.{BranchOp}
+use Rattle.suifvm_ir.specs.declared.insn.Place.{Place}
 use Rattle.vm_meaning.specs.declared.answer.Answer.{Answer}
+use Rattle.vm_meaning.specs.declared.answer.Answer.TheVariants.{Gives}
+use Rattle.vm_meaning.specs.Effect.{is_taken}
 use Rattle.temp_ir.specs.declared.insn.TempInsn.{TempInsn}
+use Rattle.temp_ir.specs.declared.insn.TempInsn.TheVariants.{ObjectAddress}
 use Rattle.vm_meaning.specs.Operations as vm
 use Rattle.alpha_constants.specs.declared.recipe.Recipe.{Recipe}
 use Rattle.alpha_constants.specs.Recipes.{recipe_length}
@@ -24,7 +28,7 @@ use Rattle.alpha_forms.specs.Straight.{runs, PutsContent}
 use Rattle.alpha_forms.specs.Constants.{recipe_items, constant_items}
 use Rattle.alpha_forms.specs.Registers.{IsOfRegister, IsHeld, HasBytes, ComesTo, ComesToMemory}
 use Rattle.alpha_forms.specs.Accesses.{load_items, store_items}
-use Rattle.alpha_forms.specs.Operations.{unary_items, binary_items, shift_items, compare_items, convert_items}
+use Rattle.alpha_forms.specs.Operations.{unary_items, binary_items, shift_items, compare_items, branch_op, convert_items}
 
 -- the code of a constant puts the word into the temporary, whatever was held before
 abbrev pub ConstantsAreMade : Type 0
@@ -38,6 +42,24 @@ RecipesHaveLengths = (d : ℕ) (r : Recipe) → length (recipe_items d r) ≡ re
 
 abbrev pub ConstantsAreShort : Type 0
 ConstantsAreShort = (d n : ℕ) → length (constant_items d n) ≤ 5
+
+-- of every type that a constant has
+abbrev pub ConstantsAreLoaded : Type 0
+ConstantsAreLoaded =
+    (widest own d n : ℕ) (ty : VmType) (s : Temps) (o : Outer) → n < 2 ^ 64 →
+    ComesTo s o d (vm.when_value ty (Word n)) (runs widest (constant_items d n) own s o)
+
+-- the address of an object
+abbrev pub AddressesAreLoaded : Type 0
+AddressesAreLoaded =
+    (widest own d plus : ℕ) (place : Place) (s : Temps) (o : Outer) →
+    ComesTo s o d (Gives (vm.place_address own place plus)) (runs widest (ObjectAddress d place plus ∷ []) own s o)
+
+-- a branch is taken where the value passes the test
+abbrev pub BranchesAreTaken : Type 0
+BranchesAreTaken =
+    (op : BranchOp) (ty : VmType) (m : Memory) (v : Value) (b : Bool) → vm.value_holds m ty v ≡ Some b →
+    test_of (branch_op op) m (Plain v) ≡ Some (is_taken op b)
 
 -- the code of a load puts what the load answers, and that of a store leaves the memory that the store leaves, wherever
 -- they have a meaning; v is what the register of the pointer holds, and w that of the value
@@ -71,12 +93,6 @@ UnaryIsDone op = (ty : VmType) → OneIsDone (unary_items op ty) (vm.unary_answe
 
 abbrev pub BinaryIsDone : BinaryOp → Type 0
 BinaryIsDone op = (ty : VmType) → TwoAreDone (binary_items op ty) (λ m v w. vm.binary_answer m op ty v w)
-
--- the difference of two numbers
-abbrev pub DifferencesAreDone : Type 0
-DifferencesAreDone =
-    (ty : VmType) (t : IntegerType) → vm.integer_of ty ≡ Some t →
-    TwoAreDone (binary_items Subtract ty) (λ m v w. vm.binary_answer m Subtract ty v w)
 
 abbrev pub ShiftIsDone : ShiftOp → Type 0
 ShiftIsDone op = (ty : VmType) → TwoAreDone (shift_items op ty) (λ m v w. vm.shift_answer op ty v w)

@@ -13,6 +13,10 @@ use Rattle.suifvm_ir.specs.declared.insn.ShiftOp.{ShiftOp}
 use Rattle.suifvm_ir.specs.declared.insn.ShiftOp.TheVariants.{ArithmeticRight, Left, LogicalRight}
 use Rattle.suifvm_ir.specs.declared.insn.CompareOp.{CompareOp}
 use Rattle.suifvm_ir.specs.declared.insn.CompareOp.TheVariants.{Equal, NotEqual, Less, LessOrEqual}
+use Rattle.suifvm_ir.specs.declared.insn.BranchOp as vm
+use Rattle.suifvm_ir.specs.declared.insn.BranchOp.TheVariants.{IfTrue, IfFalse}
+use Rattle.temp_ir.specs.declared.operation.BranchOp.{BranchOp}
+use Rattle.temp_ir.specs.declared.operation.BranchOp.TheVariants.{Beq, Bne}
 use Rattle.temp_ir.specs.declared.operation.Operation.{Operation}
 use Rattle.temp_ir.specs.declared.operation.Operation.TheVariants as o
 use Rattle.temp_ir.specs.declared.operation.ExtendOp.TheVariants.{Sextb, Sextw}
@@ -142,6 +146,12 @@ compare_items Equal ty d a b = on_two o.Cmpeq d a b ∷ []
 compare_items NotEqual ty d a b = on_two o.Cmpeq 0 a b ∷ on_number o.Cmpeq d 0 0 ∷ []
 compare_items Less ty d a b = on_two (less_op (is_unsigned ty)) d a b ∷ []
 compare_items LessOrEqual ty d a b = on_two (less_or_equal_op (is_unsigned ty)) d a b ∷ []
+
+-- ---- branches: Bne is taken where a value is neither zero nor null, and Beq where it is
+
+abbrev pub branch_op : vm.BranchOp → BranchOp
+branch_op IfTrue = Bne
+branch_op IfFalse = Beq
 
 -- ---- conversions
 

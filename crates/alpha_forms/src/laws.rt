@@ -1,10 +1,10 @@
 //! The laws of the forms, each the contract of a function that does nothing.
 
 ghost use Rattle.suifvm_ir.specs.declared.insn.UnaryOp.TheVariants.{Move, Negate, Complement};
-ghost use Rattle.suifvm_ir.specs.declared.insn.BinaryOp.TheVariants.{Add, Multiply, And, Or, ExclusiveOr};
+ghost use Rattle.suifvm_ir.specs.declared.insn.BinaryOp.TheVariants.{Add, Subtract, Multiply, Divide, Remainder, And, Or, ExclusiveOr};
 ghost use Rattle.suifvm_ir.specs.declared.insn.ShiftOp.TheVariants.{ArithmeticRight, Left, LogicalRight};
 ghost use Rattle.suifvm_ir.specs.declared.insn.CompareOp.TheVariants.{Equal, NotEqual, Less, LessOrEqual};
-ghost use Rattle.alpha_forms.specs.Laws.{ConstantsAreMade, RecipesHaveLengths, ConstantsAreShort, LoadsAreDone, StoresAreDone, UnaryIsDone, BinaryIsDone, DifferencesAreDone, ShiftIsDone, CompareIsDone, ConversionsAreDone};
+ghost use Rattle.alpha_forms.specs.Laws.{ConstantsAreMade, RecipesHaveLengths, ConstantsAreShort, LoadsAreDone, StoresAreDone, UnaryIsDone, BinaryIsDone, ShiftIsDone, CompareIsDone, ConversionsAreDone, ConstantsAreLoaded, AddressesAreLoaded, BranchesAreTaken};
 
 /// The code of a constant puts the word into its temporary and changes nothing else, in five instructions at most.
 pub fn constants_are_made()
@@ -28,14 +28,20 @@ pub fn operations_on_one_are_done()
     ensures conversions { ConversionsAreDone }
 {}
 
-/// So does that of an operation on two values; of a difference where they are numbers.
+/// So does that of an operation on two values.
 pub fn operations_on_two_are_done()
     ensures sums { BinaryIsDone Add }
-    ensures differences { DifferencesAreDone }
+    ensures differences { BinaryIsDone Subtract }
     ensures products { BinaryIsDone Multiply }
     ensures conjunctions { BinaryIsDone And }
     ensures disjunctions { BinaryIsDone Or }
     ensures exclusive { BinaryIsDone ExclusiveOr }
+{}
+
+/// And that of a quotient or a remainder, which a routine answers.
+pub fn divisions_are_done()
+    ensures quotients { BinaryIsDone Divide }
+    ensures remainders { BinaryIsDone Remainder }
 {}
 
 /// So does that of a shift.
@@ -51,4 +57,11 @@ pub fn comparisons_are_done()
     ensures unlike { CompareIsDone NotEqual }
     ensures less { CompareIsDone Less }
     ensures at_most { CompareIsDone LessOrEqual }
+{}
+
+/// A register gets its constant or address, and a branch is taken where the value passes the test.
+pub fn others_are_done()
+    ensures constants { ConstantsAreLoaded }
+    ensures addresses { AddressesAreLoaded }
+    ensures branches { BranchesAreTaken }
 {}

@@ -5,7 +5,7 @@ ghost use Rattle.alpha_forms.specs.Operations as operations;
 
 use std::alloc::AllocError;
 use suifvm_ir::block::Block;
-use suifvm_ir::insn::{BinaryOp, CompareOp, ShiftOp, UnaryOp};
+use suifvm_ir::insn::{BinaryOp, BranchOp, CompareOp, ShiftOp, UnaryOp};
 use suifvm_ir::types::{MemoryType, VmType};
 use temp_ir::insn::{FixedRegister, Operand, Source, TempInsn};
 use temp_ir::operation::{ExtendOp, Operation, Routine};
@@ -315,6 +315,16 @@ pub fn put_compare(
             let op = less_or_equal_op(is_unsigned(ty));
             out.push(on_two(op, destination, left, right))
         }
+    }
+}
+
+/// The operation of a branch.
+pub fn branch_op(op: BranchOp) -> temp_ir::operation::BranchOp
+    ensures { result ≡ operations.branch_op op }
+{
+    match op {
+        BranchOp::IfTrue => temp_ir::operation::BranchOp::Bne,
+        BranchOp::IfFalse => temp_ir::operation::BranchOp::Beq,
     }
 }
 
