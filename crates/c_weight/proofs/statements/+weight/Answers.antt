@@ -13,8 +13,8 @@ stmt_weight-returns-in-Block t c = block_is _ _ _ _ _ _ c.in-Block.is c.stmts_we
 pub stmt_weight-returns-in-Switch : goal.stmt_weight-returns-in-Switch
 stmt_weight-returns-in-Switch t c =
     switch_is _ _ _ _ _ _ _ _ c.in-Switch.is
-      (c.expr_weight-in-Switch.ensures ∙ ap (λ x. min (expr_weight c.args.structs.now (expr_view x)) (2 ^ 64 - 1)) c.deref-in-Switch.ensures)
-      c.sections_weight.ensures c.one_and-in-Switch.ensures
+    (c.expr_weight-in-Switch.ensures ∙ ap (λ x. min (expr_weight c.args.structs.now (expr_view x)) (2 ^ 64 - 1)) c.deref-in-Switch.ensures)
+    c.sections_weight.ensures c.one_and-in-Switch.ensures
 
 pub stmts_weight-loop-statement-preserved : goal.stmts_weight-loop-statement-preserved
 stmts_weight-loop-statement-preserved t c =
