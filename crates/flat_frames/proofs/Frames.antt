@@ -1,19 +1,19 @@
 -- Frames that are written.
-use Rattle.std.proofs.Common.{◌≡◌, ◌≢◌, ℕ, zero, suc, ◌+◌, ◌-◌, ◌*◌, ◌%◌, ◌^◌, ◌<◌, ◌≤◌, ◌⊎◌, Bool, true, false, List, length, Some, refl, sym, ap, ◌∙◌, subst, arith, inl, inr, ⊎_elim, eq-eqb}
-use Rattle.std.specs.Prelude.{◌==◌, ◌||◌, if◌then◌else◌}
+use Rattle.std.proofs.Common.{◌≡◌, ◌≢◌, ℕ, ◌+◌, ◌-◌, ◌^◌, ◌<◌, ◌≤◌, ◌⊎◌, Bool, true, false, length, refl, sym, ap, ◌∙◌, subst, arith, inl, inr, ⊎_elim, eq-eqb}
+use Rattle.std.specs.Prelude.{◌==◌, ◌&&◌, if◌then◌else◌}
 use Rattle.std.proofs.lemmas.Bool.{cases_eq, cases_lt, ne_eqb, or_cases, eqb-true}
 use Rattle.alpha_isa.specs.State.{State, register}
-use Rattle.mem_model.specs.Memory.{Memory, object_at}
+use Rattle.mem_model.specs.Memory.{Memory}
 use Rattle.alloc_model.specs.Contents.{Content}
 use Rattle.alloc_model.specs.Stores.{put}
-use Rattle.alloc_model.specs.Places.{Places, Place, Reg, Slot, In, Out, place_eq}
+use Rattle.alloc_model.specs.Places.{Places, Reg, Slot, Out, place_eq}
 use Rattle.flat_memory.specs.Bytes.{Bytes, bytes_from, put_bytes, low_bytes, number_from}
 use Rattle.flat_memory.specs.Relation.{Extents, Owner, Owners, OfObject, OfFrame, Piece, SlotPiece, ArgumentPiece, MemoryIs}
 use Rattle.flat_memory.proofs.Numbers.{numbers_come_back, low_bytes-length, low_bytes-are, put-out, put-small, bytes_from-same, bytes_from-put}
 use Rattle.flat_memory.proofs.Objects.{others_may_change}
 use Rattle.flat_operations.specs.Contents.{ContentIs}
-use Rattle.flat_frames.specs.Shapes.{Shape, argument_at, slot_at, frame_size, owner_at, IsPiece}
-use Rattle.flat_frames.specs.Frames.{word_in, put_word, FrameIs, KeepsFrames, IsWordOf, FrameAndMemory, RegistersAre, with_known}
+use Rattle.flat_frames.specs.Shapes.{Shape, argument_at, slot_at, IsPiece}
+use Rattle.flat_frames.specs.Frames.{word_in, put_word, FrameIs, KeepsFrames, IsWordOf, FrameAndMemory, RegistersAre, with_known, is_written_piece, is_written, KeepsUnwritten}
 use Rattle.flat_frames.proofs.Shapes.{pieces_of}
 
 -- ---- words
@@ -42,6 +42,23 @@ word-put : (m : Bytes) (a w : ℕ) → w < 2 ^ 64 → word_in (put_word m a w) a
 word-put m a w small =
     let n : length (low_bytes 8 w) ≡ 8 = low_bytes-length 8 w in
     ap number_from (subst (λ k. bytes_from (put_bytes m a (low_bytes 8 w)) a k ≡ low_bytes 8 w) n (bytes_from-put (low_bytes 8 w) m a)) ∙ numbers_come_back 8 w (omega arith)
+
+-- so are those that no instruction of a call writes
+pub unwritten-put : (owner : Owners) (depth : ℕ) (m : Bytes) (a w : ℕ) (mine : Owner) → IsWordOf owner a mine → is_written depth mine ≡ true → KeepsUnwritten owner depth m (put_word m a w)
+unwritten-put owner depth m a w mine is written y e = put-word-other owner m a w y mine is (λ f. clash (sym written ∙ ap (is_written depth) (sym f) ∙ e))
+  where
+    clash : true ≡ false → ⊥
+    clash f = cc
+
+pub unwritten-objects : (owner : Owners) (depth : ℕ) (m k : Bytes) → KeepsFrames owner m k → KeepsUnwritten owner depth m k
+unwritten-objects owner depth m k keeps y e = keeps.same y (λ o f. clash (ap (is_written depth) (sym f) ∙ e))
+  where
+    clash : true ≡ false → ⊥
+    clash f = cc
+
+-- pieces of its own frame are written
+pub own-written : (depth : ℕ) (piece : Piece) → is_written_piece piece ≡ true → is_written depth (OfFrame depth piece) ≡ true
+own-written depth piece e = ap (λ b. b && is_written_piece piece) (eq-eqb depth depth refl) ∙ e
 
 -- ---- a frame
 

@@ -1,10 +1,10 @@
 -- The pieces of a frame.
-use Rattle.std.proofs.Common.{◌≡◌, ℕ, zero, suc, ◌+◌, ◌-◌, ◌*◌, ◌/◌, ◌%◌, ◌<◌, ◌≤◌, true, false, List, [], ◌∷◌, length, Some, refl, sym, ap, ◌∙◌, subst, arith}
+use Rattle.std.proofs.Common.{◌≡◌, ℕ, zero, suc, ◌+◌, ◌-◌, ◌*◌, ◌/◌, ◌<◌, ◌≤◌, List, [], ◌∷◌, length, Some, ap, ◌∙◌, arith}
 use Rattle.std.specs.Prelude.{nat_lt, slice_get, if◌then◌else◌}
 use Rattle.std.proofs.lemmas.Bool.{lt-ltb, le-ltb, cond-true, cond-false}
 use Rattle.data_object.specs.Layout.{place_after}
-use Rattle.flat_memory.specs.Relation.{Owner, OfObject, OfFrame, SlotPiece, ReturnPiece, SavedPiece, ArgumentPiece, NoPiece}
-use Rattle.flat_frames.specs.Shapes.{Shape, argument_at, return_at, saved_at, slot_at, objects_at, bytes_before, object_at, objects_size, frame_size, object_owner, owner_at, IsPiece, PiecesOf, IsSmall}
+use Rattle.flat_memory.specs.Relation.{OfObject, OfFrame, SlotPiece, ReturnPiece, SavedPiece, ArgumentPiece}
+use Rattle.flat_frames.specs.Shapes.{Shape, argument_at, return_at, saved_at, slot_at, objects_at, bytes_before, object_at, objects_size, object_owner, owner_at, IsPiece, PiecesOf, IsSmall}
 
 -- ---- objects
 

@@ -1,12 +1,12 @@
 -- When a frame on the stack stands for what a call holds in its slots and argument places, and for its objects.
-use Rattle.std.specs.Prelude.{◌≡◌, ◌≢◌, ℕ, ◌+◌, ◌*◌, ◌%◌, ◌^◌, ◌<◌, Bool, true, ◌==◌, ◌||◌, Some, slice_get}
+use Rattle.std.specs.Prelude.{◌≡◌, ◌≢◌, ℕ, ◌+◌, ◌%◌, ◌^◌, ◌<◌, Bool, true, false, ◌==◌, ◌||◌, ◌&&◌, Some, slice_get}
 use Rattle.alpha_isa.specs.State.{State, register}
 use Rattle.mem_model.specs.Memory.{Memory}
 use Rattle.alloc_model.specs.Contents.{Content}
 use Rattle.alloc_model.specs.Stores.{put}
-use Rattle.alloc_model.specs.Places.{Places, Place, Reg, Slot, Out, place_eq}
+use Rattle.alloc_model.specs.Places.{Places, Reg, Slot, Out, place_eq}
 use Rattle.flat_memory.specs.Bytes.{Bytes, bytes_from, put_bytes, low_bytes, number_from}
-use Rattle.flat_memory.specs.Relation.{Extents, Owner, Owners, OfObject, OfFrame, MemoryIs}
+use Rattle.flat_memory.specs.Relation.{Extents, Owner, Owners, OfObject, OfFrame, Nobody, Piece, SlotPiece, ArgumentPiece, MemoryIs}
 use Rattle.flat_operations.specs.Contents.{ContentIs}
 use Rattle.flat_frames.specs.Shapes.{Shape, argument_at, slot_at, object_at, frame_size, owner_at}
 
@@ -30,6 +30,21 @@ pub record FrameIs (xs : Extents) (owner : Owners) (m : Bytes) (sp depth own : �
 -- bytes of objects alone may change
 pub record KeepsFrames (owner : Owners) (m k : Bytes) : Type 0 where
   pub same : (y : ℕ) → ((o : ℕ) → owner y ≢ OfObject o) → k y ≡ m y
+
+-- the instructions of a call write bytes of objects, of its slots and of its argument places
+abbrev pub is_written_piece : Piece → Bool
+is_written_piece (SlotPiece t) = true
+is_written_piece (ArgumentPiece k) = true
+is_written_piece _ = false
+
+abbrev pub is_written : (depth : ℕ) → Owner → Bool
+is_written depth (OfObject o) = true
+is_written depth (OfFrame other piece) = (other == depth) && is_written_piece piece
+is_written depth Nobody = false
+
+-- so all other bytes are as before: the return address, the saved registers, and what calls that wait own
+abbrev pub KeepsUnwritten : Owners → (depth : ℕ) → (m k : Bytes) → Type 0
+KeepsUnwritten owner depth m k = (y : ℕ) → is_written depth (owner y) ≡ false → k y ≡ m y
 
 -- so frames stay
 abbrev pub FramesStay : Type 0

@@ -86,6 +86,7 @@ module _ (xs : Extents) (memory : Memory) (owner : Owners) (p : Program) (s : St
         registers = t.2.registers;
         input = t.2.input;
         output = t.2.output;
+        reach = t.2.reached;
         others = λ y free. ap (λ (b : Bytes). b y) t.2.bytes ∙ put-out (low_bytes (store_width op) (register s ra)) (memory_bytes p s) (address s rb plus) y (outside y free len l.pointer.object l.range.owned);
       }
     where

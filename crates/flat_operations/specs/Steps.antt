@@ -42,6 +42,7 @@ pub record IsStoreStep (xs : Extents) (new : Memory) (owner : Owners) (p : Progr
   pub registers : to.registers ≡ s.registers
   pub input : to.input ≡ s.input
   pub output : to.output ≡ s.output
+  pub reach : (y : ℕ) → is_reached p to y ≡ is_reached p s y
   -- what no object owns is as before
   pub others : (y : ℕ) → ((o : ℕ) → owner y ≢ OfObject o) → memory_bytes p to y ≡ memory_bytes p s y
 

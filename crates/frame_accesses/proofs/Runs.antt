@@ -1,31 +1,30 @@
 -- What the machine does at the items that reach its frame.
-use Rattle.std.proofs.Common.{◌≡◌, ◌≢◌, ℕ, zero, suc, ◌+◌, ◌-◌, ◌*◌, ◌/◌, ◌%◌, ◌^◌, ◌<◌, ◌≤◌, Bool, true, false, cond, List, [], ◌∷◌, ◌++◌, length, Option, Some, None, refl, sym, ap, ◌∙◌, subst, arith, inl, inr, ⊎_elim}
+use Rattle.std.proofs.Common.{◌≡◌, ◌≢◌, ℕ, suc, ◌+◌, ◌-◌, ◌*◌, ◌^◌, ◌<◌, ◌≤◌, Bool, true, false, List, [], ◌∷◌, ◌++◌, length, refl, sym, ap, ◌∙◌, subst, arith, inl, inr}
 use Rattle.std.specs.Prelude.{◌==◌, ◌||◌, ◌&&◌, nat_lt, nat_le, ℤ, pos, negsuc, ◌-ℤ◌, ◌*ℤ◌, slice_index, bit_or, if◌then◌else◌}
 use Rattle.std.specs.Int.{w64, from_le_bytes, to_le_bytes}
 use Rattle.std.proofs.lemmas.Int.{ints}
-use Rattle.std.proofs.lemmas.Bool.{cases_eq, cases_lt, eqb-true, ltb-true, ltb-false}
+use Rattle.std.proofs.lemmas.Bool.{cases_eq, eqb-true}
 use Rattle.std.proofs.lemmas.Nat.{or_shifted}
 use Rattle.alpha_isa.specs.declared.insn.Fields.{Fields}
 use Rattle.alpha_isa.specs.declared.insn.Fields.TheVariants.{Memory, Operate}
 use Rattle.alpha_isa.specs.declared.insn.Operand.TheVariants.{Reg}
-use Rattle.alpha_isa.specs.declared.insn.MemoryOp.{MemoryOp}
 use Rattle.alpha_isa.specs.declared.insn.MemoryOp.TheVariants.{Lda, Ldah, Ldq, Stq}
 use Rattle.alpha_isa.specs.declared.insn.OperateOp.TheVariants.{Bis}
 use Rattle.alpha_isa.specs.Arithmetic.{word_at, word_from}
-use Rattle.alpha_isa.specs.Program.{Program, IsLawful, data_start, stack_start, word_address}
+use Rattle.alpha_isa.specs.Program.{Program, data_start, stack_start}
 use Rattle.alpha_isa.specs.State.{State, register, with_register, bytes_at, with_bytes}
-use Rattle.alpha_isa.specs.Step.{exec, Next, Goes, address, insn_step, load_into, go_on_stored, next_instruction}
+use Rattle.alpha_isa.specs.Step.{exec, Goes, address, insn_step, load_into, go_on_stored, next_instruction}
 use Rattle.alpha_items.specs.declared.item.AsmItem.{AsmItem}
 use Rattle.alpha_items.specs.declared.item.AsmItem.TheVariants.{Plain}
 use Rattle.alpha_items.specs.Words.{high_of}
-use Rattle.item_steps.specs.Standing.{Labels, ItemsAt}
-use Rattle.item_steps.specs.Steps.{Comes, StandsAt, ComesBehind, SameElse}
-use Rattle.item_steps.proofs.Steps.{steps_add_up, plain_steps, same-with, pc-with, read-same, read-other, read-lost, same-through, same-at}
+use Rattle.item_steps.specs.Standing.{Labels}
+use Rattle.item_steps.specs.Steps.{Comes, StandsAt, SameElse}
+use Rattle.item_steps.proofs.Steps.{steps_add_up, plain_steps, same-with, pc-with, read-same, read-other, same-through, same-at}
 use Rattle.flat_memory.specs.Bytes.{Bytes, bytes_from, put_bytes, low_bytes, number_from}
-use Rattle.flat_memory.specs.Machine.{memory_bytes, is_in_data, is_in_stack, is_reached, HasParts, IsReached, IsStored}
+use Rattle.flat_memory.specs.Machine.{memory_bytes, is_reached, HasParts, IsReached}
 use Rattle.flat_memory.proofs.Numbers.{low_bytes-length, low_bytes-are, number_from-low, bytes_from-length, bytes_from-are, put-small}
 use Rattle.flat_memory.proofs.Machine.{loads_read_bytes, stores_put_bytes, numbers_of_accesses}
-use Rattle.frame_accesses.specs.Items.{near_size, frame_item, frame_load, frame_store, frame_address, register_move}
+use Rattle.frame_accesses.specs.Items.{near_size, frame_load, frame_store, frame_address, register_move}
 use Rattle.frame_accesses.specs.Laws.{IsAt, HasCome, IsOffset, IsValueRegister, LoadDone, StoreDone, WordDone}
 
 -- ---- states with the same memory

@@ -1,11 +1,11 @@
 -- What the machine does at the items that reach its frame.
-use Rattle.std.specs.Prelude.{◌≡◌, ◌≢◌, ℕ, ◌+◌, ◌^◌, ◌<◌, ◌≤◌, Bool, List, ◌++◌, length}
+use Rattle.std.specs.Prelude.{◌≡◌, ◌≢◌, ℕ, ◌+◌, ◌^◌, ◌<◌, ◌≤◌, List, ◌++◌, length}
 use Rattle.alpha_isa.specs.Program.{Program, IsLawful, word_address}
 use Rattle.alpha_isa.specs.State.{State, register}
 use Rattle.alpha_items.specs.declared.item.AsmItem.{AsmItem}
 use Rattle.item_steps.specs.Standing.{Labels, ItemsAt}
 use Rattle.item_steps.specs.Steps.{Comes}
-use Rattle.flat_memory.specs.Bytes.{Bytes, bytes_from, put_bytes, low_bytes, number_from}
+use Rattle.flat_memory.specs.Bytes.{bytes_from, put_bytes, low_bytes, number_from}
 use Rattle.flat_memory.specs.Machine.{memory_bytes, is_reached, HasParts, IsReached}
 use Rattle.frame_accesses.specs.Items.{frame_load, frame_store, frame_address, register_move}
 

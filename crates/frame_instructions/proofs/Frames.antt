@@ -16,9 +16,9 @@ use Rattle.flat_memory.specs.Relation.{Extent, IsExtent, OfFrame, Nobody, Argume
 use Rattle.flat_memory.specs.Machine.{memory_bytes, IsReached}
 use Rattle.flat_operations.specs.Contents.{ContentIs}
 use Rattle.flat_frames.specs.Shapes.{frame_size, argument_at, object_at, bytes_before}
-use Rattle.flat_frames.specs.Frames.{put_word, word_in, FrameAndMemory}
+use Rattle.flat_frames.specs.Frames.{put_word, word_in, FrameAndMemory, KeepsUnwritten}
 use Rattle.flat_frames.proofs.Shapes.{pieces_of}
-use Rattle.flat_frames.proofs.Frames.{argument-word, arguments_are_put}
+use Rattle.flat_frames.proofs.Frames.{unwritten-put, own-written, argument-word, arguments_are_put}
 use Rattle.frame_accesses.specs.Items.{frame_load, frame_store, frame_address}
 use Rattle.frame_accesses.specs.Laws.{IsValueRegister}
 use Rattle.frame_accesses.proofs.Runs.{stands, frame_loads, frame_stores, frame_addresses, bytes-same, reached-same, parts-same}
@@ -66,6 +66,12 @@ module _ (p : Program) (there : Labels) (rest : List AsmItem) (end : ℕ) (c : C
         knows = knows;
         input = d.come.input;
         output = d.come.output;
+        kept = record {
+          reach = d.come.reached;
+          bytes = subst (KeepsUnwritten c.owner c.depth (memory_bytes p s)) (sym bytes)
+              (unwritten-put c.owner c.depth (memory_bytes p s) (c.sp + argument_at k) (register s r) (OfFrame c.depth (ArgumentPiece k)) mine
+              (own-written c.depth (ArgumentPiece k) refl));
+        };
       }
     where
       owned : OfFrame c.depth (ArgumentPiece k) ≡ Nobody → ⊥

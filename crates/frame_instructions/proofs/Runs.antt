@@ -30,11 +30,11 @@ use Rattle.flat_operations.specs.Steps.{HasMemory}
 use Rattle.flat_operations.proofs.Operations.{moves_correspond, tests_correspond}
 use Rattle.flat_operations.proofs.Steps.{loads_step, stores_step}
 use Rattle.flat_frames.specs.Frames.{FrameAndMemory}
-use Rattle.flat_frames.proofs.Frames.{frames_stay, registers_are_put}
+use Rattle.flat_frames.proofs.Frames.{unwritten-objects, frames_stay, registers_are_put}
 use Rattle.frame_accesses.specs.Laws.{HasCome, IsValueRegister}
 use Rattle.frame_accesses.proofs.Runs.{stands, word-written, bytes-same, reached-same, parts-same}
 use Rattle.frame_transfers.specs.Laws.{Call, StandsFor, KnowsValues, HasDone}
-use Rattle.frame_transfers.proofs.Runs.{frame-with_register, knows-more}
+use Rattle.frame_transfers.proofs.Runs.{frame-with_register, knows-more, kept-same}
 use Rattle.frame_instructions.specs.Laws.{StandsIn, GivesRegister, BranchIsDone}
 
 module _ (p : Program) (there : Labels) (rest : List AsmItem) (end : ℕ) (c : Call) (m : memory.Memory) (known : ℕ → Bool) (store : Places) (s : State) (knows : KnowsValues known) where
@@ -55,6 +55,7 @@ module _ (p : Program) (there : Labels) (rest : List AsmItem) (end : ℕ) (c : C
     knows = knows-more known r knows value;
     input = come.input;
     output = come.output;
+    kept = kept-same p c s t come.reached bytes;
   }
 
   has-memory : (items : List AsmItem) → StandsFor p there items end c m known store s → HasMemory c.extents m c.owner p s
@@ -109,6 +110,7 @@ module _ (p : Program) (there : Labels) (rest : List AsmItem) (end : ℕ) (c : C
         knows = knows;
         input = x.input;
         output = x.output;
+        kept = record { reach = x.reach; bytes = unwritten-objects c.owner c.depth (memory_bytes p s) (memory_bytes p x.to) (record { same = x.others }) };
       }
 
   -- ---- moves
@@ -153,6 +155,7 @@ module _ (p : Program) (there : Labels) (rest : List AsmItem) (end : ℕ) (c : C
       record {
         to = d.to;
         comes = d.comes;
+        some = d.some;
         next = d.next;
         behind = d.items_at;
         stands = λ items last at. record {
@@ -174,4 +177,5 @@ module _ (p : Program) (there : Labels) (rest : List AsmItem) (end : ℕ) (c : C
         };
         input = d.same.input;
         output = d.same.output;
+        kept = kept-same p c s d.to (reached-same p s d.to d.same) (bytes-same p s d.to d.same);
       }

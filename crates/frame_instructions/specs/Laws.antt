@@ -1,5 +1,5 @@
 -- What the machine does at the items of instructions on registers.
-use Rattle.std.specs.Prelude.{◌≡◌, ℕ, ◌<◌, ◌⊎◌, ℤ, Bool, true, List, ◌∷◌, Some, if◌then◌else◌}
+use Rattle.std.specs.Prelude.{◌≡◌, ℕ, ◌<◌, ◌≤◌, ◌⊎◌, ℤ, Bool, true, List, ◌∷◌, Some, if◌then◌else◌}
 use Rattle.alpha_isa.specs.declared.insn.Fields.TheVariants.{Memory}
 use Rattle.alpha_isa.specs.declared.insn.MemoryOp.TheVariants.{Lda}
 use Rattle.alpha_isa.specs.Arithmetic.{word_from}
@@ -21,7 +21,7 @@ use Rattle.alloc_model.specs.Stores.{put}
 use Rattle.alloc_model.specs.Places.{Places, Reg, place_eq}
 use Rattle.flat_frames.specs.Frames.{with_known}
 use Rattle.frame_accesses.specs.Laws.{IsValueRegister}
-use Rattle.frame_transfers.specs.Laws.{Call, IsCall, StandsFor, KnowsValues, HasDone}
+use Rattle.frame_transfers.specs.Laws.{Call, IsCall, StandsFor, KnowsValues, IsKept, HasDone}
 
 -- a content stands in a register: that of a known one, or zero in register 31
 abbrev pub StandsIn : (known : ℕ → Bool) → Places → (register : ℕ) → Content → Type 0
@@ -77,12 +77,14 @@ pub record BranchIsDone (p : Program) (there : Labels) (rest : List AsmItem) (en
     (known : ℕ → Bool) (store : Places) (l : ℕ) (taken : Bool) (s : State) : Type 0 where
   pub to : State
   pub comes : Comes p s to
+  pub some : 1 ≤ comes.steps
   pub next : ℕ
   pub behind : ItemsAt p there next rest end
   pub stands : (items : List AsmItem) (last : ℕ) →
       ItemsAt p there (if taken then there l else next) items last → StandsFor p there items last c m known store to
   pub input : to.input ≡ s.input
   pub output : to.output ≡ s.output
+  pub kept : IsKept p c s to
 
 abbrev pub BranchesAreDone : Type 0
 BranchesAreDone =

@@ -15,16 +15,16 @@ use Rattle.alloc_model.specs.Stores.{put}
 use Rattle.alloc_model.specs.Places.{Places, Reg, Slot, place_eq, source_of, target_of, do_all}
 use Rattle.flat_memory.specs.Bytes.{Bytes}
 use Rattle.flat_memory.specs.Relation.{Extents, Owners, OfFrame, Nobody, SlotPiece}
-use Rattle.flat_memory.specs.Machine.{memory_bytes, IsReached}
+use Rattle.flat_memory.specs.Machine.{memory_bytes, is_reached, IsReached}
 use Rattle.flat_operations.specs.Contents.{ContentIs}
 use Rattle.flat_frames.specs.Shapes.{Shape, slot_at}
-use Rattle.flat_frames.specs.Frames.{word_in, put_word, FrameAndMemory, with_known}
+use Rattle.flat_frames.specs.Frames.{word_in, put_word, FrameAndMemory, with_known, KeepsUnwritten}
 use Rattle.flat_frames.proofs.Shapes.{pieces_of}
-use Rattle.flat_frames.proofs.Frames.{slot-word, slots_are_put, registers_are_put}
+use Rattle.flat_frames.proofs.Frames.{unwritten-put, own-written, slot-word, slots_are_put, registers_are_put}
 use Rattle.frame_accesses.specs.Laws.{IsOffset, IsValueRegister}
 use Rattle.frame_accesses.proofs.Runs.{frame_loads, frame_stores, register_moves, stays}
 use Rattle.frame_transfers.specs.Items.{transfer_items, items_of_transfers}
-use Rattle.frame_transfers.specs.Laws.{Call, IsCall, StandsFor, KnowsValues, known_after, known_behind, CanTransfer, CanTransferAll, HasDone}
+use Rattle.frame_transfers.specs.Laws.{Call, IsCall, StandsFor, KnowsValues, known_after, known_behind, CanTransfer, CanTransferAll, IsKept, HasDone}
 
 -- a register more holds a content
 pub frame-with_register : (xs : Extents) (memory : Memory) (owner : Owners) (m : Bytes) (sp depth own : ℕ) (s : Shape) (store : Places) (r : ℕ) (c : Content) → FrameAndMemory xs memory owner m sp depth own s store → FrameAndMemory xs memory owner m sp depth own s (put place_eq (Reg r) c store)
@@ -44,6 +44,13 @@ knows-more known r knows value q e = ⊎_elim
     (λ (f : (q == r) ≡ true). subst IsValueRegister (sym (eqb-true q r f)) value)
     (λ f. knows q f)
     (or_cases (q == r) (known q) e)
+
+-- where no byte has changed
+pub kept-same : (p : Program) (c : Call) (s t : State) → ((y : ℕ) → is_reached p t y ≡ is_reached p s y) → memory_bytes p t ≡ memory_bytes p s → IsKept p c s t
+kept-same p c s t reach same = record { reach = reach; bytes = λ y e. ap (λ (m : Bytes). m y) same }
+
+pub kept-through : (p : Program) (c : Call) (s t u : State) → IsKept p c s t → IsKept p c t u → IsKept p c s u
+kept-through p c s t u a b = record { reach = λ y. b.reach y ∙ a.reach y; bytes = λ y e. b.bytes y e ∙ a.bytes y e }
 
 module _ (p : Program) (there : Labels) (rest : List AsmItem) (end : ℕ) (c : Call) (memory : Memory) (call : IsCall c) where
   -- the slot of a temporary may be accessed
@@ -93,6 +100,13 @@ module _ (p : Program) (there : Labels) (rest : List AsmItem) (end : ℕ) (c : C
         knows = knows;
         input = d.come.input;
         output = d.come.output;
+        kept = record {
+          reach = d.come.reached;
+          bytes = subst (KeepsUnwritten c.owner c.depth (memory_bytes p s)) (sym bytes)
+              (unwritten-put c.owner c.depth (memory_bytes p s) (c.sp + slot_at c.shape t) (register s r) (OfFrame c.depth (SlotPiece t))
+              (slot-word c.extents c.owner (memory_bytes p s) c.sp c.depth c.own c.shape store h.frame.frame t can.0)
+              (own-written c.depth (SlotPiece t) refl));
+        };
       }
   transfer-done (Load t r) known store s knows can h =
       let slot = slot-reached t (transfer_items c.shape (Load t r) ++ rest) known store s can.0 h in
@@ -115,6 +129,7 @@ module _ (p : Program) (there : Labels) (rest : List AsmItem) (end : ℕ) (c : C
         knows = knows-more known r knows can.1;
         input = d.come.input;
         output = d.come.output;
+        kept = kept-same p c s d.to d.come.reached d.bytes;
       }
   transfer-done (Shift t from to) known store s knows can h =
       let d = register_moves p there h.word from to rest end s h.is_at can.1 in
@@ -135,13 +150,14 @@ module _ (p : Program) (there : Labels) (rest : List AsmItem) (end : ℕ) (c : C
         knows = knows-more known to knows can.1;
         input = d.come.input;
         output = d.come.output;
+        kept = kept-same p c s d.to d.come.reached d.bytes;
       }
 
 -- several transfers
 pub transfers_are_done : (p : Program) (there : Labels) (rest : List AsmItem) (end : ℕ) (c : Call) (memory : Memory) → IsCall c → (xs : List Transfer) (known : ℕ → Bool) (store : Places) (s : State) → KnowsValues known → CanTransferAll c.shape known xs → StandsFor p there (items_of_transfers c.shape xs rest) end c memory known store s → HasDone p there rest end c memory (known_behind xs known) (do_all xs store) s
 transfers_are_done p there rest end c memory call [] known store s knows can h =
-    record { to = s; comes = stays p s; stands = h; knows = knows; input = refl; output = refl }
+    record { to = s; comes = stays p s; stands = h; knows = knows; input = refl; output = refl; kept = kept-same p c s s (λ y. refl) refl }
 transfers_are_done p there rest end c memory call (x ∷ xs) known store s knows can h =
     let d = transfer-done p there (items_of_transfers c.shape xs rest) end c memory call x known store s knows can.0 h in
     let e = transfers_are_done p there rest end c memory call xs (known_after x known) (put place_eq (target_of x) (store (source_of x)) store) d.to d.knows can.1 d.stands in
-    record { to = e.to; comes = steps_add_up p s d.to e.to d.comes e.comes; stands = e.stands; knows = e.knows; input = e.input ∙ d.input; output = e.output ∙ d.output }
+    record { to = e.to; comes = steps_add_up p s d.to e.to d.comes e.comes; stands = e.stands; knows = e.knows; input = e.input ∙ d.input; output = e.output ∙ d.output; kept = kept-through p c s d.to e.to d.kept e.kept }

@@ -12,7 +12,7 @@ use Rattle.alloc_model.specs.Places.{Places, do_all}
 use Rattle.flat_memory.specs.Relation.{Extents, Owners, Nobody}
 use Rattle.flat_memory.specs.Machine.{memory_bytes, is_reached}
 use Rattle.flat_frames.specs.Shapes.{Shape, frame_size}
-use Rattle.flat_frames.specs.Frames.{FrameAndMemory, RegistersAre, with_known}
+use Rattle.flat_frames.specs.Frames.{FrameAndMemory, RegistersAre, with_known, KeepsUnwritten}
 use Rattle.frame_accesses.specs.Laws.{IsAt, IsValueRegister}
 use Rattle.frame_transfers.specs.Items.{items_of_transfers}
 
@@ -65,6 +65,11 @@ abbrev pub CanTransferAll : Shape → (known : ℕ → Bool) → List Transfer �
 CanTransferAll s known [] = Unit {0}
 CanTransferAll s known (x ∷ xs) = CanTransfer s known x × CanTransferAll s (known_after x known) xs
 
+-- what may be accessed is as before, and so are the bytes that no instruction of the call writes
+pub record IsKept (p : Program) (c : Call) (s t : State) : Type 0 where
+  pub reach : (y : ℕ) → is_reached p t y ≡ is_reached p s y
+  pub bytes : KeepsUnwritten c.owner c.depth (memory_bytes p s) (memory_bytes p t)
+
 -- the machine has come to other items, for other contents of the call
 pub record HasDone (p : Program) (there : Labels) (rest : List AsmItem) (end : ℕ) (c : Call) (memory : Memory)
     (known : ℕ → Bool) (store : Places) (s : State) : Type 0 where
@@ -74,6 +79,7 @@ pub record HasDone (p : Program) (there : Labels) (rest : List AsmItem) (end : �
   pub knows : KnowsValues known
   pub input : to.input ≡ s.input
   pub output : to.output ≡ s.output
+  pub kept : IsKept p c s to
 
 abbrev pub TransfersAreDone : Type 0
 TransfersAreDone =

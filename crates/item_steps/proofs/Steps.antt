@@ -31,6 +31,15 @@ use Rattle.item_steps.proofs.Standing.{insn-at}
 pub steps_add_up : (p : Program) (s t u : State) → Comes p s t → Comes p t u → Comes p s u
 steps_add_up p s t u a b = record { steps = a.steps + b.steps; run = exec_split p a.steps b.steps s ∙ ap (λ n. go_on n (exec p b.steps)) a.run ∙ b.run }
 
+-- a sum of steps has some where a part has some
+pub first-some : (p : Program) (s t u : State) (a : Comes p s t) (b : Comes p t u) → 1 ≤ a.steps → 1 ≤ (steps_add_up p s t u a b).steps
+unfolding steps_add_up
+first-some p s t u a b h = omega (arith, h)
+
+pub second-some : (p : Program) (s t u : State) (a : Comes p s t) (b : Comes p t u) → 1 ≤ b.steps → 1 ≤ (steps_add_up p s t u a b).steps
+unfolding steps_add_up
+second-some p s t u a b h = omega (arith, h)
+
 -- one step, by the instruction that stands where the machine is
 one-exec : (p : Program) (s : State) (i : Fields) → instruction_at p s.pc ≡ Some i → exec p 1 s ≡ go_on (insn_step p i s) (exec p 0)
 unfolding exec step
@@ -42,6 +51,10 @@ no-more p t = refl
 
 one-step : (p : Program) (s t : State) (i : Fields) → instruction_at p s.pc ≡ Some i → insn_step p i s ≡ Goes t → Comes p s t
 one-step p s t i e f = record { steps = 1; run = one-exec p s i e ∙ ap (λ n. go_on n (exec p 0)) f ∙ no-more p t }
+
+one-some : (p : Program) (s t : State) (i : Fields) (e : instruction_at p s.pc ≡ Some i) (f : insn_step p i s ≡ Goes t) → 1 ≤ (one-step p s t i e f).steps
+unfolding one-step
+one-some p s t i e f = omega arith
 
 one-end : (p : Program) (s t : State) (i : Fields) (h : Halt) → instruction_at p s.pc ≡ Some i → insn_step p i s ≡ Over h t → exec p 1 s ≡ Over h t
 one-end p s t i h e f = one-exec p s i e ∙ ap (λ n. go_on n (exec p 0)) f
@@ -252,9 +265,11 @@ module _ (p : Program) (there : Labels) (w ra l : ℕ) (items : List AsmItem) (e
       ap (λ k. word_at (k + 4 + word_from (displacement w (there l) *ℤ pos 4))) stands ∙ near-target (displacement w (there l) *ℤ pos 4) w (there l) refl (omega (arith, below, n)) (omega (arith, m, n)) in
       let linked = if links op then with_register ra (next_pc s) s else s in
       let t = record linked { pc = if is_taken op (register s ra) then branch_target s (displacement w (there l)) else next_pc s } in
+      let is = fetched p w 0 (fields.Branch op ra (displacement w (there l)) ∷ []) (fields.Branch op ra (displacement w (there l))) s.pc h (omega arith) refl (stands ∙ ap word_address (sym none)) in
       record {
         to = t;
-        comes = one-step p s t (fields.Branch op ra (displacement w (there l))) (fetched p w 0 (fields.Branch op ra (displacement w (there l)) ∷ []) (fields.Branch op ra (displacement w (there l))) s.pc h (omega arith) refl (stands ∙ ap word_address (sym none))) refl;
+        comes = one-step p s t (fields.Branch op ra (displacement w (there l))) is refl;
+        some = one-some p s t (fields.Branch op ra (displacement w (there l))) is refl;
         next = w + 1;
         items_at = rest;
         pc = chosen (is_taken op (register s ra)) target behind;
@@ -276,6 +291,7 @@ module _ (p : Program) (there : Labels) (w ra l : ℕ) (items : List AsmItem) (e
   record JumpDone (link v : ℕ) (u : State) : Type 0 where
     to : State
     comes : Comes p u to
+    some : 1 ≤ comes.steps
     pc : to.pc ≡ word_address (there l)
     registers : (r : ℕ) → r ≢ 28 → register to r ≡ register (with_register link (word_address v) u) r
     words : HoldsWords u → HoldsWords to
@@ -292,9 +308,11 @@ module _ (p : Program) (there : Labels) (w ra l : ℕ) (items : List AsmItem) (e
       let agree = λ (q : ℕ) (ne : q ≢ 28). a.has.others q ne in
       let below = within-text p from (far_jump op link) h (omega arith) in
       let n = lawful_image.words in
+      let is = fetched p from 2 (far_jump op link) (fields.Jump op link 28) (a.to).pc h (omega arith) refl a.pc in
       record {
         to = t;
-        comes = steps_add_up p u a.to t a.comes (one-step p a.to t (fields.Jump op link 28) (fetched p from 2 (far_jump op link) (fields.Jump op link 28) (a.to).pc h (omega arith) refl a.pc) refl);
+        comes = steps_add_up p u a.to t a.comes (one-step p a.to t (fields.Jump op link 28) is refl);
+        some = second-some p u a.to t a.comes (one-step p a.to t (fields.Jump op link 28) is refl) (one-some p a.to t (fields.Jump op link 28) is refl);
         pc = target;
         registers = λ r ne. ap (λ v. register (with_register link v a.to) r) behind ∙ with-agree link (word_address (from + 3)) u a.to link32 ulen alen agree r ne;
         words = λ words. words-with link (next_pc a.to) a.to link32 alen (omega (arith, behind, below, n)) (loaded-words a.to a.has words);
@@ -319,6 +337,7 @@ module _ (p : Program) (there : Labels) (w ra l : ℕ) (items : List AsmItem) (e
       record {
         to = j.to;
         comes = j.comes;
+        some = j.some;
         next = w + 3;
         items_at = rest;
         pc = j.pc ∙ ap (λ b. word_address (if b then there l else w + 3)) (sym taken);
@@ -331,6 +350,7 @@ module _ (p : Program) (there : Labels) (w ra l : ℕ) (items : List AsmItem) (e
   record FarDone (op : BranchOp) : Type 0 where
     to : State
     comes : Comes p s to
+    some : 1 ≤ comes.steps
     pc : to.pc ≡ word_address (if is_taken op (register s ra) then there l else w + 4)
     registers : (r : ℕ) → r ≢ 28 → register to r ≡ register s r
     words : HoldsWords s → HoldsWords to
@@ -345,28 +365,32 @@ module _ (p : Program) (there : Labels) (w ra l : ℕ) (items : List AsmItem) (e
       let behind : next_pc s ≡ word_address (w + 1) = ap (λ k. k + 4) stands ∙ (let e : word_address w + 4 ≡ word_address (w + 1) = omega arith in e) in
       let linked = if links (inverse op) then with_register ra (next_pc s) s else s in
       let t = record linked { pc = if is_taken (inverse op) (register s ra) then branch_target s (pos 3) else next_pc s } in
-      let first = one-step p s t (fields.Branch (inverse op) ra (pos 3)) (fetched p w 0 (fields.Branch (inverse op) ra (pos 3) ∷ far_jump Jmp 31) (fields.Branch (inverse op) ra (pos 3)) s.pc h (omega arith) refl (stands ∙ ap word_address (sym none))) refl in
+      let is = fetched p w 0 (fields.Branch (inverse op) ra (pos 3) ∷ far_jump Jmp 31) (fields.Branch (inverse op) ra (pos 3)) s.pc h (omega arith) refl (stands ∙ ap word_address (sym none)) in
+      let first = one-step p s t (fields.Branch (inverse op) ra (pos 3)) is refl in
+      let some = one-some p s t (fields.Branch (inverse op) ra (pos 3)) is refl in
       let same : SameElse s t = same-through s linked t (link-same (links (inverse op)) (next_pc s)) (same-at linked t.pc) in
       let regs = λ (r : ℕ). ap (λ x. register (if x then with_register ra (next_pc s) s else s) r) no_link in
-      by_test b taken (ap (λ x. if x then branch_target s (pos 3) else next_pc s) passed) over behind t first same regs refl
+      by_test b taken (ap (λ x. if x then branch_target s (pos 3) else next_pc s) passed) over behind t first some same regs refl
     where
       jump-at : InsnsAt p (w + 1) (far_jump Jmp 31)
       jump-at k lt = let e : w + 1 + k ≡ w + suc k = omega arith in ap (λ j. instruction_at p (word_address j)) e ∙ h (suc k) (omega arith)
 
-      by_test : (b : Bool) → is_taken op (register s ra) ≡ b → (if is_taken (inverse op) (register s ra) then branch_target s (pos 3) else next_pc s) ≡ (if not b then branch_target s (pos 3) else next_pc s) → branch_target s (pos 3) ≡ word_address (w + 4) → next_pc s ≡ word_address (w + 1) → (t : State) → Comes p s t → SameElse s t → ((r : ℕ) → register t r ≡ register s r) → t.pc ≡ (if is_taken (inverse op) (register s ra) then branch_target s (pos 3) else next_pc s) → FarDone op
-      by_test false taken at over behind t first same regs tpc = record {
+      by_test : (b : Bool) → is_taken op (register s ra) ≡ b → (if is_taken (inverse op) (register s ra) then branch_target s (pos 3) else next_pc s) ≡ (if not b then branch_target s (pos 3) else next_pc s) → branch_target s (pos 3) ≡ word_address (w + 4) → next_pc s ≡ word_address (w + 1) → (t : State) (first : Comes p s t) → 1 ≤ first.steps → SameElse s t → ((r : ℕ) → register t r ≡ register s r) → t.pc ≡ (if is_taken (inverse op) (register s ra) then branch_target s (pos 3) else next_pc s) → FarDone op
+      by_test false taken at over behind t first some same regs tpc = record {
         to = t;
         comes = first;
+        some = some;
         pc = tpc ∙ at ∙ over ∙ ap (λ x. word_address (if x then there l else w + 4)) (sym taken);
         registers = λ r ne. regs r;
         words = λ words r. subst (λ k. k < 2 ^ 64) (sym (regs r)) (words r);
         same = same;
       }
-      by_test true taken at over behind t first same regs tpc =
+      by_test true taken at over behind t first some same regs tpc =
           let j = jumped Jmp 31 (w + 1) t (omega arith) (same.registers ∙ len) (tpc ∙ at ∙ behind) jump-at in
           record {
             to = j.to;
             comes = steps_add_up p s t j.to first j.comes;
+            some = first-some p s t j.to first j.comes some;
             pc = j.pc ∙ ap (λ x. word_address (if x then there l else w + 4)) (sym taken);
             registers = λ r ne. j.registers r ne ∙ read-lost 31 r (word_address (w + 1 + 3)) t refl ∙ regs r;
             words = λ words. j.words (λ r. subst (λ k. k < 2 ^ 64) (sym (regs r)) (words r));
@@ -377,6 +401,7 @@ module _ (p : Program) (there : Labels) (w ra l : ℕ) (items : List AsmItem) (e
   far-branch op no_link f rest = record {
     to = f.to;
     comes = f.comes;
+    some = f.some;
     next = w + 4;
     items_at = rest;
     pc = f.pc;

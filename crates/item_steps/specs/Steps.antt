@@ -84,6 +84,7 @@ pub record BranchDone (p : Program) (there : Labels) (op : BranchOp) (ra l : ℕ
     (s : State) : Type 0 where
   pub to : State
   pub comes : Comes p s to
+  pub some : 1 ≤ comes.steps
   pub next : ℕ
   pub items_at : ItemsAt p there next items end
   pub pc : to.pc ≡ word_address (if is_taken op (register s ra) then there l else next)

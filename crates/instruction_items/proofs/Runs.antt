@@ -1,0 +1,300 @@
+-- What the machine does at the items of each instruction that is no call.
+use Rattle.std.proofs.Common.{◌≡◌, ◌≢◌, ℕ, ◌+◌, ◌<◌, ◌≤◌, Bool, true, false, List, [], ◌∷◌, ◌++◌, length, Option, Some, None, refl, sym, ap, ◌∙◌, subst, arith, ⊎_elim}
+use Rattle.std.specs.Prelude.{◌==◌, ◌||◌, nat_lt, ℤ, if◌then◌else◌}
+use Rattle.std.proofs.Math.Path.{fun_ext}
+use Rattle.std.proofs.lemmas.Bool.{or_cases, eqb-true, ltb-true}
+use Rattle.alpha_isa.specs.declared.insn.Fields.TheVariants as fields
+use Rattle.alpha_isa.specs.declared.insn.Operand as isa
+use Rattle.alpha_isa.specs.declared.insn.MemoryOp.TheVariants.{Lda}
+use Rattle.alpha_isa.specs.declared.insn.BranchOp.TheVariants.{Br}
+use Rattle.alpha_isa.specs.Lawful.{IsDisplacement}
+use Rattle.alpha_isa.specs.Arithmetic.{word_from}
+use Rattle.alpha_isa.specs.Program.{Program, word_address}
+use Rattle.alpha_isa.specs.State.{State, register}
+use Rattle.alpha_items.specs.declared.item.AsmItem.{AsmItem}
+use Rattle.alpha_items.specs.declared.item.AsmItem.TheVariants.{Plain, Branch}
+use Rattle.item_steps.specs.Standing.{Labels, ItemsAt}
+use Rattle.item_steps.proofs.Steps.{branches_step, read-lost}
+use Rattle.mem_model.specs.declared.value.Value.TheVariants.{Word, Address, Unset}
+use Rattle.mem_model.specs.Memory as memory
+use Rattle.mem_model.specs.World.{Outer, outer_with_memory}
+use Rattle.machine_model.specs.Code.{HasNoMeaning, Act, Writes, Stops}
+use Rattle.suifvm_ir.specs.declared.insn.Place.{Place}
+use Rattle.suifvm_ir.specs.declared.insn.Place.TheVariants.{Global, Local}
+use Rattle.temp_ir.specs.declared.operation.AddressOp.{AddressOp}
+use Rattle.temp_ir.specs.declared.operation.LoadOp.{LoadOp}
+use Rattle.temp_ir.specs.declared.operation.StoreOp.{StoreOp}
+use Rattle.temp_ir.specs.declared.operation.BranchOp.{BranchOp}
+use Rattle.temp_ir.specs.declared.operation.Operation.{Operation}
+use Rattle.temp_ir.specs.declared.operation.ExtendOp.{ExtendOp}
+use Rattle.temp_ir.specs.declared.insn.FixedRegister.{FixedRegister}
+use Rattle.temp_ir.specs.declared.insn.FixedRegister.TheVariants as fixed
+use Rattle.temp_ir.specs.declared.insn.Source.{Source}
+use Rattle.temp_ir.specs.declared.insn.Operand.{Operand}
+use Rattle.temp_ir.specs.declared.insn.TempInsn.{TempInsn}
+use Rattle.temp_ir.specs.declared.insn.TempInsn.TheVariants as i
+use Rattle.temp_ir.specs.Fixed.{register_number, ended_of, has_number}
+use Rattle.temp_ir.specs.Operations.{address_op, load_op, store_op, branch_op, operate_op, extend_op}
+use Rattle.alloc_model.specs.declared.allocation.Transfer.TheVariants.{Shift}
+use Rattle.alloc_model.specs.Contents as contents
+use Rattle.alloc_model.specs.Contents.{Content, Bundle, unset, Answer, Gives, TrapsWith, Fails, content_answer, operate_answer, extend_answer, moved_by, moved_content, loaded_content, stored_memory, test_of}
+use Rattle.alloc_model.specs.Stores.{put, put_all, without}
+use Rattle.alloc_model.specs.Effect.{does, writes, changes, branches, is_call, argument_answer}
+use Rattle.alloc_model.specs.Places as places
+use Rattle.alloc_model.specs.Places.{Places, Reg, Slot, In, Out, place_eq, places_written_at, is_ended}
+use Rattle.flat_memory.specs.Bytes.{Bytes, AreBytes}
+use Rattle.flat_memory.specs.Machine.{memory_bytes}
+use Rattle.flat_operations.specs.Contents.{ContentIs}
+use Rattle.flat_frames.specs.Shapes.{frame_size, argument_at, object_at}
+use Rattle.flat_frames.specs.Frames.{word_in, FrameAndMemory, with_known}
+use Rattle.frame_accesses.specs.Items.{frame_load, frame_store, frame_address, register_move}
+use Rattle.frame_accesses.proofs.Runs.{stands, bytes-same, reached-same, parts-same}
+use Rattle.frame_transfers.specs.Laws.{Call, IsCall, StandsFor, KnowsValues, HasDone}
+use Rattle.frame_transfers.proofs.Runs.{transfers_are_done, kept-same}
+use Rattle.frame_instructions.specs.Laws.{StandsIn, GivesRegister}
+use Rattle.frame_instructions.specs.FrameLaws.{address_content}
+use Rattle.frame_instructions.specs.OperationLaws.{IsSecond, DoesAnswer}
+use Rattle.frame_instructions.proofs.Runs.{loads_are_done, stores_are_done, moves_are_done, sets_are_done, branches_are_done}
+use Rattle.frame_instructions.proofs.Operations.{operations_are_done, extensions_are_done}
+use Rattle.frame_instructions.proofs.Frames.{arguments_are_written, arguments_are_read, locals_have_addresses, globals_have_addresses}
+use Rattle.instruction_items.specs.Items.{Setting, insn_items}
+use Rattle.instruction_items.specs.Laws.{usable, IsThere, IsHeldArgument, ArgumentIs, ArgumentsAre, HasOuter, IsBehind, IsAtLabel, ActIsDone, store_behind}
+
+-- ---- registers in which values may stand
+
+pub usable-low : (r : ℕ) → usable r ≡ true → r < 28
+usable-low r e = ⊎_elim
+    (λ (f : nat_lt r 26 ≡ true). let lt = ltb-true r 26 f in omega (arith, lt))
+    (λ f. let is = eqb-true r 27 f in omega (arith, is))
+    (or_cases (nat_lt r 26) (r == 27) e)
+
+pub usable-values : KnowsValues usable
+usable-values r e = let lt = usable-low r e in omega (arith, lt)
+
+-- one more that was among them already
+pub more-usable : (r : ℕ) → usable r ≡ true → with_known usable r ≡ usable
+more-usable r e = fun_ext (λ q. by_test q (q == r) refl)
+  where
+    by_test : (q : ℕ) (b : Bool) → (q == r) ≡ b → (b || usable q) ≡ usable q
+    by_test q true f = sym (ap usable (eqb-true q r f) ∙ e)
+    by_test q false f = refl
+
+pub fixed-usable : (f : FixedRegister) → usable (register_number f) ≡ true
+fixed-usable fixed.Value = refl
+fixed-usable fixed.Argument0 = refl
+fixed-usable fixed.Argument1 = refl
+fixed-usable fixed.Argument2 = refl
+fixed-usable fixed.Argument3 = refl
+fixed-usable fixed.Argument4 = refl
+fixed-usable fixed.Argument5 = refl
+fixed-usable fixed.Dividend = refl
+fixed-usable fixed.Divisor = refl
+fixed-usable fixed.Answer = refl
+
+-- an instruction that ends nothing
+pub nothing-ended : (x : TempInsn) (store : Places) → ended_of x ≡ [] → is_call x ≡ false → without (is_ended x) store ≡ store
+nothing-ended x store e f = fun_ext (λ q. ap (λ b. if b then unset else store q) (none q))
+  where
+    none : (q : places.Place) → is_ended x q ≡ false
+    none (Reg r) = ap (λ l. has_number l r) e
+    none (Slot t) = refl
+    none (In k) = refl
+    none (Out k) = f
+
+-- ---- lists of so many registers
+
+pub no-registers : (rs : List ℕ) → length rs ≡ 0 → rs ≡ []
+no-registers [] e = refl
+no-registers (a ∷ rs) e = absurd (cc)
+
+pub one-register : (rs : List ℕ) → length rs ≡ 1 → (a : ℕ) × (rs ≡ a ∷ [])
+one-register [] e = absurd (cc)
+one-register (a ∷ []) e = (a, refl)
+one-register (a ∷ b ∷ rs) e = absurd (omega (arith, e))
+
+pub two-registers : (rs : List ℕ) → length rs ≡ 2 → (a : ℕ) × (b : ℕ) × (rs ≡ a ∷ b ∷ [])
+two-registers [] e = absurd (cc)
+two-registers (a ∷ []) e = absurd (omega (arith, e))
+two-registers (a ∷ b ∷ []) e = (a, b, refl)
+two-registers (a ∷ b ∷ d ∷ rs) e = absurd (omega (arith, e))
+
+pub three-registers : (rs : List ℕ) → length rs ≡ 3 → (a : ℕ) × (b : ℕ) × (d : ℕ) × (rs ≡ a ∷ b ∷ d ∷ [])
+three-registers [] e = absurd (cc)
+three-registers (a ∷ []) e = absurd (omega (arith, e))
+three-registers (a ∷ b ∷ []) e = absurd (omega (arith, e))
+three-registers (a ∷ b ∷ d ∷ []) e = (a, b, d, refl)
+three-registers (a ∷ b ∷ d ∷ f ∷ rs) e = absurd (omega (arith, e))
+
+module _ (p : Program) (there : Labels) (g : Setting) (rest : List AsmItem) (end : ℕ) (c : Call) (o : Outer) (store : Places) (s : State) (call : IsCall c) (shape : g.shape ≡ c.shape) (args : ArgumentsAre c store p s) (outer : HasOuter o s) where
+  -- the machine stands at items, and does what an act is
+  abbrev Here : List AsmItem → Type 0
+  Here items = StandsFor p there (items ++ rest) end c o.memory usable store s
+
+  abbrev Done : List ℕ → TempInsn → Act Content → Type 0
+  Done rs x a = ActIsDone p there g rest end c (store_behind rs x store) x s a
+
+  behind : (new : Outer) (known : ℕ → Bool) (held : Places) → known ≡ usable → new.input ≡ o.input → new.output ≡ o.output → HasDone p there rest end c new.memory known held s → IsBehind p there rest end c new held s
+  behind new known held e input output d = record {
+    to = d.to;
+    comes = d.comes;
+    stands = subst (λ k. StandsFor p there rest end c new.memory k held d.to) e d.stands;
+    outer = record { input = d.input ∙ outer.input ∙ sym input; output = d.output ∙ outer.output ∙ sym output; bytes = subst AreBytes (sym input) outer.bytes };
+    kept = d.kept;
+  }
+
+  -- an instruction that writes one content, to a register
+  pub written : (rs : List ℕ) (x : TempInsn) (r : ℕ) (content : Content) → ended_of x ≡ [] → is_call x ≡ false → places_written_at rs x ≡ Reg r ∷ [] → usable r ≡ true → GivesRegister p there rest end c o.memory usable store s r content → IsBehind p there rest end c o (store_behind rs x store (content ∷ [])) s
+  written rs x r content e f at u d = subst (λ held. IsBehind p there rest end c o held s) (sym path) (behind o (with_known usable r) (put place_eq (Reg r) content store) (more-usable r u) refl refl d)
+    where
+      path : store_behind rs x store (content ∷ []) ≡ put place_eq (Reg r) content store
+      path = ap (λ ps. put_all place_eq ps (content ∷ []) (without (is_ended x) store)) at ∙ ap (put place_eq (Reg r) content) (nothing-ended x store e f)
+
+  answered : (rs : List ℕ) (x : TempInsn) (r : ℕ) (answer : Answer) → ended_of x ≡ [] → is_call x ≡ false → places_written_at rs x ≡ Reg r ∷ [] → usable r ≡ true → DoesAnswer p there rest end c o.memory usable store s r answer → Done rs x (writes answer o)
+  answered rs x r (Gives content) e f at u d = written rs x r content e f at u d
+  answered rs x r (TrapsWith code) e f at u d = record { steps = 1; last = s; run = d; output = outer.output }
+  answered rs x r Fails e f at u d = tt
+
+  -- one that writes nothing, and leaves a memory
+  pub unwritten : (rs : List ℕ) (x : TempInsn) (new : Outer) → ended_of x ≡ [] → is_call x ≡ false → places_written_at rs x ≡ [] → IsBehind p there rest end c new store s → IsBehind p there rest end c new (store_behind rs x store []) s
+  unwritten rs x new e f at d = subst (λ held. IsBehind p there rest end c new held s) (sym (ap (λ ps. put_all place_eq ps [] (without (is_ended x) store)) at ∙ nothing-ended x store e f)) d
+
+  -- ---- moves
+
+  pub address-done : (op : AddressOp) (destination : ℕ) (base : Source) (plus : ℤ) (rs : List ℕ) (from r : ℕ) (value : Content) → places_written_at rs (i.Address op destination base plus) ≡ Reg r ∷ [] → usable r ≡ true → StandsIn usable store from value → Here (Plain (fields.Memory (address_op op) r from plus) ∷ []) → (a : Option Content) → moved_content o.memory value (moved_by op plus) ≡ a → Done rs (i.Address op destination base plus) (writes (content_answer a) o)
+  address-done op destination base plus rs from r value at u is h (Some content) e =
+      written rs (i.Address op destination base plus) r content refl refl at u
+      (moves_are_done p there rest end c o.memory usable store s usable-values op r from plus value content h is (usable-values r u) e)
+  address-done op destination base plus rs from r value at u is h None e = tt
+
+  -- a register that is moved to another one, of which one is fixed
+  pub move-done : (rs : List ℕ) (x : TempInsn) (from to : ℕ) → ended_of x ≡ [] → is_call x ≡ false → places_written_at rs x ≡ Reg to ∷ [] → usable from ≡ true → usable to ≡ true → Here (register_move from to) → IsBehind p there rest end c o (store_behind rs x store (store (Reg from) ∷ [])) s
+  move-done rs x from to e f at uf ut h =
+      written rs x to (store (Reg from)) e f at ut
+      (transfers_are_done p there rest end c o.memory call (Shift 0 from to ∷ []) usable store s usable-values ((uf, usable-values to ut), tt) h)
+
+  -- ---- addresses of objects
+
+  pub object-done : (destination : ℕ) (place : Place) (plus a : ℕ) → usable a ≡ true → IsThere p g c (i.ObjectAddress destination place plus) → Here (insn_items g (a ∷ []) (i.ObjectAddress destination place plus)) → Done (a ∷ []) (i.ObjectAddress destination place plus) (does 0 (i.ObjectAddress destination place plus) c.own [] o)
+  object-done destination (Global k) plus a u is h =
+      written (a ∷ []) (i.ObjectAddress destination (Global k) plus) a (address_content k plus) refl refl refl u
+      (globals_have_addresses p there rest end c o.memory usable store s call usable-values a k (g.global_at k) plus is.extent h (usable-values a u) is.made is.sound is.base is.within is.near)
+  object-done destination (Local k) plus a u is h =
+      written (a ∷ []) (i.ObjectAddress destination (Local k) plus) a (address_content (c.own + k) plus) refl refl refl u
+      (locals_have_addresses p there rest end c o.memory usable store s call usable-values a k is.size plus
+      (subst (λ z. Here (frame_address a (object_at z k + plus))) shape h) (usable-values a u) is.made is.within)
+
+  pub set-done : (register : FixedRegister) (number : ℤ) → IsDisplacement number → Here (Plain (fields.Memory Lda (register_number register) 31 number) ∷ []) → IsBehind p there rest end c o (store_behind [] (i.SetFixed register number) store (contents.word (word_from number) ∷ [])) s
+  set-done register number d h =
+      let u = fixed-usable register in
+      written [] (i.SetFixed register number) (register_number register) (contents.word (word_from number)) refl refl refl u
+      (sets_are_done p there rest end c o.memory usable store s usable-values (register_number register) number h (usable-values (register_number register) u) d)
+
+  -- ---- loads and stores
+
+  pub load-done : (op : LoadOp) (destination pointer : ℕ) (plus : ℤ) (a b : ℕ) → usable a ≡ true → usable b ≡ true → Here (Plain (fields.Memory (load_op op) b a plus) ∷ []) → (v : Option Content) → loaded_content o.memory op (store (Reg a)) plus ≡ v → Done (a ∷ b ∷ []) (i.Load op destination pointer plus) (writes (content_answer v) o)
+  load-done op destination pointer plus a b ua ub h (Some content) e =
+      written (a ∷ b ∷ []) (i.Load op destination pointer plus) b content refl refl refl ub
+      (loads_are_done p there rest end c o.memory usable store s usable-values op b a plus content h ua (usable-values b ub) e)
+  load-done op destination pointer plus a b ua ub h None e = tt
+
+  pub store-done : (op : StoreOp) (value : Source) (pointer : ℕ) (plus : ℤ) (rs : List ℕ) (r a : ℕ) (v : Content) → places_written_at rs (i.Store op value pointer plus) ≡ [] → StandsIn usable store r v → usable a ≡ true → Here (Plain (fields.Memory (store_op op) r a plus) ∷ []) → (m : Option memory.Memory) → stored_memory o.memory op v (store (Reg a)) plus ≡ m → Done rs (i.Store op value pointer plus) (changes m o)
+  store-done op value pointer plus rs r a v at is u h (Some m) e =
+      unwritten rs (i.Store op value pointer plus) (outer_with_memory o m) refl refl at
+      (behind (outer_with_memory o m) usable store refl refl refl
+      (stores_are_done p there rest end c o.memory usable store s usable-values op r a plus v m h is u e))
+  store-done op value pointer plus rs r a v at is u h None e = tt
+
+  -- ---- operations
+
+  pub operate-done : (op : Operation) (destination : ℕ) (left : Source) (right : Operand) (rs : List ℕ) (l r : ℕ) (second : isa.Operand) (x y : Content) → places_written_at rs (i.Operate op destination left right) ≡ Reg r ∷ [] → usable r ≡ true → StandsIn usable store l x → IsSecond usable store second y → Here (Plain (fields.Operate (operate_op op) l second r) ∷ []) → Done rs (i.Operate op destination left right) (writes (operate_answer o.memory op x y) o)
+  operate-done op destination left right rs l r second x y at u first is h =
+      answered rs (i.Operate op destination left right) r (operate_answer o.memory op x y) refl refl at u
+      (operations_are_done p there rest end c o.memory usable store s usable-values op l r second x y h first is (usable-values r u))
+
+  pub extend-done : (op : ExtendOp) (destination : ℕ) (source : Operand) (rs : List ℕ) (r : ℕ) (second : isa.Operand) (y : Content) → places_written_at rs (i.Extend op destination source) ≡ Reg r ∷ [] → usable r ≡ true → IsSecond usable store second y → Here (Plain (fields.Operate (extend_op op) 31 second r) ∷ []) → Done rs (i.Extend op destination source) (writes (extend_answer op y) o)
+  extend-done op destination source rs r second y at u is h =
+      answered rs (i.Extend op destination source) r (extend_answer op y) refl refl at u
+      (extensions_are_done p there rest end c o.memory usable store s usable-values op r second y h is (usable-values r u))
+
+  -- ---- arguments
+
+  pub write-argument-done : (widest number source a : ℕ) → widest ≤ c.shape.outgoing + 6 → usable a ≡ true → Here (frame_store a (argument_at number)) → (b : Bool) → nat_lt (number + 6) widest ≡ b → Done (a ∷ []) (i.WriteArgument number source) (if b then Writes (store (Reg a) ∷ []) o else Stops HasNoMeaning o)
+  write-argument-done widest number source a le u h true e =
+      subst (λ held. IsBehind p there rest end c o held s) (sym (ap (put place_eq (Out number) (store (Reg a))) (nothing-ended (i.WriteArgument number source) store refl refl)))
+      (behind o usable (put place_eq (Out number) (store (Reg a)) store) refl refl refl
+      (arguments_are_written p there rest end c o.memory usable store s call usable-values a number h u
+      (let lt = ltb-true (number + 6) widest e in omega (arith, lt, le))))
+  write-argument-done widest number source a le u h false e = tt
+
+  argument-read : (destination number a : ℕ) → usable a ≡ true → Here (frame_load a (frame_size c.shape + argument_at number)) → (v : Content) → store (In number) ≡ v → IsHeldArgument c number v p s → IsBehind p there rest end c o (store_behind (a ∷ []) (i.ReadArgument destination number) store (v ∷ [])) s
+  argument-read destination number a u h v e is =
+      subst (λ z. IsBehind p there rest end c o (store_behind (a ∷ []) (i.ReadArgument destination number) store (z ∷ [])) s) e
+      (written (a ∷ []) (i.ReadArgument destination number) a (store (In number)) refl refl refl u
+      (arguments_are_read p there rest end c o.memory usable store s call usable-values a number h (usable-values a u)
+      (record { depth = is.caller; owned = is.owned; small = is.small; near = is.near; is = subst (λ z. ContentIs c.extents z (word_in (memory_bytes p s) (c.sp + (frame_size c.shape + argument_at number)))) (sym e) is.is })))
+
+  pub read-argument-done : (destination number a : ℕ) → usable a ≡ true → Here (frame_load a (frame_size c.shape + argument_at number)) → (v : Content) → store (In number) ≡ v → ArgumentIs c number v p s → Done (a ∷ []) (i.ReadArgument destination number) (writes (argument_answer v) o)
+  read-argument-done destination number a u h (contents.Plain Unset) e is = tt
+  read-argument-done destination number a u h (contents.Plain (Word n)) e is = argument-read destination number a u h (contents.Plain (Word n)) e is
+  read-argument-done destination number a u h (contents.Plain (Address q)) e is = argument-read destination number a u h (contents.Plain (Address q)) e is
+  read-argument-done destination number a u h (Bundle cells) e is = argument-read destination number a u h (Bundle cells) e is
+
+  -- ---- branches
+
+  pub branch-done : (op : BranchOp) (source block a : ℕ) → usable a ≡ true → Here (Branch (branch_op op) a (g.block_label block) ∷ []) → (t : Option Bool) → test_of op o.memory (store (Reg a)) ≡ t → Done (a ∷ []) (i.Branch op source block) (branches t o)
+  branch-done op source block a u h (Some true) e =
+      let d = branches_are_done p there rest end c o.memory usable store s usable-values usable-low op a (g.block_label block) true h u e in
+      λ b is. record {
+        to = d.to;
+        comes = d.comes;
+        some = d.some;
+        stands = λ items last at. subst (λ held. StandsFor p there items last c o.memory usable held d.to) (sym (nothing-ended (i.Branch op source block) store refl refl))
+            (d.stands items last (subst (λ k. ItemsAt p there (there (g.block_label k)) items last) (same b is) at));
+        outer = record { input = d.input ∙ outer.input; output = d.output ∙ outer.output; bytes = outer.bytes };
+        kept = d.kept;
+      }
+    where
+      same : (b : ℕ) → Some block ≡ Some b → b ≡ block
+      same b is = cc
+  branch-done op source block a u h (Some false) e =
+      let d = branches_are_done p there rest end c o.memory usable store s usable-values usable-low op a (g.block_label block) false h u e in
+      unwritten (a ∷ []) (i.Branch op source block) o refl refl refl (record {
+        to = d.to;
+        comes = d.comes;
+        stands = d.stands rest end d.behind;
+        outer = record { input = d.input ∙ outer.input; output = d.output ∙ outer.output; bytes = outer.bytes };
+        kept = d.kept;
+      })
+  branch-done op source block a u h None e = tt
+
+-- ---- unconditional branches
+
+-- a branch that links no register has come to its label, whatever the call holds
+pub jumps_are_done : (p : Program) (there : Labels) (rest : List AsmItem) (end : ℕ) (c : Call) (o : Outer) (store : Places) (s : State) → HasOuter o s → (l : ℕ) → StandsFor p there (Branch Br 31 l ∷ rest) end c o.memory usable store s → IsAtLabel p there l c o store s
+jumps_are_done p there rest end c o store s outer l h =
+    let d = branches_step p there h.word Br 31 l rest end s (stands p there h.word (Branch Br 31 l) rest end s h.is_at) (omega arith) in
+    let same = λ (q : ℕ) (ne : q ≢ 28). d.registers q ne ∙ read-lost 31 q (word_address d.next) s refl in
+    record {
+      to = d.to;
+      comes = d.comes;
+      some = d.some;
+      stands = λ items last at. record {
+        word = there l;
+        is_at = record {
+          lawful = h.is_at.lawful;
+          labels = h.is_at.labels;
+          items_at = at;
+          pc = d.pc;
+          registers = d.same.registers ∙ h.is_at.registers;
+          words = d.words h.is_at.words;
+          parts = parts-same p s d.to d.same h.is_at.parts;
+          bytes = λ y. subst (λ (b : Bytes). b y < 256) (sym (bytes-same p s d.to d.same)) (h.is_at.bytes y);
+        };
+        stack = same 30 (λ f. omega (arith, f)) ∙ h.stack;
+        frame = subst (λ b. FrameAndMemory c.extents o.memory c.owner b c.sp c.depth c.own c.shape store) (sym (bytes-same p s d.to d.same)) h.frame;
+        registers = λ q f. subst (ContentIs c.extents (store (Reg q))) (sym (same q (λ e. let lt = usable-low q f in omega (arith, e, lt)))) (h.registers q f);
+        reached = λ y own. reached-same p s d.to d.same y ∙ h.reached y own;
+      };
+      outer = record { input = d.same.input ∙ outer.input; output = d.same.output ∙ outer.output; bytes = outer.bytes };
+      kept = kept-same p c s d.to (reached-same p s d.to d.same) (bytes-same p s d.to d.same);
+    }

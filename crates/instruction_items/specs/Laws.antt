@@ -1,0 +1,161 @@
+-- What the machine does at the items of each instruction that is no call, division or return: what the instruction does
+-- with the contents of its places and with the outer part of the world.
+use Rattle.std.specs.Prelude.{◌≡◌, ℕ, ◌+◌, ◌<◌, ◌≤◌, nat_lt, ◌||◌, ◌==◌, ◌^◌, Bool, true, false, List, [], ◌∷◌, ◌++◌, map, length, Some, slice_get}
+use Rattle.alpha_isa.specs.Lawful.{IsDisplacement}
+use Rattle.alpha_isa.specs.Program.{Program, data_start}
+use Rattle.alpha_isa.specs.State.{State}
+use Rattle.alpha_isa.specs.Step as step
+use Rattle.alpha_isa.specs.Step.{Halt, exec}
+use Rattle.alpha_items.specs.declared.item.AsmItem.{AsmItem}
+use Rattle.item_steps.specs.Standing.{Labels, ItemsAt}
+use Rattle.item_steps.specs.Steps.{Comes}
+use Rattle.mem_model.specs.World.{Outer}
+use Rattle.machine_model.specs.Code.{Exits, Traps, HasNoMeaning, Act, Writes, Jumps, Calls, Returns, Stops}
+use Rattle.suifvm_ir.specs.declared.insn.Place.TheVariants.{Global, Local}
+use Rattle.temp_ir.specs.declared.insn.Operand.{Operand}
+use Rattle.temp_ir.specs.declared.insn.Operand.TheVariants as operand
+use Rattle.temp_ir.specs.declared.insn.TempInsn.{TempInsn}
+use Rattle.temp_ir.specs.declared.insn.TempInsn.TheVariants as i
+use Rattle.temp_ir.specs.Insns.{reads_of, writes_of, targets_of}
+use Rattle.alloc_model.specs.Contents.{Content, Plain}
+use Rattle.alloc_model.specs.Stores.{without, put_all}
+use Rattle.alloc_model.specs.Effect.{does}
+use Rattle.alloc_model.specs.Places.{Places, In, place_eq, places_read_at, places_written_at, is_ended}
+use Rattle.mem_model.specs.declared.value.Value.TheVariants.{Unset}
+use Rattle.flat_memory.specs.Bytes.{AreBytes}
+use Rattle.flat_memory.specs.Relation.{Extent, IsExtent, OfFrame, ArgumentPiece}
+use Rattle.flat_memory.specs.Machine.{memory_bytes}
+use Rattle.flat_operations.specs.Contents.{ContentIs}
+use Rattle.flat_frames.specs.Shapes.{frame_size, argument_at}
+use Rattle.flat_frames.specs.Frames.{word_in}
+use Rattle.frame_transfers.specs.Laws.{Call, IsCall, StandsFor, IsKept}
+use Rattle.instruction_items.specs.Items.{Setting, insn_items}
+
+-- the registers in which values may stand: all but 26, which has the return address, and the scratch registers 28 and
+-- 29, the stack pointer 30 and the zero 31
+abbrev pub usable : (register : ℕ) → Bool
+usable r = nat_lt r 26 || (r == 27)
+
+-- ---- what an instruction asks for
+
+abbrev pub AreUsable : (registers : List ℕ) → Type 0
+AreUsable [] = Unit {0}
+AreUsable (r ∷ rs) = (usable r ≡ true) × AreUsable rs
+
+-- as many registers as the instruction has temporaries, each one in which values may stand
+pub record IsStated (registers : List ℕ) (x : TempInsn) : Type 0 where
+  pub count : length registers ≡ length (reads_of x) + length (writes_of x)
+  pub are_usable : AreUsable registers
+
+abbrev pub IsSmallOperand : Operand → Type 0
+IsSmallOperand (operand.Temp t) = Unit {0}
+IsSmallOperand (operand.Literal n) = n < 256
+
+-- an object of static storage lies where the setting has it
+pub record IsGlobal (p : Program) (g : Setting) (c : Call) (k plus : ℕ) : Type 0 where
+  pub extent : Extent
+  pub made : slice_get c.extents k ≡ Some extent
+  pub sound : IsExtent extent
+  pub base : extent.base ≡ data_start p + g.global_at k
+  pub within : plus ≤ extent.size
+  pub near : data_start p + (g.global_at k + plus) < 2147450880
+
+pub record IsLocal (c : Call) (k plus : ℕ) : Type 0 where
+  pub size : ℕ
+  pub made : slice_get c.shape.sizes k ≡ Some size
+  pub within : plus ≤ size
+
+-- what an instruction names is there, and its numbers fit
+abbrev pub IsThere : Program → Setting → Call → TempInsn → Type 0
+IsThere p g c (i.ObjectAddress destination (Global k) plus) = IsGlobal p g c k plus
+IsThere p g c (i.ObjectAddress destination (Local k) plus) = IsLocal c k plus
+IsThere p g c (i.Operate op destination left right) = IsSmallOperand right
+IsThere p g c (i.Extend op destination source) = IsSmallOperand source
+IsThere p g c (i.SetFixed register number) = IsDisplacement number
+IsThere p g c _ = Unit {0}
+
+-- an argument of this call stands above its frame, in a place that the caller owns, unless nothing is held there
+pub record IsHeldArgument (c : Call) (k : ℕ) (content : Content) (p : Program) (s : State) : Type 0 where
+  pub caller : ℕ
+  pub above : c.depth ≡ caller + 1
+  pub owned : (j : ℕ) → j < 8 →
+      c.owner (c.sp + (frame_size c.shape + argument_at k) + j) ≡ OfFrame caller (ArgumentPiece k)
+  pub small : c.sp + (frame_size c.shape + argument_at k) < 2 ^ 64
+  pub near : frame_size c.shape + argument_at k < 2147450880
+  pub is : ContentIs c.extents content (word_in (memory_bytes p s) (c.sp + (frame_size c.shape + argument_at k)))
+
+abbrev pub ArgumentIs : Call → (k : ℕ) → Content → Program → State → Type 0
+ArgumentIs c k (Plain Unset) p s = Unit {0}
+ArgumentIs c k content p s = IsHeldArgument c k content p s
+
+abbrev pub ArgumentsAre : Call → Places → Program → State → Type 0
+ArgumentsAre c store p s = (k : ℕ) → ArgumentIs c k (store (In k)) p s
+
+-- the input and the output of a machine are those of the outer part of a world, whose input is of bytes
+pub record HasOuter (o : Outer) (s : State) : Type 0 where
+  pub input : s.input ≡ o.input
+  pub output : s.output ≡ o.output
+  pub bytes : AreBytes o.input
+
+-- ---- what is done
+
+-- the machine has come to items for what the call holds, and for an outer part of the world
+pub record IsBehind (p : Program) (there : Labels) (items : List AsmItem) (end : ℕ) (c : Call) (o : Outer)
+    (store : Places) (s : State) : Type 0 where
+  pub to : State
+  pub comes : Comes p s to
+  pub stands : StandsFor p there items end c o.memory usable store to
+  pub outer : HasOuter o to
+  pub kept : IsKept p c s to
+
+-- it has come to a label, and stands at whatever items stand there
+pub record IsAtLabel (p : Program) (there : Labels) (l : ℕ) (c : Call) (o : Outer) (store : Places) (s : State) :
+    Type 0 where
+  pub to : State
+  pub comes : Comes p s to
+  pub some : 1 ≤ comes.steps
+  pub stands : (items : List AsmItem) (last : ℕ) → ItemsAt p there (there l) items last →
+      StandsFor p there items last c o.memory usable store to
+  pub outer : HasOuter o to
+  pub kept : IsKept p c s to
+
+-- the run is over, with the output of the outer part
+pub record IsOver (p : Program) (o : Outer) (h : Halt) (s : State) : Type 0 where
+  pub steps : ℕ
+  pub last : State
+  pub run : exec p steps s ≡ step.Over h last
+  pub output : last.output ≡ o.output
+
+-- the machine does what an act of an instruction is: `written` is what the call holds once contents are written
+abbrev pub ActIsDone : Program → Labels → Setting → (rest : List AsmItem) → (end : ℕ) → Call →
+    (written : List Content → Places) → TempInsn → State → Act Content → Type 0
+ActIsDone p there g rest end c written x s (Writes cs o) = IsBehind p there rest end c o (written cs) s
+ActIsDone p there g rest end c written x s (Jumps target o) =
+    (block : ℕ) → slice_get (targets_of x) target ≡ Some block → IsAtLabel p there (g.block_label block) c o (written []) s
+ActIsDone p there g rest end c written x s (Calls function cs o) = Unit {0}
+ActIsDone p there g rest end c written x s (Returns cs o) = Unit {0}
+ActIsDone p there g rest end c written x s (Stops (Exits status) o) = IsOver p o (step.Done status) s
+ActIsDone p there g rest end c written x s (Stops (Traps code) o) = IsOver p o (step.Trap code) s
+ActIsDone p there g rest end c written x s (Stops HasNoMeaning o) = Unit {0}
+
+-- the instructions that this is said of
+abbrev pub is_no_call : TempInsn → Bool
+is_no_call (i.Call function arguments) = false
+is_no_call (i.Divide routine) = false
+is_no_call (i.Return with_value) = false
+is_no_call _ = true
+
+-- what a call holds once an instruction with stated registers has written
+abbrev pub store_behind : (registers : List ℕ) → TempInsn → Places → List Content → Places
+store_behind registers x store cs =
+    put_all place_eq (places_written_at registers x) cs (without (is_ended x) store)
+
+abbrev pub InstructionsAreDone : Type 0
+InstructionsAreDone =
+    (p : Program) (there : Labels) (g : Setting) (rest : List AsmItem) (end : ℕ) (c : Call) (o : Outer)
+    (store : Places) (s : State) → IsCall c → g.shape ≡ c.shape → ArgumentsAre c store p s → HasOuter o s →
+    (widest : ℕ) → widest ≤ c.shape.outgoing + 6 →
+    (registers : List ℕ) (x : TempInsn) → is_no_call x ≡ true → IsStated registers x → IsThere p g c x →
+    StandsFor p there (insn_items g registers x ++ rest) end c o.memory usable store s →
+    ActIsDone p there g rest end c (store_behind registers x store) x s
+    (does widest x c.own (map store (places_read_at registers x)) o)
