@@ -1,0 +1,68 @@
+-- Where code stands in the blocks of a function.
+use Rattle.std.specs.Prelude.{◌≡◌, ℕ, suc, ◌+◌, ◌-◌, List, [], ◌∷◌, slice_get, Option, Some, None}
+use Rattle.suifvm_ir.specs.declared.insn.BranchOp.TheVariants.{IfTrue}
+use Rattle.suifvm_ir.specs.declared.insn.VmInsn.{VmInsn}
+use Rattle.suifvm_ir.specs.declared.insn.VmInsn.TheVariants as n
+use Rattle.lowering_code.specs.declared.item.Item.{Item}
+use Rattle.lowering_code.specs.declared.item.Item.TheVariants.{Start, Plain, Jump, Branch, Loop, Enter, Again, Repeat, Return}
+use Rattle.lowering_code.specs.Items.{count}
+use Rattle.lowering_code.specs.Layout.{head_of, outer_heads}
+
+-- a place in the blocks of a function
+pub record Place : Type 0 where
+  pub block : ℕ
+  pub at : ℕ
+
+abbrev pub next_place : Place → Place
+next_place p = record { block = p.block; at = suc p.at }
+
+abbrev pub start_of_block : (block : ℕ) → Place
+start_of_block b = record { block = b; at = 0 }
+
+abbrev pub next_block : Place → Place
+next_block p = start_of_block (suc p.block)
+
+-- what stands at a place: an instruction, or the end of the block
+abbrev pub in_block : Option (List VmInsn) → (at : ℕ) → Option (Option VmInsn)
+in_block None at = None
+in_block (Some insns) at = Some (slice_get insns at)
+
+abbrev pub stands_at : List (List VmInsn) → Place → Option (Option VmInsn)
+stands_at blocks p = in_block (slice_get blocks p.block) p.at
+
+-- last is the number of the last block, and end are the instructions that end it
+module _ (blocks : List (List VmInsn)) (last : ℕ) (end : List VmInsn) where
+  abbrev pub IsInsn : Place → VmInsn → Type 0
+  IsInsn p i = stands_at blocks p ≡ Some (Some i)
+
+  abbrev pub IsEnd : Place → Type 0
+  IsEnd p = stands_at blocks p ≡ Some None
+
+  -- instructions stand one behind the other
+  abbrev pub HasInsns : Place → List VmInsn → Type 0
+  HasInsns p [] = Unit {0}
+  HasInsns p (i ∷ is) = IsInsn p i × HasInsns (next_place p) is
+
+  -- items stand from a place on, in loops whose bodies begin with these blocks
+  abbrev pub HasItems : (heads : List ℕ) → Place → List Item → Type 0
+  HasItems heads p [] = HasInsns p end
+  HasItems heads p (Start ∷ is) = IsEnd p × HasItems heads (next_block p) is
+  HasItems heads p (Plain insn ∷ is) = IsInsn p insn × HasItems heads (next_place p) is
+  HasItems heads p (Jump name ∷ is) = IsInsn p (n.Jump (last - name)) × HasItems heads (next_block p) is
+  HasItems heads p (Branch op ty source name ∷ is) =
+      IsInsn p (n.Branch op ty source (last - name)) × IsEnd (next_place p) × HasItems heads (next_block p) is
+  HasItems heads p (Loop name ∷ is) =
+      IsInsn p (n.Jump (last - name)) × IsInsn (next_block p) n.Mark
+      × HasItems (suc p.block ∷ heads) (next_place (next_block p)) is
+  HasItems heads p (Enter ∷ is) =
+      IsEnd p × IsInsn (next_block p) n.Mark × HasItems (suc p.block ∷ heads) (next_place (next_block p)) is
+  HasItems heads p (Again ty source ∷ is) =
+      IsInsn p (n.Branch IfTrue ty source (head_of heads)) × IsEnd (next_place p)
+      × HasItems (outer_heads heads) (next_block p) is
+  HasItems heads p (Repeat ∷ is) = IsInsn p (n.Jump (head_of heads)) × HasItems (outer_heads heads) (next_block p) is
+  HasItems heads p (Return value ∷ is) = IsInsn p (n.Return value) × HasItems heads (next_block p) is
+
+  -- the items stand there, and as many blocks begin behind the place as they have
+  pub record At (heads : List ℕ) (p : Place) (is : List Item) : Type 0 where
+    pub has : HasItems heads p is
+    pub size : p.block + count is ≡ last

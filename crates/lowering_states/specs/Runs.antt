@@ -1,0 +1,80 @@
+-- What is seen of a run that is over, and that a run of code from a configuration is seen to end so.
+use Rattle.std.specs.Prelude.{◌≡◌, ◌≢◌, ℕ, List}
+use Rattle.mem_model.specs.declared.value.Value.{Value}
+use Rattle.mem_model.specs.Memory.{Memory}
+use Rattle.mem_model.specs.World.{World, Rooms, with_memory}
+use Rattle.mem_model.specs.Ending.{Ending, Done, Trap, Undefined, More, Evaluation, Gives, Ends}
+use Rattle.machine_model.specs.Machine as machine
+use Rattle.machine_model.specs.Machine.{Frame, Config, Next, Goes, Over, go_on, exec}
+use Rattle.vm_meaning.specs.Behave.{FunctionCode, Registers, vm_code}
+use Rattle.c_semantics.specs.Runs.{State, ◌>>=◌, pure, undefined, trap, exit, no_turn, turn, on_memory, set_memory, read_register, write_register}
+use Rattle.c_semantics.specs.Evaluates.{put, get}
+use Rattle.lowering_states.specs.Places.{Place}
+
+-- opens the runs of the C meaning
+unfoldable pub opens : Unit {0}
+unfolding ◌>>=◌ pure undefined trap exit no_turn turn on_memory set_memory read_register write_register put get
+opens = tt
+
+-- what is seen of the world in which a run ends
+pub record View : Type 0 where
+  pub output : List ℕ
+  pub input : List ℕ
+  pub takings : ℕ
+  pub turns : ℕ
+  pub peak : ℕ
+
+abbrev pub view : World → View
+view w = record {
+  output = w.outer.output;
+  input = w.outer.input;
+  takings = w.outer.takings;
+  turns = w.meter.turns;
+  peak = w.meter.peak;
+}
+
+-- a run ended with a status, by a trap or for want of a turn; it is not defined, or not over
+pub data Seen : Type 0 where
+  SeenDone : View → (status : ℕ) → Seen
+  SeenTrap : View → (code : ℕ) → Seen
+  SeenMore : View → Seen
+  NotDefined : Seen
+  NotOver : Seen
+
+abbrev pub shown : Ending → Seen
+shown (Done w status) = SeenDone (view w) status
+shown (Trap w code) = SeenTrap (view w) code
+shown (Undefined w at) = NotDefined
+shown (More w) = SeenMore (view w)
+
+abbrev pub seen : Next Registers → Seen
+seen (Goes k) = NotOver
+seen (Over e) = shown e
+
+-- what a part of a program gives, handed to what follows it
+abbrev pub finish : {A : Type 0} → Evaluation A State → (A → State → Seen) → Seen
+finish (Gives a s) K = K a s
+finish (Ends e) K = shown e
+
+module _ (rooms : Rooms) (functions : List FunctionCode) where
+  -- so many instructions from a configuration
+  abbrev pub run : (steps : ℕ) → Config Registers → Next Registers
+  run steps k = exec Value Registers rooms (vm_code functions) steps k
+
+  -- the run from a configuration is seen to end so, where that is defined
+  pub record Meets (o : Seen) (k : Config Registers) : Type 0 where
+    pub by : o ≢ NotDefined → (steps : ℕ) × (seen (run steps k) ≡ o)
+
+  -- the same where a call returns values to those that wait, with this instruction's number
+  abbrev pub resumes : (at : ℕ) → List Value → World → List (Frame Registers) → Next Registers
+  resumes at vs w frames = machine.return_to Value Registers rooms (vm_code functions) at vs w frames
+
+  pub record Resumes (o : Seen) (vs : List Value) (w : World) (frames : List (Frame Registers)) : Type 0 where
+    pub by : o ≢ NotDefined → (at : ℕ) → (steps : ℕ) × (seen (go_on (resumes at vs w frames) (run steps)) ≡ o)
+
+-- a call of a function at a place, with the memory of the code in the place of that of the C meaning
+abbrev pub frame_of : (function own : ℕ) → Place → Registers → Frame Registers
+frame_of i own p r = record { point = record { function = i; block = p.block; at = p.at }; own = own; store = r }
+
+abbrev pub config : (function own : ℕ) → List (Frame Registers) → Place → Registers → World → Memory → Config Registers
+config i own waiting p r w n = record { here = frame_of i own p r; callers = waiting; world = with_memory w n }

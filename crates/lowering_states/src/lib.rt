@@ -1,0 +1,5 @@
+//! Where the code of a function stands in its blocks, how a run over virtual registers goes on from a place, and how
+//! the registers and the memory of a run correspond to those of the C meaning.
+#![tactic(auto)]
+
+pub mod laws;
