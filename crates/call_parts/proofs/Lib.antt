@@ -1,0 +1,4 @@
+pub mod Entries
+pub mod Exits
+pub mod Stacks
+pub mod Words
