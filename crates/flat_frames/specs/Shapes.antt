@@ -1,14 +1,16 @@
 -- How the frame of a function is laid out, in bytes from register 30 on: the argument places of its calls, the return
 -- address, places for the registers 9 to 15, the slots of its temporaries, and its objects, each at a multiple of 8.
-use Rattle.std.specs.Prelude.{◌≡◌, ℕ, zero, suc, ◌+◌, ◌-◌, ◌*◌, ◌/◌, ◌%◌, ◌<◌, ◌≤◌, nat_lt, List, [], ◌∷◌, length, Some, slice_get, if◌then◌else◌}
+use Rattle.std.specs.Prelude.{◌≡◌, ℕ, zero, suc, ◌+◌, ◌-◌, ◌*◌, ◌/◌, ◌%◌, ◌<◌, ◌≤◌, nat_lt, Bool, List, [], ◌∷◌, length, Some, slice_get, if◌then◌else◌}
 use Rattle.data_object.specs.Layout.{place_after}
 use Rattle.flat_memory.specs.Relation.{Owner, OfObject, OfFrame, SlotPiece, ReturnPiece, SavedPiece, ArgumentPiece, NoPiece}
 
--- how many argument places and temporaries a function has, and the sizes of its objects
+-- how many argument places and temporaries a function has, the sizes of its objects, and which registers it saves of 9
+-- to 15
 pub record Shape : Type 0 where
   pub outgoing : ℕ
   pub temps : ℕ
   pub sizes : List ℕ
+  pub saves : (register : ℕ) → Bool
 
 -- ---- offsets
 

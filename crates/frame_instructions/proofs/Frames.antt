@@ -20,9 +20,8 @@ use Rattle.flat_frames.specs.Frames.{put_word, word_in, FrameAndMemory, KeepsUnw
 use Rattle.flat_frames.proofs.Shapes.{pieces_of}
 use Rattle.flat_frames.proofs.Frames.{unwritten-put, own-written, argument-word, arguments_are_put}
 use Rattle.frame_accesses.specs.Items.{frame_load, frame_store, frame_address}
-use Rattle.frame_accesses.specs.Laws.{IsValueRegister}
 use Rattle.frame_accesses.proofs.Runs.{stands, frame_loads, frame_stores, frame_addresses, bytes-same, reached-same, parts-same}
-use Rattle.frame_transfers.specs.Laws.{Call, IsCall, StandsFor, KnowsValues, HasDone}
+use Rattle.frame_transfers.specs.Laws.{Call, IsCall, StandsFor, KnowsValues, IsWritable, HasDone}
 use Rattle.frame_instructions.specs.Laws.{GivesRegister}
 use Rattle.frame_instructions.specs.FrameLaws.{IsArgument, address_content}
 use Rattle.frame_instructions.proofs.Runs.{gives}
@@ -71,13 +70,14 @@ module _ (p : Program) (there : Labels) (rest : List AsmItem) (end : ℕ) (c : C
           bytes = subst (KeepsUnwritten c.owner c.depth (memory_bytes p s)) (sym bytes)
               (unwritten-put c.owner c.depth (memory_bytes p s) (c.sp + argument_at k) (register s r) (OfFrame c.depth (ArgumentPiece k)) mine
               (own-written c.depth (ArgumentPiece k) refl));
+          registers = λ q from to f. d.others q (λ g. omega (arith, g, to));
         };
       }
     where
       owned : OfFrame c.depth (ArgumentPiece k) ≡ Nobody → ⊥
       owned e = cc
 
-  pub arguments_are_read : (r k : ℕ) → StandsFor p there (frame_load r (frame_size c.shape + argument_at k) ++ rest) end c m known store s → IsValueRegister r → IsArgument c k (store (In k)) p s → GivesRegister p there rest end c m known store s r (store (In k))
+  pub arguments_are_read : (r k : ℕ) → StandsFor p there (frame_load r (frame_size c.shape + argument_at k) ++ rest) end c m known store s → IsWritable c.shape r → IsArgument c k (store (In k)) p s → GivesRegister p there rest end c m known store s r (store (In k))
   arguments_are_read r k h value a =
       let offset = frame_size c.shape + argument_at k in
       let even = h.frame.frame.aligned in
@@ -87,7 +87,7 @@ module _ (p : Program) (there : Labels) (rest : List AsmItem) (end : ℕ) (c : C
         aligned = omega (arith, even);
         reached = λ i il. h.reached (c.sp + (frame_size c.shape + argument_at k) + i) (λ f. owned a.depth (sym (a.owned i il) ∙ f));
       }) in
-      let d = frame_loads p there h.word r (frame_size c.shape + argument_at k) rest end s h.is_at value (record { near = a.near; small = omega (arith, place, small) }) reach in
+      let d = frame_loads p there h.word r (frame_size c.shape + argument_at k) rest end s h.is_at value.value (record { near = a.near; small = omega (arith, place, small) }) reach in
       let word : register d.to r ≡ word_in (memory_bytes p s) (c.sp + (frame_size c.shape + argument_at k)) = d.here ∙ ap (word_in (memory_bytes p s)) place in
       gives p there rest end c m known store s knows (frame_load r (frame_size c.shape + argument_at k) ++ rest) h r (store (In k)) value d.to d.come (subst (ContentIs c.extents (store (In k))) (sym word) a.is) d.others d.bytes
     where
@@ -96,7 +96,7 @@ module _ (p : Program) (there : Labels) (rest : List AsmItem) (end : ℕ) (c : C
 
   -- ---- addresses
 
-  pub locals_have_addresses : (r k n plus : ℕ) → StandsFor p there (frame_address r (object_at c.shape k + plus) ++ rest) end c m known store s → IsValueRegister r → slice_get c.shape.sizes k ≡ Some n → plus ≤ n → GivesRegister p there rest end c m known store s r (address_content (c.own + k) plus)
+  pub locals_have_addresses : (r k n plus : ℕ) → StandsFor p there (frame_address r (object_at c.shape k + plus) ++ rest) end c m known store s → IsWritable c.shape r → slice_get c.shape.sizes k ≡ Some n → plus ≤ n → GivesRegister p there rest end c m known store s r (address_content (c.own + k) plus)
   locals_have_addresses r k n plus h value is le =
       let piece = (pieces_of c.shape c.depth c.own).objects k n is in
       let within = piece.within in
@@ -106,7 +106,7 @@ module _ (p : Program) (there : Labels) (rest : List AsmItem) (end : ℕ) (c : C
       let whole = before-whole c.shape.sizes k in
       let offset = object_at c.shape k + plus in
       let place : register s 30 + (object_at c.shape k + plus) ≡ c.sp + (object_at c.shape k + plus) = ap (λ z. z + (object_at c.shape k + plus)) h.stack in
-      let d = frame_addresses p there h.word r (object_at c.shape k + plus) rest end s h.is_at value (record { near = omega (arith, within, near, le); small = omega (arith, place, within, small, le) }) in
+      let d = frame_addresses p there h.word r (object_at c.shape k + plus) rest end s h.is_at value.value (record { near = omega (arith, within, near, le); small = omega (arith, place, within, small, le) }) in
       let base : register d.to r ≡ c.sp + object_at c.shape k + plus = d.here ∙ place ∙ (let e : c.sp + (object_at c.shape k + plus) ≡ c.sp + object_at c.shape k + plus = omega arith in e) in
       gives p there rest end c m known store s knows (frame_address r (object_at c.shape k + plus) ++ rest) h r (address_content (c.own + k) plus) value d.to d.come
       (record {
@@ -120,9 +120,9 @@ module _ (p : Program) (there : Labels) (rest : List AsmItem) (end : ℕ) (c : C
       })
       d.others d.bytes
 
-  pub globals_have_addresses : (r k offset plus : ℕ) (e : Extent) → StandsFor p there (DataAddress r (offset + plus) ∷ rest) end c m known store s → IsValueRegister r → slice_get c.extents k ≡ Some e → IsExtent e → e.base ≡ data_start p + offset → plus ≤ e.size → data_start p + (offset + plus) < 2147450880 → GivesRegister p there rest end c m known store s r (address_content k plus)
+  pub globals_have_addresses : (r k offset plus : ℕ) (e : Extent) → StandsFor p there (DataAddress r (offset + plus) ∷ rest) end c m known store s → IsWritable c.shape r → slice_get c.extents k ≡ Some e → IsExtent e → e.base ≡ data_start p + offset → plus ≤ e.size → data_start p + (offset + plus) < 2147450880 → GivesRegister p there rest end c m known store s r (address_content k plus)
   globals_have_addresses r k offset plus e h value made sound base le small =
-      let d = data_address_steps p there h.word r (offset + plus) rest end s (stands p there h.word (DataAddress r (offset + plus)) rest end s h.is_at) (omega (arith, value)) small in
+      let d = data_address_steps p there h.word r (offset + plus) rest end s (stands p there h.word (DataAddress r (offset + plus)) rest end s h.is_at) (let lt = value.value in omega (arith, lt)) small in
       let same = d.has.same in
       let place : register d.to r ≡ e.base + plus = d.has.here ∙ (let f : data_start p + (offset + plus) ≡ e.base + plus = omega (arith, base) in f) in
       gives p there rest end c m known store s knows (DataAddress r (offset + plus) ∷ rest) h r (address_content k plus) value d.to

@@ -22,9 +22,8 @@ use Rattle.alloc_model.specs.Places.{Places}
 use Rattle.flat_memory.specs.Machine.{memory_bytes}
 use Rattle.flat_operations.specs.Contents.{ContentIs, EffectIs}
 use Rattle.flat_operations.proofs.Operations.{operations_correspond, extensions_correspond}
-use Rattle.frame_accesses.specs.Laws.{IsValueRegister}
 use Rattle.frame_accesses.proofs.Runs.{stands}
-use Rattle.frame_transfers.specs.Laws.{Call, StandsFor, KnowsValues}
+use Rattle.frame_transfers.specs.Laws.{Call, StandsFor, KnowsValues, IsWritable}
 use Rattle.frame_instructions.specs.Laws.{StandsIn}
 use Rattle.frame_instructions.specs.OperationLaws.{IsSecond, DoesAnswer}
 use Rattle.frame_instructions.proofs.Runs.{stands-in, written-gives}
@@ -40,7 +39,7 @@ module _ (p : Program) (there : Labels) (rest : List AsmItem) (end : ℕ) (c : C
   second-below items (isa.Literal n) b h is = let lt = is.0 in omega (arith, lt)
 
   -- an operation whose effect stands for an answer
-  answer-done : (op : OperateOp) (left r : ℕ) (right : Operand) (answer : Answer) (h : StandsFor p there (Plain (fields.Operate op left right r) ∷ rest) end c m known store s) → IsValueRegister r → operand s right < 2 ^ 64 → (e : OperationEffect) → operation_effect op (register s left) (operand s right) ≡ e → EffectIs c.extents answer e → DoesAnswer p there rest end c m known store s r answer
+  answer-done : (op : OperateOp) (left r : ℕ) (right : Operand) (answer : Answer) (h : StandsFor p there (Plain (fields.Operate op left right r) ∷ rest) end c m known store s) → IsWritable c.shape r → operand s right < 2 ^ 64 → (e : OperationEffect) → operation_effect op (register s left) (operand s right) ≡ e → EffectIs c.extents answer e → DoesAnswer p there rest end c m known store s r answer
   answer-done op left r right (Gives content) h value small (effect.Gives n) e is =
       written-gives p there rest end c m known store s knows (fields.Operate op left right r) h r n content value (given-below op (register s left) (operand s right) n (h.is_at.words left) small e) (ap (λ z. operate_step z r s) e) is
   answer-done op left r right (Gives content) h value small Keeps e is = absurd is
@@ -52,14 +51,14 @@ module _ (p : Program) (there : Labels) (rest : List AsmItem) (end : ℕ) (c : C
       ∙ ap (λ n. Over (Trap n) s) (sym is)
   answer-done op left r right Fails h value small e f is = tt
 
-  pub operations_are_done : (op : Operation) (left r : ℕ) (right : Operand) (a b : Content) → StandsFor p there (Plain (fields.Operate (operate_op op) left right r) ∷ rest) end c m known store s → StandsIn known store left a → IsSecond known store right b → IsValueRegister r → DoesAnswer p there rest end c m known store s r (operate_answer m op a b)
+  pub operations_are_done : (op : Operation) (left r : ℕ) (right : Operand) (a b : Content) → StandsFor p there (Plain (fields.Operate (operate_op op) left right r) ∷ rest) end c m known store s → StandsIn known store left a → IsSecond known store right b → IsWritable c.shape r → DoesAnswer p there rest end c m known store s r (operate_answer m op a b)
   operations_are_done op left r right a b h first second value =
       let items = Plain (fields.Operate (operate_op op) left right r) ∷ rest in
       let small = second-below items right b h second in
       answer-done (operate_op op) left r right (operate_answer m op a b) h value small (operation_effect (operate_op op) (register s left) (operand s right)) refl
       (operations_correspond c.extents m c.owner (memory_bytes p s) h.frame.memory_is op a b (register s left) (operand s right) (h.is_at.words left) small (stands-in p there rest end c m known store s knows items left a h first) (second-is items right b h second))
 
-  pub extensions_are_done : (op : ExtendOp) (r : ℕ) (right : Operand) (b : Content) → StandsFor p there (Plain (fields.Operate (extend_op op) 31 right r) ∷ rest) end c m known store s → IsSecond known store right b → IsValueRegister r → DoesAnswer p there rest end c m known store s r (extend_answer op b)
+  pub extensions_are_done : (op : ExtendOp) (r : ℕ) (right : Operand) (b : Content) → StandsFor p there (Plain (fields.Operate (extend_op op) 31 right r) ∷ rest) end c m known store s → IsSecond known store right b → IsWritable c.shape r → DoesAnswer p there rest end c m known store s r (extend_answer op b)
   extensions_are_done op r right b h second value =
       let items = Plain (fields.Operate (extend_op op) 31 right r) ∷ rest in
       answer-done (extend_op op) 31 r right (extend_answer op b) h value (second-below items right b h second) (operation_effect (extend_op op) 0 (operand s right)) refl

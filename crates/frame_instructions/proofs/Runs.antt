@@ -31,39 +31,39 @@ use Rattle.flat_operations.proofs.Operations.{moves_correspond, tests_correspond
 use Rattle.flat_operations.proofs.Steps.{loads_step, stores_step}
 use Rattle.flat_frames.specs.Frames.{FrameAndMemory}
 use Rattle.flat_frames.proofs.Frames.{unwritten-objects, frames_stay, registers_are_put}
-use Rattle.frame_accesses.specs.Laws.{HasCome, IsValueRegister}
+use Rattle.frame_accesses.specs.Laws.{HasCome}
 use Rattle.frame_accesses.proofs.Runs.{stands, word-written, bytes-same, reached-same, parts-same}
-use Rattle.frame_transfers.specs.Laws.{Call, StandsFor, KnowsValues, HasDone}
-use Rattle.frame_transfers.proofs.Runs.{frame-with_register, knows-more, kept-same}
+use Rattle.frame_transfers.specs.Laws.{Call, StandsFor, KnowsValues, IsWritable, HasDone}
+use Rattle.frame_transfers.proofs.Runs.{frame-with_register, knows-more, kept-same, unsaved-other}
 use Rattle.frame_instructions.specs.Laws.{StandsIn, GivesRegister, BranchIsDone}
 
 module _ (p : Program) (there : Labels) (rest : List AsmItem) (end : ℕ) (c : Call) (m : memory.Memory) (known : ℕ → Bool) (store : Places) (s : State) (knows : KnowsValues known) where
   -- a state in which a register has a word for a content
-  pub gives : (items : List AsmItem) (h : StandsFor p there items end c m known store s) (r : ℕ) (content : Content) → IsValueRegister r → (t : State) → HasCome p there rest end s t → ContentIs c.extents content (register t r) → ((q : ℕ) → q ≢ r → q ≢ 29 → register t q ≡ register s q) → memory_bytes p t ≡ memory_bytes p s → GivesRegister p there rest end c m known store s r content
+  pub gives : (items : List AsmItem) (h : StandsFor p there items end c m known store s) (r : ℕ) (content : Content) → IsWritable c.shape r → (t : State) → HasCome p there rest end s t → ContentIs c.extents content (register t r) → ((q : ℕ) → q ≢ r → q ≢ 29 → register t q ≡ register s q) → memory_bytes p t ≡ memory_bytes p s → GivesRegister p there rest end c m known store s r content
   gives items h r content value t come is others bytes = record {
     to = t;
     comes = come.comes;
     stands = record {
       word = come.next;
       is_at = come.is_at;
-      stack = others 30 (λ e. omega (arith, e, value)) (λ e. omega (arith, e)) ∙ h.stack;
+      stack = others 30 (λ e. let lt = value.value in omega (arith, e, lt)) (λ e. omega (arith, e)) ∙ h.stack;
       frame = frame-with_register c.extents m c.owner (memory_bytes p t) c.sp c.depth c.own c.shape store r content
           (subst (λ b. FrameAndMemory c.extents m c.owner b c.sp c.depth c.own c.shape store) (sym bytes) h.frame);
       registers = registers_are_put c.extents known store s t r content h.registers (λ q e ne. others q ne (λ f. let v = knows q e in omega (arith, f, v))) is;
       reached = λ y own. come.reached y ∙ h.reached y own;
     };
-    knows = knows-more known r knows value;
+    knows = knows-more known r knows value.value;
     input = come.input;
     output = come.output;
-    kept = kept-same p c s t come.reached bytes;
+    kept = kept-same p c s t come.reached bytes (λ q from to e. others q (unsaved-other c.shape r q value from to e) (λ f. omega (arith, f, to)));
   }
 
   has-memory : (items : List AsmItem) → StandsFor p there items end c m known store s → HasMemory c.extents m c.owner p s
   has-memory items h = record { parts = h.is_at.parts; memory_is = h.frame.memory_is; reached = h.reached }
 
-  pub written-gives : (insn : Fields) (h : StandsFor p there (Plain insn ∷ rest) end c m known store s) (r : ℕ) (v : ℕ) (content : Content) → IsValueRegister r → v < 2 ^ 64 → insn_step p insn s ≡ next_instruction (with_register r v s) → ContentIs c.extents content v → GivesRegister p there rest end c m known store s r content
+  pub written-gives : (insn : Fields) (h : StandsFor p there (Plain insn ∷ rest) end c m known store s) (r : ℕ) (v : ℕ) (content : Content) → IsWritable c.shape r → v < 2 ^ 64 → insn_step p insn s ≡ next_instruction (with_register r v s) → ContentIs c.extents content v → GivesRegister p there rest end c m known store s r content
   written-gives insn h r v content value small e is =
-      let x = word-written p there h.word insn rest end r v s h.is_at (omega (arith, value)) small e in
+      let x = word-written p there h.word insn rest end r v s h.is_at (let lt = value.value in omega (arith, lt)) small e in
       gives (Plain insn ∷ rest) h r content value x.to x.come (subst (ContentIs c.extents content) (sym x.here) is) (λ q ne far. x.others q ne) x.bytes
 
   -- the content of a register that is known, or is 31
@@ -73,7 +73,7 @@ module _ (p : Program) (there : Labels) (rest : List AsmItem) (end : ℕ) (c : C
 
   -- ---- loads and stores
 
-  pub loads_are_done : (op : LoadOp) (r pointer : ℕ) (plus : ℤ) (content : Content) → StandsFor p there (Plain (Memory (load_op op) r pointer plus) ∷ rest) end c m known store s → known pointer ≡ true → IsValueRegister r → loaded_content m op (store (Reg pointer)) plus ≡ Some content → GivesRegister p there rest end c m known store s r content
+  pub loads_are_done : (op : LoadOp) (r pointer : ℕ) (plus : ℤ) (content : Content) → StandsFor p there (Plain (Memory (load_op op) r pointer plus) ∷ rest) end c m known store s → known pointer ≡ true → IsWritable c.shape r → loaded_content m op (store (Reg pointer)) plus ≡ Some content → GivesRegister p there rest end c m known store s r content
   loads_are_done op r pointer plus content h k value e =
       let l = loads_step c.extents m c.owner p s (has-memory (Plain (Memory (load_op op) r pointer plus) ∷ rest) h) op r pointer plus (store (Reg pointer)) content (h.registers pointer k) e in
       written-gives (Memory (load_op op) r pointer plus) h r l.word content value l.small l.goes l.content
@@ -110,7 +110,7 @@ module _ (p : Program) (there : Labels) (rest : List AsmItem) (end : ℕ) (c : C
         knows = knows;
         input = x.input;
         output = x.output;
-        kept = record { reach = x.reach; bytes = unwritten-objects c.owner c.depth (memory_bytes p s) (memory_bytes p x.to) (record { same = x.others }) };
+        kept = record { reach = x.reach; bytes = unwritten-objects c.owner c.depth (memory_bytes p s) (memory_bytes p x.to) (record { same = x.others }); registers = λ q from to e. same q };
       }
 
   -- ---- moves
@@ -118,7 +118,7 @@ module _ (p : Program) (there : Labels) (rest : List AsmItem) (end : ℕ) (c : C
   sum-below : (n : ℕ) → word_at n < 2 ^ 64
   sum-below n = omega arith
 
-  pub moves_are_done : (op : AddressOp) (r base : ℕ) (plus : ℤ) (value content : Content) → StandsFor p there (Plain (Memory (address_op op) r base plus) ∷ rest) end c m known store s → StandsIn known store base value → IsValueRegister r → moved_content m value (moved_by op plus) ≡ Some content → GivesRegister p there rest end c m known store s r content
+  pub moves_are_done : (op : AddressOp) (r base : ℕ) (plus : ℤ) (value content : Content) → StandsFor p there (Plain (Memory (address_op op) r base plus) ∷ rest) end c m known store s → StandsIn known store base value → IsWritable c.shape r → moved_content m value (moved_by op plus) ≡ Some content → GivesRegister p there rest end c m known store s r content
   moves_are_done address.Lda r base plus value content h from to e =
       written-gives (Memory (address_op address.Lda) r base plus) h r (word_at (register s base + word_from plus)) content to (sum-below (register s base + word_from plus)) refl
       (moves_correspond c.extents m c.owner (memory_bytes p s) h.frame.memory_is value content (register s base) plus (stands-in (Plain (Memory (address_op address.Lda) r base plus) ∷ rest) base value h from) e)
@@ -130,7 +130,7 @@ module _ (p : Program) (there : Labels) (rest : List AsmItem) (end : ℕ) (c : C
   number-word (pos n) d = let e : word_at (0 + n) ≡ n = omega (arith, d) in e
   number-word (negsuc n) d = let e : word_at (0 + (2 ^ 64 - suc n)) ≡ 2 ^ 64 - suc n = omega (arith, d) in e
 
-  pub sets_are_done : (r : ℕ) (number : ℤ) → StandsFor p there (Plain (Memory Lda r 31 number) ∷ rest) end c m known store s → IsValueRegister r → IsDisplacement number → GivesRegister p there rest end c m known store s r (word (word_from number))
+  pub sets_are_done : (r : ℕ) (number : ℤ) → StandsFor p there (Plain (Memory Lda r 31 number) ∷ rest) end c m known store s → IsWritable c.shape r → IsDisplacement number → GivesRegister p there rest end c m known store s r (word (word_from number))
   sets_are_done r number h value d =
       written-gives (Memory Lda r 31 number) h r (word_at (0 + word_from number)) (word (word_from number)) value (sum-below (0 + word_from number)) refl (number-word number d)
 
@@ -177,5 +177,5 @@ module _ (p : Program) (there : Labels) (rest : List AsmItem) (end : ℕ) (c : C
         };
         input = d.same.input;
         output = d.same.output;
-        kept = kept-same p c s d.to (reached-same p s d.to d.same) (bytes-same p s d.to d.same);
+        kept = kept-same p c s d.to (reached-same p s d.to d.same) (bytes-same p s d.to d.same) (λ q from to f. same q (λ g. omega (arith, g, to)));
       }

@@ -16,8 +16,7 @@ use Rattle.flat_operations.specs.Contents.{ContentIs}
 use Rattle.flat_frames.specs.Shapes.{frame_size, argument_at, object_at}
 use Rattle.flat_frames.specs.Frames.{word_in}
 use Rattle.frame_accesses.specs.Items.{frame_load, frame_store, frame_address}
-use Rattle.frame_accesses.specs.Laws.{IsValueRegister}
-use Rattle.frame_transfers.specs.Laws.{Call, IsCall, StandsFor, KnowsValues, HasDone}
+use Rattle.frame_transfers.specs.Laws.{Call, IsCall, StandsFor, KnowsValues, IsWritable, HasDone}
 use Rattle.frame_instructions.specs.Laws.{GivesRegister}
 
 -- an argument of the next call is written
@@ -43,7 +42,7 @@ ArgumentsAreRead =
     (p : Program) (there : Labels) (rest : List AsmItem) (end : ℕ) (c : Call) (m : memory.Memory) (known : ℕ → Bool)
     (store : Places) (s : State) → IsCall c → KnowsValues known →
     (r k : ℕ) → StandsFor p there (frame_load r (frame_size c.shape + argument_at k) ++ rest) end c m known store s →
-    IsValueRegister r → IsArgument c k (store (In k)) p s →
+    IsWritable c.shape r → IsArgument c k (store (In k)) p s →
     GivesRegister p there rest end c m known store s r (store (In k))
 
 -- the address of an object, moved by so many bytes
@@ -55,7 +54,7 @@ LocalsHaveAddresses =
     (p : Program) (there : Labels) (rest : List AsmItem) (end : ℕ) (c : Call) (m : memory.Memory) (known : ℕ → Bool)
     (store : Places) (s : State) → IsCall c → KnowsValues known →
     (r k n plus : ℕ) → StandsFor p there (frame_address r (object_at c.shape k + plus) ++ rest) end c m known store s →
-    IsValueRegister r → slice_get c.shape.sizes k ≡ Some n → plus ≤ n →
+    IsWritable c.shape r → slice_get c.shape.sizes k ≡ Some n → plus ≤ n →
     GivesRegister p there rest end c m known store s r (address_content (c.own + k) plus)
 
 abbrev pub GlobalsHaveAddresses : Type 0
@@ -63,6 +62,6 @@ GlobalsHaveAddresses =
     (p : Program) (there : Labels) (rest : List AsmItem) (end : ℕ) (c : Call) (m : memory.Memory) (known : ℕ → Bool)
     (store : Places) (s : State) → IsCall c → KnowsValues known →
     (r k offset plus : ℕ) (e : Extent) → StandsFor p there (DataAddress r (offset + plus) ∷ rest) end c m known store s →
-    IsValueRegister r → slice_get c.extents k ≡ Some e → IsExtent e → e.base ≡ data_start p + offset →
+    IsWritable c.shape r → slice_get c.extents k ≡ Some e → IsExtent e → e.base ≡ data_start p + offset →
     plus ≤ e.size → data_start p + (offset + plus) < 2147450880 →
     GivesRegister p there rest end c m known store s r (address_content k plus)

@@ -20,8 +20,7 @@ use Rattle.alloc_model.specs.Contents.{Content, word, moved_by, moved_content, l
 use Rattle.alloc_model.specs.Stores.{put}
 use Rattle.alloc_model.specs.Places.{Places, Reg, place_eq}
 use Rattle.flat_frames.specs.Frames.{with_known}
-use Rattle.frame_accesses.specs.Laws.{IsValueRegister}
-use Rattle.frame_transfers.specs.Laws.{Call, IsCall, StandsFor, KnowsValues, IsKept, HasDone}
+use Rattle.frame_transfers.specs.Laws.{Call, IsCall, StandsFor, KnowsValues, IsWritable, IsKept, HasDone}
 
 -- a content stands in a register: that of a known one, or zero in register 31
 abbrev pub StandsIn : (known : ℕ → Bool) → Places → (register : ℕ) → Content → Type 0
@@ -40,7 +39,7 @@ LoadsAreDone =
     (store : Places) (s : State) → IsCall c → KnowsValues known →
     (op : LoadOp) (r pointer : ℕ) (plus : ℤ) (content : Content) →
     StandsFor p there (Plain (Memory (load_op op) r pointer plus) ∷ rest) end c m known store s →
-    known pointer ≡ true → IsValueRegister r → loaded_content m op (store (Reg pointer)) plus ≡ Some content →
+    known pointer ≡ true → IsWritable c.shape r → loaded_content m op (store (Reg pointer)) plus ≡ Some content →
     GivesRegister p there rest end c m known store s r content
 
 -- a store
@@ -60,7 +59,7 @@ MovesAreDone =
     (store : Places) (s : State) → IsCall c → KnowsValues known →
     (op : AddressOp) (r base : ℕ) (plus : ℤ) (value content : Content) →
     StandsFor p there (Plain (Memory (address_op op) r base plus) ∷ rest) end c m known store s →
-    StandsIn known store base value → IsValueRegister r → moved_content m value (moved_by op plus) ≡ Some content →
+    StandsIn known store base value → IsWritable c.shape r → moved_content m value (moved_by op plus) ≡ Some content →
     GivesRegister p there rest end c m known store s r content
 
 -- a register that is set to a number
@@ -69,7 +68,7 @@ SetsAreDone =
     (p : Program) (there : Labels) (rest : List AsmItem) (end : ℕ) (c : Call) (m : memory.Memory) (known : ℕ → Bool)
     (store : Places) (s : State) → IsCall c → KnowsValues known →
     (r : ℕ) (number : ℤ) → StandsFor p there (Plain (Memory Lda r 31 number) ∷ rest) end c m known store s →
-    IsValueRegister r → IsDisplacement number →
+    IsWritable c.shape r → IsDisplacement number →
     GivesRegister p there rest end c m known store s r (word (word_from number))
 
 -- a branch is taken or passed, and what the call holds is as before, but for register 28

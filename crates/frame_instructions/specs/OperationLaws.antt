@@ -15,8 +15,7 @@ use Rattle.temp_ir.specs.declared.operation.ExtendOp.{ExtendOp}
 use Rattle.temp_ir.specs.Operations.{operate_op, extend_op}
 use Rattle.alloc_model.specs.Contents.{Content, word, Answer, Gives, TrapsWith, Fails, operate_answer, extend_answer}
 use Rattle.alloc_model.specs.Places.{Places}
-use Rattle.frame_accesses.specs.Laws.{IsValueRegister}
-use Rattle.frame_transfers.specs.Laws.{Call, IsCall, StandsFor, KnowsValues}
+use Rattle.frame_transfers.specs.Laws.{Call, IsCall, StandsFor, KnowsValues, IsWritable}
 use Rattle.frame_instructions.specs.Laws.{StandsIn, GivesRegister}
 
 -- a second operand is a number below 256, or a register
@@ -38,7 +37,7 @@ OperationsAreDone =
     (store : Places) (s : State) → IsCall c → KnowsValues known →
     (op : Operation) (left r : ℕ) (right : Operand) (a b : Content) →
     StandsFor p there (Plain (fields.Operate (operate_op op) left right r) ∷ rest) end c m known store s →
-    StandsIn known store left a → IsSecond known store right b → IsValueRegister r →
+    StandsIn known store left a → IsSecond known store right b → IsWritable c.shape r →
     DoesAnswer p there rest end c m known store s r (operate_answer m op a b)
 
 abbrev pub ExtensionsAreDone : Type 0
@@ -47,5 +46,5 @@ ExtensionsAreDone =
     (store : Places) (s : State) → IsCall c → KnowsValues known →
     (op : ExtendOp) (r : ℕ) (right : Operand) (b : Content) →
     StandsFor p there (Plain (fields.Operate (extend_op op) 31 right r) ∷ rest) end c m known store s →
-    IsSecond known store right b → IsValueRegister r →
+    IsSecond known store right b → IsWritable c.shape r →
     DoesAnswer p there rest end c m known store s r (extend_answer op b)

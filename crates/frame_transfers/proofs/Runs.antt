@@ -1,5 +1,5 @@
 -- What the machine does at the items of transfers.
-use Rattle.std.proofs.Common.{◌≡◌, ℕ, ◌+◌, ◌<◌, Bool, true, List, [], ◌∷◌, ◌++◌, refl, sym, ap, ◌∙◌, subst, arith, ⊎_elim}
+use Rattle.std.proofs.Common.{◌≡◌, ◌≢◌, ℕ, ◌+◌, ◌<◌, ◌≤◌, Bool, true, false, List, [], ◌∷◌, ◌++◌, refl, sym, ap, ◌∙◌, subst, arith, ⊎_elim}
 use Rattle.std.specs.Prelude.{◌==◌}
 use Rattle.std.proofs.lemmas.Bool.{or_cases, eqb-true}
 use Rattle.alpha_isa.specs.Program.{Program}
@@ -24,7 +24,7 @@ use Rattle.flat_frames.proofs.Frames.{unwritten-put, own-written, slot-word, slo
 use Rattle.frame_accesses.specs.Laws.{IsOffset, IsValueRegister}
 use Rattle.frame_accesses.proofs.Runs.{frame_loads, frame_stores, register_moves, stays}
 use Rattle.frame_transfers.specs.Items.{transfer_items, items_of_transfers}
-use Rattle.frame_transfers.specs.Laws.{Call, IsCall, StandsFor, KnowsValues, known_after, known_behind, CanTransfer, CanTransferAll, IsKept, HasDone}
+use Rattle.frame_transfers.specs.Laws.{Call, IsCall, StandsFor, KnowsValues, known_after, known_behind, CanTransfer, CanTransferAll, IsWritable, IsKept, HasDone}
 
 -- a register more holds a content
 pub frame-with_register : (xs : Extents) (memory : Memory) (owner : Owners) (m : Bytes) (sp depth own : ℕ) (s : Shape) (store : Places) (r : ℕ) (c : Content) → FrameAndMemory xs memory owner m sp depth own s store → FrameAndMemory xs memory owner m sp depth own s (put place_eq (Reg r) c store)
@@ -46,11 +46,18 @@ knows-more known r knows value q e = ⊎_elim
     (or_cases (q == r) (known q) e)
 
 -- where no byte has changed
-pub kept-same : (p : Program) (c : Call) (s t : State) → ((y : ℕ) → is_reached p t y ≡ is_reached p s y) → memory_bytes p t ≡ memory_bytes p s → IsKept p c s t
-kept-same p c s t reach same = record { reach = reach; bytes = λ y e. ap (λ (m : Bytes). m y) same }
+pub kept-same : (p : Program) (c : Call) (s t : State) → ((y : ℕ) → is_reached p t y ≡ is_reached p s y) → memory_bytes p t ≡ memory_bytes p s → ((q : ℕ) → 9 ≤ q → q < 16 → c.shape.saves q ≡ false → register t q ≡ register s q) → IsKept p c s t
+kept-same p c s t reach same registers = record { reach = reach; bytes = λ y e. ap (λ (m : Bytes). m y) same; registers = registers }
+
+-- a register that is not saved is none that is written
+pub unsaved-other : (s : Shape) (r q : ℕ) → IsWritable s r → 9 ≤ q → q < 16 → s.saves q ≡ false → q ≢ r
+unsaved-other s r q w from to e same = clash (sym (ap s.saves same ∙ w.saved (subst (λ k. 9 ≤ k) same from) (subst (λ k. k < 16) same to)) ∙ e)
+  where
+    clash : true ≡ false → ⊥
+    clash f = cc
 
 pub kept-through : (p : Program) (c : Call) (s t u : State) → IsKept p c s t → IsKept p c t u → IsKept p c s u
-kept-through p c s t u a b = record { reach = λ y. b.reach y ∙ a.reach y; bytes = λ y e. b.bytes y e ∙ a.bytes y e }
+kept-through p c s t u a b = record { reach = λ y. b.reach y ∙ a.reach y; bytes = λ y e. b.bytes y e ∙ a.bytes y e; registers = λ q from to e. b.registers q from to e ∙ a.registers q from to e }
 
 module _ (p : Program) (there : Labels) (rest : List AsmItem) (end : ℕ) (c : Call) (memory : Memory) (call : IsCall c) where
   -- the slot of a temporary may be accessed
@@ -106,13 +113,14 @@ module _ (p : Program) (there : Labels) (rest : List AsmItem) (end : ℕ) (c : C
               (unwritten-put c.owner c.depth (memory_bytes p s) (c.sp + slot_at c.shape t) (register s r) (OfFrame c.depth (SlotPiece t))
               (slot-word c.extents c.owner (memory_bytes p s) c.sp c.depth c.own c.shape store h.frame.frame t can.0)
               (own-written c.depth (SlotPiece t) refl));
+          registers = λ q from to e. d.others q (λ f. omega (arith, f, to));
         };
       }
   transfer-done (Load t r) known store s knows can h =
       let slot = slot-reached t (transfer_items c.shape (Load t r) ++ rest) known store s can.0 h in
-      let d = frame_loads p there h.word r (slot_at c.shape t) rest end s h.is_at can.1 slot.offset slot.reached in
+      let d = frame_loads p there h.word r (slot_at c.shape t) rest end s h.is_at can.1.value slot.offset slot.reached in
       let word : register d.to r ≡ word_in (memory_bytes p s) (c.sp + slot_at c.shape t) = d.here ∙ ap (word_in (memory_bytes p s)) slot.place in
-      let value = can.1 in
+      let value = can.1.value in
       record {
         to = d.to;
         comes = d.come.comes;
@@ -126,14 +134,14 @@ module _ (p : Program) (there : Labels) (rest : List AsmItem) (end : ℕ) (c : C
               (subst (ContentIs c.extents (store (Slot t))) (sym word) (h.frame.frame.slots t can.0));
           reached = λ y own. d.come.reached y ∙ h.reached y own;
         };
-        knows = knows-more known r knows can.1;
+        knows = knows-more known r knows can.1.value;
         input = d.come.input;
         output = d.come.output;
-        kept = kept-same p c s d.to d.come.reached d.bytes;
+        kept = kept-same p c s d.to d.come.reached d.bytes (λ q from to e. d.others q (unsaved-other c.shape r q can.1 from to e) (λ f. omega (arith, f, to)));
       }
   transfer-done (Shift t from to) known store s knows can h =
-      let d = register_moves p there h.word from to rest end s h.is_at can.1 in
-      let value = can.1 in
+      let d = register_moves p there h.word from to rest end s h.is_at can.1.value in
+      let value = can.1.value in
       record {
         to = d.to;
         comes = d.come.comes;
@@ -147,16 +155,16 @@ module _ (p : Program) (there : Labels) (rest : List AsmItem) (end : ℕ) (c : C
               (subst (ContentIs c.extents (store (Reg from))) (sym d.here) (h.registers from can.0));
           reached = λ y own. d.come.reached y ∙ h.reached y own;
         };
-        knows = knows-more known to knows can.1;
+        knows = knows-more known to knows can.1.value;
         input = d.come.input;
         output = d.come.output;
-        kept = kept-same p c s d.to d.come.reached d.bytes;
+        kept = kept-same p c s d.to d.come.reached d.bytes (λ q low high e. d.others q (unsaved-other c.shape to q can.1 low high e) (λ f. omega (arith, f, high)));
       }
 
 -- several transfers
 pub transfers_are_done : (p : Program) (there : Labels) (rest : List AsmItem) (end : ℕ) (c : Call) (memory : Memory) → IsCall c → (xs : List Transfer) (known : ℕ → Bool) (store : Places) (s : State) → KnowsValues known → CanTransferAll c.shape known xs → StandsFor p there (items_of_transfers c.shape xs rest) end c memory known store s → HasDone p there rest end c memory (known_behind xs known) (do_all xs store) s
 transfers_are_done p there rest end c memory call [] known store s knows can h =
-    record { to = s; comes = stays p s; stands = h; knows = knows; input = refl; output = refl; kept = kept-same p c s s (λ y. refl) refl }
+    record { to = s; comes = stays p s; stands = h; knows = knows; input = refl; output = refl; kept = kept-same p c s s (λ y. refl) refl (λ q from to e. refl) }
 transfers_are_done p there rest end c memory call (x ∷ xs) known store s knows can h =
     let d = transfer-done p there (items_of_transfers c.shape xs rest) end c memory call x known store s knows can.0 h in
     let e = transfers_are_done p there rest end c memory call xs (known_after x known) (put place_eq (target_of x) (store (source_of x)) store) d.to d.knows can.1 d.stands in

@@ -1,5 +1,5 @@
 -- What the machine does at the items of transfers.
-use Rattle.std.specs.Prelude.{◌≡◌, ◌≢◌, ℕ, ◌+◌, ◌^◌, ◌<◌, Bool, true, List, [], ◌∷◌}
+use Rattle.std.specs.Prelude.{◌≡◌, ◌≢◌, ℕ, ◌+◌, ◌^◌, ◌<◌, ◌≤◌, Bool, true, false, List, [], ◌∷◌}
 use Rattle.alpha_isa.specs.Program.{Program}
 use Rattle.alpha_isa.specs.State.{State, register}
 use Rattle.alpha_items.specs.declared.item.AsmItem.{AsmItem}
@@ -45,6 +45,11 @@ pub record StandsFor (p : Program) (there : Labels) (items : List AsmItem) (end 
 abbrev pub KnowsValues : (known : ℕ → Bool) → Type 0
 KnowsValues known = (r : ℕ) → known r ≡ true → IsValueRegister r
 
+-- a register that a function may write: it saves the one that its caller keeps there
+pub record IsWritable (s : Shape) (r : ℕ) : Type 0 where
+  pub value : IsValueRegister r
+  pub saved : 9 ≤ r → r < 16 → s.saves r ≡ true
+
 -- the registers that are known behind a transfer, and behind several
 abbrev pub known_after : Transfer → (ℕ → Bool) → ℕ → Bool
 known_after (Store t r) known = known
@@ -58,17 +63,19 @@ known_behind (x ∷ xs) known = known_behind xs (known_after x known)
 -- what is read is known, and what is named is there
 abbrev pub CanTransfer : Shape → (known : ℕ → Bool) → Transfer → Type 0
 CanTransfer s known (Store t r) = (t < s.temps) × (known r ≡ true)
-CanTransfer s known (Load t r) = (t < s.temps) × IsValueRegister r
-CanTransfer s known (Shift t from to) = (known from ≡ true) × IsValueRegister to
+CanTransfer s known (Load t r) = (t < s.temps) × IsWritable s r
+CanTransfer s known (Shift t from to) = (known from ≡ true) × IsWritable s to
 
 abbrev pub CanTransferAll : Shape → (known : ℕ → Bool) → List Transfer → Type 0
 CanTransferAll s known [] = Unit {0}
 CanTransferAll s known (x ∷ xs) = CanTransfer s known x × CanTransferAll s (known_after x known) xs
 
--- what may be accessed is as before, and so are the bytes that no instruction of the call writes
+-- what may be accessed is as before, and so are the bytes that no instruction of the call writes, and the registers of
+-- the caller that the function does not save
 pub record IsKept (p : Program) (c : Call) (s t : State) : Type 0 where
   pub reach : (y : ℕ) → is_reached p t y ≡ is_reached p s y
   pub bytes : KeepsUnwritten c.owner c.depth (memory_bytes p s) (memory_bytes p t)
+  pub registers : (q : ℕ) → 9 ≤ q → q < 16 → c.shape.saves q ≡ false → register t q ≡ register s q
 
 -- the machine has come to other items, for other contents of the call
 pub record HasDone (p : Program) (there : Labels) (rest : List AsmItem) (end : ℕ) (c : Call) (memory : Memory)

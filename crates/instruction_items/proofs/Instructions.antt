@@ -16,20 +16,21 @@ use Rattle.temp_ir.specs.Fixed.{register_number}
 use Rattle.alloc_model.specs.Contents.{word, moved_by, moved_content, loaded_content, stored_memory, test_of}
 use Rattle.alloc_model.specs.Effect.{does, is_number}
 use Rattle.alloc_model.specs.Places.{Places, Reg, In, places_read_at}
+use Rattle.flat_memory.specs.Machine.{memory_bytes}
 use Rattle.flat_frames.specs.Shapes.{frame_size, argument_at}
 use Rattle.frame_accesses.specs.Items.{frame_load}
 use Rattle.frame_accesses.proofs.Runs.{stays}
 use Rattle.frame_transfers.proofs.Runs.{kept-same}
 use Rattle.frame_transfers.specs.Laws.{Call, IsCall, StandsFor}
 use Rattle.instruction_items.specs.Items.{Setting, insn_items}
-use Rattle.instruction_items.specs.Laws.{usable, AreUsable, IsStated, IsThere, ArgumentsAre, HasOuter, IsAtLabel, ActIsDone, is_no_call, store_behind}
-use Rattle.instruction_items.proofs.Runs.{fixed-usable, nothing-ended, set-done, no-registers, one-register, two-registers, three-registers, address-done, move-done, object-done, load-done, store-done, operate-done, extend-done, write-argument-done, read-argument-done, branch-done, jumps_are_done, unwritten}
+use Rattle.instruction_items.specs.Laws.{usable, AllMayHold, IsStated, IsThere, ArgumentsAre, HasOuter, IsAtLabel, ActIsDone, is_no_call, store_behind}
+use Rattle.instruction_items.proofs.Runs.{fixed-holds, nothing-ended, set-done, no-registers, one-register, two-registers, three-registers, address-done, move-done, object-done, load-done, store-done, operate-done, extend-done, write-argument-done, read-argument-done, branch-done, jumps_are_done, unwritten}
 use Rattle.instruction_items.proofs.Services.{put-byte-done, take-byte-done, end-service-done, trap-done}
 
-module _ (p : Program) (there : Labels) (g : Setting) (rest : List AsmItem) (end : ℕ) (c : Call) (o : Outer) (store : Places) (s : State) (call : IsCall c) (shape : g.shape ≡ c.shape) (args : ArgumentsAre c store p s) (outer : HasOuter o s) (widest : ℕ) (le : widest ≤ c.shape.outgoing + 6) where
+module _ (p : Program) (there : Labels) (g : Setting) (rest : List AsmItem) (end : ℕ) (c : Call) (o : Outer) (store : Places) (s : State) (call : IsCall c) (shape : g.shape ≡ c.shape) (args : ArgumentsAre c store (memory_bytes p s)) (outer : HasOuter o s) (widest : ℕ) (le : widest ≤ c.shape.outgoing + 6) where
   -- an instruction with registers does what it does
   abbrev Does : TempInsn → List ℕ → Type 0
-  Does x rs = AreUsable rs → IsThere p g c x → StandsFor p there (insn_items g rs x ++ rest) end c o.memory usable store s → ActIsDone p there g rest end c (store_behind rs x store) x s (does widest x c.own (map store (places_read_at rs x)) o)
+  Does x rs = AllMayHold c.shape rs → IsThere p g c x → StandsFor p there (insn_items g rs x ++ rest) end c o.memory usable store s → ActIsDone p there g rest end c (store_behind rs x store) x s (does widest x c.own (map store (places_read_at rs x)) o)
 
   none : (x : TempInsn) (rs : List ℕ) → length rs ≡ 0 → Does x [] → Does x rs
   none x rs e d = subst (Does x) (sym (no-registers rs e)) d
@@ -43,11 +44,11 @@ module _ (p : Program) (there : Labels) (g : Setting) (rest : List AsmItem) (end
   three : (x : TempInsn) (rs : List ℕ) → length rs ≡ 3 → ((a b f : ℕ) → Does x (a ∷ b ∷ f ∷ [])) → Does x rs
   three x rs e d = let r = three-registers rs e in subst (Does x) (sym r.3) (d r.0 r.1 r.2)
 
-  insn-done : (x : TempInsn) (rs : List ℕ) → is_no_call x ≡ true → IsStated rs x → Does x rs
+  insn-done : (x : TempInsn) (rs : List ℕ) → is_no_call x ≡ true → IsStated c.shape rs x → Does x rs
   insn-done (i.Address op d source.Zero plus) rs plain st = one (i.Address op d source.Zero plus) rs st.count (λ a u is h.
       address-done p there g rest end c o store s call shape args outer op d source.Zero plus (a ∷ []) 31 a (word 0) refl u.0 (inr (refl, refl)) h (moved_content o.memory (word 0) (moved_by op plus)) refl)
   insn-done (i.Address op d (source.Temp t) plus) rs plain st = two (i.Address op d (source.Temp t) plus) rs st.count (λ a b u is h.
-      address-done p there g rest end c o store s call shape args outer op d (source.Temp t) plus (a ∷ b ∷ []) a b (store (Reg a)) refl u.1.0 (inl (u.0, refl)) h (moved_content o.memory (store (Reg a)) (moved_by op plus)) refl)
+      address-done p there g rest end c o store s call shape args outer op d (source.Temp t) plus (a ∷ b ∷ []) a b (store (Reg a)) refl u.1.0 (inl (u.0.usable_one, refl)) h (moved_content o.memory (store (Reg a)) (moved_by op plus)) refl)
   insn-done (i.ObjectAddress d place plus) rs plain st = one (i.ObjectAddress d place plus) rs st.count (λ a u is h.
       object-done p there g rest end c o store s call shape args outer d place plus a u.0 is h)
   insn-done (i.Load op d pointer plus) rs plain st = two (i.Load op d pointer plus) rs st.count (λ a b u is h.
@@ -55,23 +56,23 @@ module _ (p : Program) (there : Labels) (g : Setting) (rest : List AsmItem) (end
   insn-done (i.Store op source.Zero pointer plus) rs plain st = one (i.Store op source.Zero pointer plus) rs st.count (λ a u is h.
       store-done p there g rest end c o store s call shape args outer op source.Zero pointer plus (a ∷ []) 31 a (word 0) refl (inr (refl, refl)) u.0 h (stored_memory o.memory op (word 0) (store (Reg a)) plus) refl)
   insn-done (i.Store op (source.Temp t) pointer plus) rs plain st = two (i.Store op (source.Temp t) pointer plus) rs st.count (λ a b u is h.
-      store-done p there g rest end c o store s call shape args outer op (source.Temp t) pointer plus (a ∷ b ∷ []) a b (store (Reg a)) refl (inl (u.0, refl)) u.1.0 h (stored_memory o.memory op (store (Reg a)) (store (Reg b)) plus) refl)
+      store-done p there g rest end c o store s call shape args outer op (source.Temp t) pointer plus (a ∷ b ∷ []) a b (store (Reg a)) refl (inl (u.0.usable_one, refl)) u.1.0 h (stored_memory o.memory op (store (Reg a)) (store (Reg b)) plus) refl)
   insn-done (i.Operate op d source.Zero (operand.Temp k)) rs plain st = two (i.Operate op d source.Zero (operand.Temp k)) rs st.count (λ a b u is h.
-      operate-done p there g rest end c o store s call shape args outer op d source.Zero (operand.Temp k) (a ∷ b ∷ []) 31 b (isa.Reg a) (word 0) (store (Reg a)) refl u.1.0 (inr (refl, refl)) (inl (u.0, refl)) h)
+      operate-done p there g rest end c o store s call shape args outer op d source.Zero (operand.Temp k) (a ∷ b ∷ []) 31 b (isa.Reg a) (word 0) (store (Reg a)) refl u.1.0 (inr (refl, refl)) (inl (u.0.usable_one, refl)) h)
   insn-done (i.Operate op d source.Zero (operand.Literal n)) rs plain st = one (i.Operate op d source.Zero (operand.Literal n)) rs st.count (λ a u is h.
       operate-done p there g rest end c o store s call shape args outer op d source.Zero (operand.Literal n) (a ∷ []) 31 a (isa.Literal n) (word 0) (word n) refl u.0 (inr (refl, refl)) (is, refl) h)
   insn-done (i.Operate op d (source.Temp t) (operand.Temp k)) rs plain st = three (i.Operate op d (source.Temp t) (operand.Temp k)) rs st.count (λ a b f u is h.
-      operate-done p there g rest end c o store s call shape args outer op d (source.Temp t) (operand.Temp k) (a ∷ b ∷ f ∷ []) a f (isa.Reg b) (store (Reg a)) (store (Reg b)) refl u.1.1.0 (inl (u.0, refl)) (inl (u.1.0, refl)) h)
+      operate-done p there g rest end c o store s call shape args outer op d (source.Temp t) (operand.Temp k) (a ∷ b ∷ f ∷ []) a f (isa.Reg b) (store (Reg a)) (store (Reg b)) refl u.1.1.0 (inl (u.0.usable_one, refl)) (inl (u.1.0.usable_one, refl)) h)
   insn-done (i.Operate op d (source.Temp t) (operand.Literal n)) rs plain st = two (i.Operate op d (source.Temp t) (operand.Literal n)) rs st.count (λ a b u is h.
-      operate-done p there g rest end c o store s call shape args outer op d (source.Temp t) (operand.Literal n) (a ∷ b ∷ []) a b (isa.Literal n) (store (Reg a)) (word n) refl u.1.0 (inl (u.0, refl)) (is, refl) h)
+      operate-done p there g rest end c o store s call shape args outer op d (source.Temp t) (operand.Literal n) (a ∷ b ∷ []) a b (isa.Literal n) (store (Reg a)) (word n) refl u.1.0 (inl (u.0.usable_one, refl)) (is, refl) h)
   insn-done (i.Extend op d (operand.Temp k)) rs plain st = two (i.Extend op d (operand.Temp k)) rs st.count (λ a b u is h.
-      extend-done p there g rest end c o store s call shape args outer op d (operand.Temp k) (a ∷ b ∷ []) b (isa.Reg a) (store (Reg a)) refl u.1.0 (inl (u.0, refl)) h)
+      extend-done p there g rest end c o store s call shape args outer op d (operand.Temp k) (a ∷ b ∷ []) b (isa.Reg a) (store (Reg a)) refl u.1.0 (inl (u.0.usable_one, refl)) h)
   insn-done (i.Extend op d (operand.Literal n)) rs plain st = one (i.Extend op d (operand.Literal n)) rs st.count (λ a u is h.
       extend-done p there g rest end c o store s call shape args outer op d (operand.Literal n) (a ∷ []) a (isa.Literal n) (word n) refl u.0 (is, refl) h)
   insn-done (i.ToFixed register t) rs plain st = one (i.ToFixed register t) rs st.count (λ a u is h.
-      move-done p there g rest end c o store s call shape args outer (a ∷ []) (i.ToFixed register t) a (register_number register) refl refl refl u.0 (fixed-usable register) h)
+      move-done p there g rest end c o store s call shape args outer (a ∷ []) (i.ToFixed register t) a (register_number register) refl refl refl u.0 (fixed-holds c.shape register) h)
   insn-done (i.FromFixed d register) rs plain st = one (i.FromFixed d register) rs st.count (λ a u is h.
-      move-done p there g rest end c o store s call shape args outer (a ∷ []) (i.FromFixed d register) (register_number register) a refl refl refl (fixed-usable register) u.0 h)
+      move-done p there g rest end c o store s call shape args outer (a ∷ []) (i.FromFixed d register) (register_number register) a refl refl refl (fixed-holds c.shape register) u.0 h)
   insn-done (i.SetFixed register number) rs plain st = none (i.SetFixed register number) rs st.count (λ u is h.
       set-done p there g rest end c o store s call shape args outer register number is h)
   insn-done (i.WriteArgument number t) rs plain st = one (i.WriteArgument number t) rs st.count (λ a u is h.
@@ -100,8 +101,8 @@ module _ (p : Program) (there : Labels) (g : Setting) (rest : List AsmItem) (end
   insn-done (i.Return with_value) rs plain st = absurd (cc)
   insn-done i.Mark rs plain st = none i.Mark rs st.count (λ u is h.
       unwritten p there g rest end c o store s call shape args outer [] i.Mark o refl refl refl
-      (record { to = s; comes = stays p s; stands = h; outer = outer; kept = kept-same p c s s (λ y. refl) refl }))
+      (record { to = s; comes = stays p s; stands = h; outer = outer; kept = kept-same p c s s (λ y. refl) refl (λ q from to e. refl) }))
 
-pub instructions_are_done : (p : Program) (there : Labels) (g : Setting) (rest : List AsmItem) (end : ℕ) (c : Call) (o : Outer) (store : Places) (s : State) → IsCall c → g.shape ≡ c.shape → ArgumentsAre c store p s → HasOuter o s → (widest : ℕ) → widest ≤ c.shape.outgoing + 6 → (registers : List ℕ) (x : TempInsn) → is_no_call x ≡ true → IsStated registers x → IsThere p g c x → StandsFor p there (insn_items g registers x ++ rest) end c o.memory usable store s → ActIsDone p there g rest end c (store_behind registers x store) x s (does widest x c.own (map store (places_read_at registers x)) o)
+pub instructions_are_done : (p : Program) (there : Labels) (g : Setting) (rest : List AsmItem) (end : ℕ) (c : Call) (o : Outer) (store : Places) (s : State) → IsCall c → g.shape ≡ c.shape → ArgumentsAre c store (memory_bytes p s) → HasOuter o s → (widest : ℕ) → widest ≤ c.shape.outgoing + 6 → (registers : List ℕ) (x : TempInsn) → is_no_call x ≡ true → IsStated c.shape registers x → IsThere p g c x → StandsFor p there (insn_items g registers x ++ rest) end c o.memory usable store s → ActIsDone p there g rest end c (store_behind registers x store) x s (does widest x c.own (map store (places_read_at registers x)) o)
 instructions_are_done p there g rest end c o store s call shape args outer widest le registers x plain st is h =
-    insn-done p there g rest end c o store s call shape args outer widest le x registers plain st st.are_usable is h
+    insn-done p there g rest end c o store s call shape args outer widest le x registers plain st st.may_hold is h

@@ -45,11 +45,11 @@ use Rattle.alloc_model.specs.Places.{Places, Reg, Slot, In, Out, place_eq, place
 use Rattle.flat_memory.specs.Bytes.{Bytes, AreBytes}
 use Rattle.flat_memory.specs.Machine.{memory_bytes}
 use Rattle.flat_operations.specs.Contents.{ContentIs}
-use Rattle.flat_frames.specs.Shapes.{frame_size, argument_at, object_at}
+use Rattle.flat_frames.specs.Shapes.{Shape, frame_size, argument_at, object_at}
 use Rattle.flat_frames.specs.Frames.{word_in, FrameAndMemory, with_known}
 use Rattle.frame_accesses.specs.Items.{frame_load, frame_store, frame_address, register_move}
 use Rattle.frame_accesses.proofs.Runs.{stands, bytes-same, reached-same, parts-same}
-use Rattle.frame_transfers.specs.Laws.{Call, IsCall, StandsFor, KnowsValues, HasDone}
+use Rattle.frame_transfers.specs.Laws.{Call, IsCall, StandsFor, KnowsValues, IsWritable, HasDone}
 use Rattle.frame_transfers.proofs.Runs.{transfers_are_done, kept-same}
 use Rattle.frame_instructions.specs.Laws.{StandsIn, GivesRegister}
 use Rattle.frame_instructions.specs.FrameLaws.{address_content}
@@ -58,7 +58,7 @@ use Rattle.frame_instructions.proofs.Runs.{loads_are_done, stores_are_done, move
 use Rattle.frame_instructions.proofs.Operations.{operations_are_done, extensions_are_done}
 use Rattle.frame_instructions.proofs.Frames.{arguments_are_written, arguments_are_read, locals_have_addresses, globals_have_addresses}
 use Rattle.instruction_items.specs.Items.{Setting, insn_items}
-use Rattle.instruction_items.specs.Laws.{usable, IsThere, IsHeldArgument, ArgumentIs, ArgumentsAre, HasOuter, IsBehind, IsAtLabel, ActIsDone, store_behind}
+use Rattle.instruction_items.specs.Laws.{usable, MayHold, IsThere, IsHeldArgument, ArgumentIs, ArgumentsAre, HasOuter, IsBehind, IsAtLabel, ActIsDone, store_behind}
 
 -- ---- registers in which values may stand
 
@@ -90,6 +90,25 @@ fixed-usable fixed.Argument5 = refl
 fixed-usable fixed.Dividend = refl
 fixed-usable fixed.Divisor = refl
 fixed-usable fixed.Answer = refl
+
+pub writable : (s : Shape) (r : ℕ) → MayHold s r → IsWritable s r
+writable s r h = record { value = usable-values r h.usable_one; saved = h.saved }
+
+-- the fixed registers are none that a caller keeps
+pub fixed-holds : (s : Shape) (f : FixedRegister) → MayHold s (register_number f)
+fixed-holds s f = record { usable_one = fixed-usable f; saved = λ from to. absurd (apart f from to) }
+  where
+    apart : (f : FixedRegister) → 9 ≤ register_number f → register_number f < 16 → ⊥
+    apart fixed.Value from to = omega (arith, from)
+    apart fixed.Argument0 from to = omega (arith, to)
+    apart fixed.Argument1 from to = omega (arith, to)
+    apart fixed.Argument2 from to = omega (arith, to)
+    apart fixed.Argument3 from to = omega (arith, to)
+    apart fixed.Argument4 from to = omega (arith, to)
+    apart fixed.Argument5 from to = omega (arith, to)
+    apart fixed.Dividend from to = omega (arith, to)
+    apart fixed.Divisor from to = omega (arith, to)
+    apart fixed.Answer from to = omega (arith, to)
 
 -- an instruction that ends nothing
 pub nothing-ended : (x : TempInsn) (store : Places) → ended_of x ≡ [] → is_call x ≡ false → without (is_ended x) store ≡ store
@@ -125,7 +144,7 @@ three-registers (a ∷ b ∷ []) e = absurd (omega (arith, e))
 three-registers (a ∷ b ∷ d ∷ []) e = (a, b, d, refl)
 three-registers (a ∷ b ∷ d ∷ f ∷ rs) e = absurd (omega (arith, e))
 
-module _ (p : Program) (there : Labels) (g : Setting) (rest : List AsmItem) (end : ℕ) (c : Call) (o : Outer) (store : Places) (s : State) (call : IsCall c) (shape : g.shape ≡ c.shape) (args : ArgumentsAre c store p s) (outer : HasOuter o s) where
+module _ (p : Program) (there : Labels) (g : Setting) (rest : List AsmItem) (end : ℕ) (c : Call) (o : Outer) (store : Places) (s : State) (call : IsCall c) (shape : g.shape ≡ c.shape) (args : ArgumentsAre c store (memory_bytes p s)) (outer : HasOuter o s) where
   -- the machine stands at items, and does what an act is
   abbrev Here : List AsmItem → Type 0
   Here items = StandsFor p there (items ++ rest) end c o.memory usable store s
@@ -143,13 +162,13 @@ module _ (p : Program) (there : Labels) (g : Setting) (rest : List AsmItem) (end
   }
 
   -- an instruction that writes one content, to a register
-  pub written : (rs : List ℕ) (x : TempInsn) (r : ℕ) (content : Content) → ended_of x ≡ [] → is_call x ≡ false → places_written_at rs x ≡ Reg r ∷ [] → usable r ≡ true → GivesRegister p there rest end c o.memory usable store s r content → IsBehind p there rest end c o (store_behind rs x store (content ∷ [])) s
-  written rs x r content e f at u d = subst (λ held. IsBehind p there rest end c o held s) (sym path) (behind o (with_known usable r) (put place_eq (Reg r) content store) (more-usable r u) refl refl d)
+  pub written : (rs : List ℕ) (x : TempInsn) (r : ℕ) (content : Content) → ended_of x ≡ [] → is_call x ≡ false → places_written_at rs x ≡ Reg r ∷ [] → MayHold c.shape r → GivesRegister p there rest end c o.memory usable store s r content → IsBehind p there rest end c o (store_behind rs x store (content ∷ [])) s
+  written rs x r content e f at u d = subst (λ held. IsBehind p there rest end c o held s) (sym path) (behind o (with_known usable r) (put place_eq (Reg r) content store) (more-usable r u.usable_one) refl refl d)
     where
       path : store_behind rs x store (content ∷ []) ≡ put place_eq (Reg r) content store
       path = ap (λ ps. put_all place_eq ps (content ∷ []) (without (is_ended x) store)) at ∙ ap (put place_eq (Reg r) content) (nothing-ended x store e f)
 
-  answered : (rs : List ℕ) (x : TempInsn) (r : ℕ) (answer : Answer) → ended_of x ≡ [] → is_call x ≡ false → places_written_at rs x ≡ Reg r ∷ [] → usable r ≡ true → DoesAnswer p there rest end c o.memory usable store s r answer → Done rs x (writes answer o)
+  answered : (rs : List ℕ) (x : TempInsn) (r : ℕ) (answer : Answer) → ended_of x ≡ [] → is_call x ≡ false → places_written_at rs x ≡ Reg r ∷ [] → MayHold c.shape r → DoesAnswer p there rest end c o.memory usable store s r answer → Done rs x (writes answer o)
   answered rs x r (Gives content) e f at u d = written rs x r content e f at u d
   answered rs x r (TrapsWith code) e f at u d = record { steps = 1; last = s; run = d; output = outer.output }
   answered rs x r Fails e f at u d = tt
@@ -160,80 +179,80 @@ module _ (p : Program) (there : Labels) (g : Setting) (rest : List AsmItem) (end
 
   -- ---- moves
 
-  pub address-done : (op : AddressOp) (destination : ℕ) (base : Source) (plus : ℤ) (rs : List ℕ) (from r : ℕ) (value : Content) → places_written_at rs (i.Address op destination base plus) ≡ Reg r ∷ [] → usable r ≡ true → StandsIn usable store from value → Here (Plain (fields.Memory (address_op op) r from plus) ∷ []) → (a : Option Content) → moved_content o.memory value (moved_by op plus) ≡ a → Done rs (i.Address op destination base plus) (writes (content_answer a) o)
+  pub address-done : (op : AddressOp) (destination : ℕ) (base : Source) (plus : ℤ) (rs : List ℕ) (from r : ℕ) (value : Content) → places_written_at rs (i.Address op destination base plus) ≡ Reg r ∷ [] → MayHold c.shape r → StandsIn usable store from value → Here (Plain (fields.Memory (address_op op) r from plus) ∷ []) → (a : Option Content) → moved_content o.memory value (moved_by op plus) ≡ a → Done rs (i.Address op destination base plus) (writes (content_answer a) o)
   address-done op destination base plus rs from r value at u is h (Some content) e =
       written rs (i.Address op destination base plus) r content refl refl at u
-      (moves_are_done p there rest end c o.memory usable store s usable-values op r from plus value content h is (usable-values r u) e)
+      (moves_are_done p there rest end c o.memory usable store s usable-values op r from plus value content h is (writable c.shape r u) e)
   address-done op destination base plus rs from r value at u is h None e = tt
 
   -- a register that is moved to another one, of which one is fixed
-  pub move-done : (rs : List ℕ) (x : TempInsn) (from to : ℕ) → ended_of x ≡ [] → is_call x ≡ false → places_written_at rs x ≡ Reg to ∷ [] → usable from ≡ true → usable to ≡ true → Here (register_move from to) → IsBehind p there rest end c o (store_behind rs x store (store (Reg from) ∷ [])) s
+  pub move-done : (rs : List ℕ) (x : TempInsn) (from to : ℕ) → ended_of x ≡ [] → is_call x ≡ false → places_written_at rs x ≡ Reg to ∷ [] → MayHold c.shape from → MayHold c.shape to → Here (register_move from to) → IsBehind p there rest end c o (store_behind rs x store (store (Reg from) ∷ [])) s
   move-done rs x from to e f at uf ut h =
       written rs x to (store (Reg from)) e f at ut
-      (transfers_are_done p there rest end c o.memory call (Shift 0 from to ∷ []) usable store s usable-values ((uf, usable-values to ut), tt) h)
+      (transfers_are_done p there rest end c o.memory call (Shift 0 from to ∷ []) usable store s usable-values ((uf.usable_one, writable c.shape to ut), tt) h)
 
   -- ---- addresses of objects
 
-  pub object-done : (destination : ℕ) (place : Place) (plus a : ℕ) → usable a ≡ true → IsThere p g c (i.ObjectAddress destination place plus) → Here (insn_items g (a ∷ []) (i.ObjectAddress destination place plus)) → Done (a ∷ []) (i.ObjectAddress destination place plus) (does 0 (i.ObjectAddress destination place plus) c.own [] o)
+  pub object-done : (destination : ℕ) (place : Place) (plus a : ℕ) → MayHold c.shape a → IsThere p g c (i.ObjectAddress destination place plus) → Here (insn_items g (a ∷ []) (i.ObjectAddress destination place plus)) → Done (a ∷ []) (i.ObjectAddress destination place plus) (does 0 (i.ObjectAddress destination place plus) c.own [] o)
   object-done destination (Global k) plus a u is h =
       written (a ∷ []) (i.ObjectAddress destination (Global k) plus) a (address_content k plus) refl refl refl u
-      (globals_have_addresses p there rest end c o.memory usable store s call usable-values a k (g.global_at k) plus is.extent h (usable-values a u) is.made is.sound is.base is.within is.near)
+      (globals_have_addresses p there rest end c o.memory usable store s call usable-values a k (g.global_at k) plus is.extent h (writable c.shape a u) is.made is.sound is.base is.within is.near)
   object-done destination (Local k) plus a u is h =
       written (a ∷ []) (i.ObjectAddress destination (Local k) plus) a (address_content (c.own + k) plus) refl refl refl u
       (locals_have_addresses p there rest end c o.memory usable store s call usable-values a k is.size plus
-      (subst (λ z. Here (frame_address a (object_at z k + plus))) shape h) (usable-values a u) is.made is.within)
+      (subst (λ z. Here (frame_address a (object_at z k + plus))) shape h) (writable c.shape a u) is.made is.within)
 
   pub set-done : (register : FixedRegister) (number : ℤ) → IsDisplacement number → Here (Plain (fields.Memory Lda (register_number register) 31 number) ∷ []) → IsBehind p there rest end c o (store_behind [] (i.SetFixed register number) store (contents.word (word_from number) ∷ [])) s
   set-done register number d h =
-      let u = fixed-usable register in
+      let u = fixed-holds c.shape register in
       written [] (i.SetFixed register number) (register_number register) (contents.word (word_from number)) refl refl refl u
-      (sets_are_done p there rest end c o.memory usable store s usable-values (register_number register) number h (usable-values (register_number register) u) d)
+      (sets_are_done p there rest end c o.memory usable store s usable-values (register_number register) number h (writable c.shape (register_number register) u) d)
 
   -- ---- loads and stores
 
-  pub load-done : (op : LoadOp) (destination pointer : ℕ) (plus : ℤ) (a b : ℕ) → usable a ≡ true → usable b ≡ true → Here (Plain (fields.Memory (load_op op) b a plus) ∷ []) → (v : Option Content) → loaded_content o.memory op (store (Reg a)) plus ≡ v → Done (a ∷ b ∷ []) (i.Load op destination pointer plus) (writes (content_answer v) o)
+  pub load-done : (op : LoadOp) (destination pointer : ℕ) (plus : ℤ) (a b : ℕ) → MayHold c.shape a → MayHold c.shape b → Here (Plain (fields.Memory (load_op op) b a plus) ∷ []) → (v : Option Content) → loaded_content o.memory op (store (Reg a)) plus ≡ v → Done (a ∷ b ∷ []) (i.Load op destination pointer plus) (writes (content_answer v) o)
   load-done op destination pointer plus a b ua ub h (Some content) e =
       written (a ∷ b ∷ []) (i.Load op destination pointer plus) b content refl refl refl ub
-      (loads_are_done p there rest end c o.memory usable store s usable-values op b a plus content h ua (usable-values b ub) e)
+      (loads_are_done p there rest end c o.memory usable store s usable-values op b a plus content h ua.usable_one (writable c.shape b ub) e)
   load-done op destination pointer plus a b ua ub h None e = tt
 
-  pub store-done : (op : StoreOp) (value : Source) (pointer : ℕ) (plus : ℤ) (rs : List ℕ) (r a : ℕ) (v : Content) → places_written_at rs (i.Store op value pointer plus) ≡ [] → StandsIn usable store r v → usable a ≡ true → Here (Plain (fields.Memory (store_op op) r a plus) ∷ []) → (m : Option memory.Memory) → stored_memory o.memory op v (store (Reg a)) plus ≡ m → Done rs (i.Store op value pointer plus) (changes m o)
+  pub store-done : (op : StoreOp) (value : Source) (pointer : ℕ) (plus : ℤ) (rs : List ℕ) (r a : ℕ) (v : Content) → places_written_at rs (i.Store op value pointer plus) ≡ [] → StandsIn usable store r v → MayHold c.shape a → Here (Plain (fields.Memory (store_op op) r a plus) ∷ []) → (m : Option memory.Memory) → stored_memory o.memory op v (store (Reg a)) plus ≡ m → Done rs (i.Store op value pointer plus) (changes m o)
   store-done op value pointer plus rs r a v at is u h (Some m) e =
       unwritten rs (i.Store op value pointer plus) (outer_with_memory o m) refl refl at
       (behind (outer_with_memory o m) usable store refl refl refl
-      (stores_are_done p there rest end c o.memory usable store s usable-values op r a plus v m h is u e))
+      (stores_are_done p there rest end c o.memory usable store s usable-values op r a plus v m h is u.usable_one e))
   store-done op value pointer plus rs r a v at is u h None e = tt
 
   -- ---- operations
 
-  pub operate-done : (op : Operation) (destination : ℕ) (left : Source) (right : Operand) (rs : List ℕ) (l r : ℕ) (second : isa.Operand) (x y : Content) → places_written_at rs (i.Operate op destination left right) ≡ Reg r ∷ [] → usable r ≡ true → StandsIn usable store l x → IsSecond usable store second y → Here (Plain (fields.Operate (operate_op op) l second r) ∷ []) → Done rs (i.Operate op destination left right) (writes (operate_answer o.memory op x y) o)
+  pub operate-done : (op : Operation) (destination : ℕ) (left : Source) (right : Operand) (rs : List ℕ) (l r : ℕ) (second : isa.Operand) (x y : Content) → places_written_at rs (i.Operate op destination left right) ≡ Reg r ∷ [] → MayHold c.shape r → StandsIn usable store l x → IsSecond usable store second y → Here (Plain (fields.Operate (operate_op op) l second r) ∷ []) → Done rs (i.Operate op destination left right) (writes (operate_answer o.memory op x y) o)
   operate-done op destination left right rs l r second x y at u first is h =
       answered rs (i.Operate op destination left right) r (operate_answer o.memory op x y) refl refl at u
-      (operations_are_done p there rest end c o.memory usable store s usable-values op l r second x y h first is (usable-values r u))
+      (operations_are_done p there rest end c o.memory usable store s usable-values op l r second x y h first is (writable c.shape r u))
 
-  pub extend-done : (op : ExtendOp) (destination : ℕ) (source : Operand) (rs : List ℕ) (r : ℕ) (second : isa.Operand) (y : Content) → places_written_at rs (i.Extend op destination source) ≡ Reg r ∷ [] → usable r ≡ true → IsSecond usable store second y → Here (Plain (fields.Operate (extend_op op) 31 second r) ∷ []) → Done rs (i.Extend op destination source) (writes (extend_answer op y) o)
+  pub extend-done : (op : ExtendOp) (destination : ℕ) (source : Operand) (rs : List ℕ) (r : ℕ) (second : isa.Operand) (y : Content) → places_written_at rs (i.Extend op destination source) ≡ Reg r ∷ [] → MayHold c.shape r → IsSecond usable store second y → Here (Plain (fields.Operate (extend_op op) 31 second r) ∷ []) → Done rs (i.Extend op destination source) (writes (extend_answer op y) o)
   extend-done op destination source rs r second y at u is h =
       answered rs (i.Extend op destination source) r (extend_answer op y) refl refl at u
-      (extensions_are_done p there rest end c o.memory usable store s usable-values op r second y h is (usable-values r u))
+      (extensions_are_done p there rest end c o.memory usable store s usable-values op r second y h is (writable c.shape r u))
 
   -- ---- arguments
 
-  pub write-argument-done : (widest number source a : ℕ) → widest ≤ c.shape.outgoing + 6 → usable a ≡ true → Here (frame_store a (argument_at number)) → (b : Bool) → nat_lt (number + 6) widest ≡ b → Done (a ∷ []) (i.WriteArgument number source) (if b then Writes (store (Reg a) ∷ []) o else Stops HasNoMeaning o)
+  pub write-argument-done : (widest number source a : ℕ) → widest ≤ c.shape.outgoing + 6 → MayHold c.shape a → Here (frame_store a (argument_at number)) → (b : Bool) → nat_lt (number + 6) widest ≡ b → Done (a ∷ []) (i.WriteArgument number source) (if b then Writes (store (Reg a) ∷ []) o else Stops HasNoMeaning o)
   write-argument-done widest number source a le u h true e =
       subst (λ held. IsBehind p there rest end c o held s) (sym (ap (put place_eq (Out number) (store (Reg a))) (nothing-ended (i.WriteArgument number source) store refl refl)))
       (behind o usable (put place_eq (Out number) (store (Reg a)) store) refl refl refl
-      (arguments_are_written p there rest end c o.memory usable store s call usable-values a number h u
+      (arguments_are_written p there rest end c o.memory usable store s call usable-values a number h u.usable_one
       (let lt = ltb-true (number + 6) widest e in omega (arith, lt, le))))
   write-argument-done widest number source a le u h false e = tt
 
-  argument-read : (destination number a : ℕ) → usable a ≡ true → Here (frame_load a (frame_size c.shape + argument_at number)) → (v : Content) → store (In number) ≡ v → IsHeldArgument c number v p s → IsBehind p there rest end c o (store_behind (a ∷ []) (i.ReadArgument destination number) store (v ∷ [])) s
+  argument-read : (destination number a : ℕ) → MayHold c.shape a → Here (frame_load a (frame_size c.shape + argument_at number)) → (v : Content) → store (In number) ≡ v → IsHeldArgument c number v (memory_bytes p s) → IsBehind p there rest end c o (store_behind (a ∷ []) (i.ReadArgument destination number) store (v ∷ [])) s
   argument-read destination number a u h v e is =
       subst (λ z. IsBehind p there rest end c o (store_behind (a ∷ []) (i.ReadArgument destination number) store (z ∷ [])) s) e
       (written (a ∷ []) (i.ReadArgument destination number) a (store (In number)) refl refl refl u
-      (arguments_are_read p there rest end c o.memory usable store s call usable-values a number h (usable-values a u)
+      (arguments_are_read p there rest end c o.memory usable store s call usable-values a number h (writable c.shape a u)
       (record { depth = is.caller; owned = is.owned; small = is.small; near = is.near; is = subst (λ z. ContentIs c.extents z (word_in (memory_bytes p s) (c.sp + (frame_size c.shape + argument_at number)))) (sym e) is.is })))
 
-  pub read-argument-done : (destination number a : ℕ) → usable a ≡ true → Here (frame_load a (frame_size c.shape + argument_at number)) → (v : Content) → store (In number) ≡ v → ArgumentIs c number v p s → Done (a ∷ []) (i.ReadArgument destination number) (writes (argument_answer v) o)
+  pub read-argument-done : (destination number a : ℕ) → MayHold c.shape a → Here (frame_load a (frame_size c.shape + argument_at number)) → (v : Content) → store (In number) ≡ v → ArgumentIs c number v (memory_bytes p s) → Done (a ∷ []) (i.ReadArgument destination number) (writes (argument_answer v) o)
   read-argument-done destination number a u h (contents.Plain Unset) e is = tt
   read-argument-done destination number a u h (contents.Plain (Word n)) e is = argument-read destination number a u h (contents.Plain (Word n)) e is
   read-argument-done destination number a u h (contents.Plain (Address q)) e is = argument-read destination number a u h (contents.Plain (Address q)) e is
@@ -241,9 +260,9 @@ module _ (p : Program) (there : Labels) (g : Setting) (rest : List AsmItem) (end
 
   -- ---- branches
 
-  pub branch-done : (op : BranchOp) (source block a : ℕ) → usable a ≡ true → Here (Branch (branch_op op) a (g.block_label block) ∷ []) → (t : Option Bool) → test_of op o.memory (store (Reg a)) ≡ t → Done (a ∷ []) (i.Branch op source block) (branches t o)
+  pub branch-done : (op : BranchOp) (source block a : ℕ) → MayHold c.shape a → Here (Branch (branch_op op) a (g.block_label block) ∷ []) → (t : Option Bool) → test_of op o.memory (store (Reg a)) ≡ t → Done (a ∷ []) (i.Branch op source block) (branches t o)
   branch-done op source block a u h (Some true) e =
-      let d = branches_are_done p there rest end c o.memory usable store s usable-values usable-low op a (g.block_label block) true h u e in
+      let d = branches_are_done p there rest end c o.memory usable store s usable-values usable-low op a (g.block_label block) true h u.usable_one e in
       λ b is. record {
         to = d.to;
         comes = d.comes;
@@ -257,7 +276,7 @@ module _ (p : Program) (there : Labels) (g : Setting) (rest : List AsmItem) (end
       same : (b : ℕ) → Some block ≡ Some b → b ≡ block
       same b is = cc
   branch-done op source block a u h (Some false) e =
-      let d = branches_are_done p there rest end c o.memory usable store s usable-values usable-low op a (g.block_label block) false h u e in
+      let d = branches_are_done p there rest end c o.memory usable store s usable-values usable-low op a (g.block_label block) false h u.usable_one e in
       unwritten (a ∷ []) (i.Branch op source block) o refl refl refl (record {
         to = d.to;
         comes = d.comes;
@@ -296,5 +315,5 @@ jumps_are_done p there rest end c o store s outer l h =
         reached = λ y own. reached-same p s d.to d.same y ∙ h.reached y own;
       };
       outer = record { input = d.same.input ∙ outer.input; output = d.same.output ∙ outer.output; bytes = outer.bytes };
-      kept = kept-same p c s d.to (reached-same p s d.to d.same) (bytes-same p s d.to d.same);
+      kept = kept-same p c s d.to (reached-same p s d.to d.same) (bytes-same p s d.to d.same) (λ q from to e. same q (λ f. omega (arith, f, to)));
     }

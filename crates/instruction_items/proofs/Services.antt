@@ -1,5 +1,5 @@
 -- What the machine does at the items of services.
-use Rattle.std.proofs.Common.{◌≡◌, ℕ, ◌+◌, ◌%◌, ◌^◌, ◌<◌, Bool, true, false, List, [], ◌∷◌, ◌++◌, length, drop, refl, sym, ap, ◌∙◌, subst, arith, inl, inr, length-set}
+use Rattle.std.proofs.Common.{◌≡◌, ℕ, ◌+◌, ◌%◌, ◌^◌, ◌<◌, ◌≤◌, Bool, true, false, List, [], ◌∷◌, ◌++◌, length, drop, refl, sym, ap, ◌∙◌, subst, arith, inl, inr, length-set}
 use Rattle.std.specs.Prelude.{if◌then◌else◌}
 use Rattle.std.proofs.lemmas.Bool.{cases_eq, eqb-true}
 use Rattle.alpha_isa.specs.declared.insn.Fields.TheVariants as fields
@@ -71,6 +71,7 @@ module _ (p : Program) (there : Labels) (g : Setting) (rest : List AsmItem) (end
     registers : length t.registers ≡ 32
     words : (q : ℕ) → register t q < 2 ^ 64
     stack : register t 30 ≡ register s 30
+    kept : (q : ℕ) → 9 ≤ q → q < 16 → register t q ≡ register s q
 
   as-before : (t : State) → IsServed t → length s.registers ≡ 32 → SameElse s (record t { input = s.input; output = s.output })
   as-before t h len = record { registers = h.registers ∙ sym len; data_bytes = h.data_bytes; stack_bytes = h.stack_bytes; input = refl; output = refl }
@@ -107,7 +108,7 @@ module _ (p : Program) (there : Labels) (g : Setting) (rest : List AsmItem) (end
           reached = λ y own. reach y ∙ h.reached y own;
         });
         outer = outer_new;
-        kept = kept-same p c s t reach bytes;
+        kept = kept-same p c s t reach bytes (λ q from to f. is.kept q from to);
       }
 
   -- ---- a byte is put
@@ -121,7 +122,7 @@ module _ (p : Program) (there : Labels) (g : Setting) (rest : List AsmItem) (end
       let is : register s 16 ≡ n = subst (λ z. ContentIs c.extents z (register s 16)) e (h.registers 16 refl) in
       subst (λ held. IsBehind p there rest end c (put_byte o (n % 256)) held s) (sym (nothing-ended (i.Serve service.PutByte) store refl refl))
       (served 0x83 h put-state
-      (record { data_bytes = refl; stack_bytes = refl; registers = h.is_at.registers; words = h.is_at.words; stack = refl })
+      (record { data_bytes = refl; stack_bytes = refl; registers = h.is_at.registers; words = h.is_at.words; stack = refl; kept = λ q from to. refl })
       refl
       (ap (λ k. service_step k s) two)
       (put_byte o (n % 256)) refl
@@ -165,6 +166,7 @@ module _ (p : Program) (there : Labels) (g : Setting) (rest : List AsmItem) (end
           | inr ne ↦ subst (λ k. k < 2 ^ 64) (sym (read-other 0 q v taken ne)) (h.is_at.words q)
         ];
         stack = read-other 0 30 v taken (λ f. omega (arith, f));
+        kept = λ q from to. read-other 0 q v taken (λ f. omega (arith, f, from));
       })
       refl
       (ap (λ k. service_step k s) three)

@@ -22,11 +22,11 @@ use Rattle.alloc_model.specs.Stores.{without, put_all}
 use Rattle.alloc_model.specs.Effect.{does}
 use Rattle.alloc_model.specs.Places.{Places, In, place_eq, places_read_at, places_written_at, is_ended}
 use Rattle.mem_model.specs.declared.value.Value.TheVariants.{Unset}
-use Rattle.flat_memory.specs.Bytes.{AreBytes}
+use Rattle.flat_memory.specs.Bytes.{Bytes, AreBytes}
 use Rattle.flat_memory.specs.Relation.{Extent, IsExtent, OfFrame, ArgumentPiece}
 use Rattle.flat_memory.specs.Machine.{memory_bytes}
 use Rattle.flat_operations.specs.Contents.{ContentIs}
-use Rattle.flat_frames.specs.Shapes.{frame_size, argument_at}
+use Rattle.flat_frames.specs.Shapes.{Shape, frame_size, argument_at}
 use Rattle.flat_frames.specs.Frames.{word_in}
 use Rattle.frame_transfers.specs.Laws.{Call, IsCall, StandsFor, IsKept}
 use Rattle.instruction_items.specs.Items.{Setting, insn_items}
@@ -38,14 +38,19 @@ usable r = nat_lt r 26 || (r == 27)
 
 -- ---- what an instruction asks for
 
-abbrev pub AreUsable : (registers : List ℕ) → Type 0
-AreUsable [] = Unit {0}
-AreUsable (r ∷ rs) = (usable r ≡ true) × AreUsable rs
+-- a function saves each of the registers 9 to 15 that it names
+pub record MayHold (s : Shape) (r : ℕ) : Type 0 where
+  pub usable_one : usable r ≡ true
+  pub saved : 9 ≤ r → r < 16 → s.saves r ≡ true
+
+abbrev pub AllMayHold : Shape → (registers : List ℕ) → Type 0
+AllMayHold s [] = Unit {0}
+AllMayHold s (r ∷ rs) = MayHold s r × AllMayHold s rs
 
 -- as many registers as the instruction has temporaries, each one in which values may stand
-pub record IsStated (registers : List ℕ) (x : TempInsn) : Type 0 where
+pub record IsStated (s : Shape) (registers : List ℕ) (x : TempInsn) : Type 0 where
   pub count : length registers ≡ length (reads_of x) + length (writes_of x)
-  pub are_usable : AreUsable registers
+  pub may_hold : AllMayHold s registers
 
 abbrev pub IsSmallOperand : Operand → Type 0
 IsSmallOperand (operand.Temp t) = Unit {0}
@@ -75,21 +80,21 @@ IsThere p g c (i.SetFixed register number) = IsDisplacement number
 IsThere p g c _ = Unit {0}
 
 -- an argument of this call stands above its frame, in a place that the caller owns, unless nothing is held there
-pub record IsHeldArgument (c : Call) (k : ℕ) (content : Content) (p : Program) (s : State) : Type 0 where
+pub record IsHeldArgument (c : Call) (k : ℕ) (content : Content) (m : Bytes) : Type 0 where
   pub caller : ℕ
   pub above : c.depth ≡ caller + 1
   pub owned : (j : ℕ) → j < 8 →
       c.owner (c.sp + (frame_size c.shape + argument_at k) + j) ≡ OfFrame caller (ArgumentPiece k)
   pub small : c.sp + (frame_size c.shape + argument_at k) < 2 ^ 64
   pub near : frame_size c.shape + argument_at k < 2147450880
-  pub is : ContentIs c.extents content (word_in (memory_bytes p s) (c.sp + (frame_size c.shape + argument_at k)))
+  pub is : ContentIs c.extents content (word_in m (c.sp + (frame_size c.shape + argument_at k)))
 
-abbrev pub ArgumentIs : Call → (k : ℕ) → Content → Program → State → Type 0
-ArgumentIs c k (Plain Unset) p s = Unit {0}
-ArgumentIs c k content p s = IsHeldArgument c k content p s
+abbrev pub ArgumentIs : Call → (k : ℕ) → Content → Bytes → Type 0
+ArgumentIs c k (Plain Unset) m = Unit {0}
+ArgumentIs c k content m = IsHeldArgument c k content m
 
-abbrev pub ArgumentsAre : Call → Places → Program → State → Type 0
-ArgumentsAre c store p s = (k : ℕ) → ArgumentIs c k (store (In k)) p s
+abbrev pub ArgumentsAre : Call → Places → Bytes → Type 0
+ArgumentsAre c store m = (k : ℕ) → ArgumentIs c k (store (In k)) m
 
 -- the input and the output of a machine are those of the outer part of a world, whose input is of bytes
 pub record HasOuter (o : Outer) (s : State) : Type 0 where
@@ -153,9 +158,9 @@ store_behind registers x store cs =
 abbrev pub InstructionsAreDone : Type 0
 InstructionsAreDone =
     (p : Program) (there : Labels) (g : Setting) (rest : List AsmItem) (end : ℕ) (c : Call) (o : Outer)
-    (store : Places) (s : State) → IsCall c → g.shape ≡ c.shape → ArgumentsAre c store p s → HasOuter o s →
+    (store : Places) (s : State) → IsCall c → g.shape ≡ c.shape → ArgumentsAre c store (memory_bytes p s) → HasOuter o s →
     (widest : ℕ) → widest ≤ c.shape.outgoing + 6 →
-    (registers : List ℕ) (x : TempInsn) → is_no_call x ≡ true → IsStated registers x → IsThere p g c x →
+    (registers : List ℕ) (x : TempInsn) → is_no_call x ≡ true → IsStated c.shape registers x → IsThere p g c x →
     StandsFor p there (insn_items g registers x ++ rest) end c o.memory usable store s →
     ActIsDone p there g rest end c (store_behind registers x store) x s
     (does widest x c.own (map store (places_read_at registers x)) o)
