@@ -1,6 +1,6 @@
 -- A small allocation is frugal, and one with a needless load is not.
-use Rattle.std.proofs.Common.{◌≡◌, ◌≢◌, ℕ, zero, suc, ◌+◌, ◌*◌, ◌<◌, List, [], ◌∷◌, ◌++◌, Bool, true, false, Option, Some, None, refl, sym, ap, ◌∙◌, subst, length, arith}
-use Rattle.std.specs.Prelude.{◌==◌, ◌&&◌, Contains, slice_get, slice_index_or}
+use Rattle.std.proofs.Common.{◌≡◌, ◌≢◌, ℕ, zero, suc, ◌+◌, ◌*◌, ◌<◌, List, [], ◌∷◌, ◌++◌, Bool, true, false, Some, refl, sym, ap, ◌∙◌, subst, arith}
+use Rattle.std.specs.Prelude.{Contains, slice_get, slice_index_or}
 use Rattle.std.proofs.lemmas.Option.{none-some, same_Some}
 use Rattle.suifvm_ir.specs.Functions.{insn_at, successors_of}
 use Rattle.suifvm_ir.specs.Live as live
@@ -12,7 +12,7 @@ use Rattle.alloc_model.specs.declared.allocation.Transfer.{Transfer}
 use Rattle.alloc_model.specs.declared.allocation.Transfer.TheVariants as move
 use Rattle.alloc_model.specs.Examples.{set}
 use Rattle.alloc_model.specs.declared.allocation.TempPlace.{TempPlace}
-use Rattle.alloc_model.specs.Places.{Place, Reg, Slot, linear_number}
+use Rattle.alloc_model.specs.Places.{Reg, Slot, linear_number}
 use Rattle.alloc_model.specs.Lifetimes.{IsPresent, IsRead, IsLiveBefore, IsWritten, IsLiveAfter, is_live}
 use Rattle.alloc_rules.specs.Visits.{Wants, AreWants, registers_written, moment_of_write, free_registers, best_register, victim_register}
 use Rattle.alloc_rules.specs.Frugal.{Frugal, IsMade, IsMadeOnEdge, IsWrittenIn, is_covered_at_bottom}

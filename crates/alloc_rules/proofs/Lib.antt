@@ -1,2 +1,3 @@
 mod FrugalExamples
+mod Sets
 mod WrongPlacements

@@ -1,15 +1,15 @@
 -- Each of the wrong placements lacks what its clause asks for.
-use Rattle.std.proofs.Common.{◌≡◌, ◌≢◌, ℕ, zero, suc, ◌<◌, List, [], ◌∷◌, Bool, true, false, refl, sym, ap, ◌∙◌, inl, inr, length, arith}
+use Rattle.std.proofs.Common.{◌≡◌, ◌≢◌, ℕ, zero, suc, ◌<◌, List, [], ◌∷◌, Bool, true, false, refl, sym, ap, ◌∙◌, inl, inr, arith}
 use Rattle.std.proofs.lemmas.Bool.{eq-eqb}
-use Rattle.std.specs.Prelude.{◌==◌, ◌⊎◌, ◌||◌, pos, Contains}
+use Rattle.std.specs.Prelude.{◌==◌, ◌⊎◌, ◌||◌, Contains}
 use Rattle.suifvm_ir.specs.Live.{IsRead, Follows}
 use Rattle.temp_ir.specs.declared.insn.FixedRegister.TheVariants.{Value}
-use Rattle.temp_ir.specs.declared.insn.TempInsn.TheVariants.{ToFixed, SetFixed, Jump, Call, Return}
+use Rattle.temp_ir.specs.declared.insn.TempInsn.TheVariants.{ToFixed, Jump, Return}
 use Rattle.temp_ir.specs.Fixed.{has_number}
 use Rattle.alloc_model.specs.declared.allocation.Loc.TheVariants as loc
 use Rattle.alloc_model.specs.declared.allocation.Transfer.TheVariants as x
-use Rattle.alloc_model.specs.Effect.{Holder, Temp, Fixed}
-use Rattle.alloc_model.specs.Places.{Place, Reg, Slot}
+use Rattle.alloc_model.specs.Effect.{Temp, Fixed}
+use Rattle.alloc_model.specs.Places.{Reg, Slot}
 use Rattle.alloc_model.specs.Needs.{is_live_at}
 use Rattle.alloc_model.specs.Faithful.{given_registers, IsGiven}
 use Rattle.alloc_model.specs.Examples.{set, edge}

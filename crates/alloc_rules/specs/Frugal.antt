@@ -1,10 +1,10 @@
 -- When an allocation moves no more than a scan with second chances does, in the manner of Traub, Holloway and Smith
 -- (PLDI 1998): seven rules on the finished function.
-use Rattle.std.specs.Prelude.{◌≡◌, ◌≢◌, ℕ, zero, suc, ◌+◌, ◌*◌, ◌-◌, ◌<◌, ◌==◌, ◌⊎◌, ◌&&◌, Bool, true, false, List, [], ◌∷◌, ◌++◌, drop, take, length, find, slice_get, slice_index_or, Contains, Option, Some, None, if◌then◌else◌}
+use Rattle.std.specs.Prelude.{◌≡◌, ◌≢◌, ℕ, zero, suc, ◌+◌, ◌*◌, ◌-◌, ◌<◌, ◌==◌, ◌⊎◌, ◌&&◌, Bool, true, false, List, [], ◌∷◌, ◌++◌, take, length, find, slice_get, slice_index_or, Contains, Option, Some, None, if◌then◌else◌}
 use Rattle.std.specs.List.{list_any, range_with_len}
 use Rattle.suifvm_ir.specs.Functions.{count_of, insn_at, successors_of}
 use Rattle.temp_ir.specs.declared.insn.TempInsn.{TempInsn}
-use Rattle.temp_ir.specs.Insns.{reads_of, writes_of, targets_of, flows_on_of}
+use Rattle.temp_ir.specs.Insns.{writes_of, targets_of, flows_on_of}
 use Rattle.temp_ir.specs.Fixed.{has_number}
 use Rattle.alloc_model.specs.declared.allocation.TempPlace.{TempPlace}
 use Rattle.alloc_model.specs.declared.allocation.Transfer.{Transfer}
@@ -13,7 +13,7 @@ use Rattle.alloc_model.specs.Effect.{Temp}
 use Rattle.alloc_model.specs.Places.{Place, Reg, Slot, target_of, moved_temp, Plan, transfers_at, registers_at, edge_transfers}
 use Rattle.alloc_model.specs.Needs.{place_of, named_place, place_at_top}
 use Rattle.alloc_model.specs.Faithful.{move_all, before}
-use Rattle.alloc_rules.specs.Visits.{Wants, AreWants, Homes, homes_behind_moves, homes_before, homes_at_bottom, homes_left, takes_away, registers_written, moment_of_read, moment_of_write, fixes, free_registers, is_free_for, best_register, victim_register, made_below}
+use Rattle.alloc_rules.specs.Visits.{Wants, AreWants, homes_behind_moves, homes_before, homes_at_bottom, registers_written, moment_of_read, moment_of_write, fixes, free_registers, is_free_for, best_register, victim_register, made_below}
 
 -- ---- transfers in their places
 

@@ -8,7 +8,7 @@ use Rattle.alloc_model.specs.declared.allocation.Transfer.TheVariants.{Store, Lo
 use Rattle.alloc_model.specs.declared.allocation.Event.{Event}
 use Rattle.alloc_model.specs.declared.allocation.Event.TheVariants as event
 use Rattle.alloc_model.specs.Places.{Plan, linear_number, transfers_at, registers_at}
-use Rattle.alloc_rules.specs.Visits.{Wants, Homes, homes_behind_moves, homes_left, all_come_to, registers_written, homes_before, all_temps, register_of}
+use Rattle.alloc_rules.specs.Visits.{Wants, Homes, homes_behind_moves, homes_left, registers_written, homes_before, all_temps, register_of}
 use Rattle.alloc_rules.specs.Frugal.{is_covered}
 
 -- a temporary whose lifetime covers a point leaves a register for its slot there

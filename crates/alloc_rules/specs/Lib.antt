@@ -3,3 +3,4 @@ pub mod Frugal
 pub mod Journal
 pub mod FrugalExamples
 pub mod WrongPlacements
+pub mod Scan

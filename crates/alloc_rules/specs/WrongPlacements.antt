@@ -1,11 +1,8 @@
 -- Small allocations of which each breaks a clause of what is faithful.
 use Rattle.std.specs.Prelude.{ℕ, pos, true, List, [], ◌∷◌}
-use Rattle.temp_ir.specs.declared.operation.Operation.TheVariants.{Subq}
 use Rattle.temp_ir.specs.declared.insn.FixedRegister.TheVariants.{Value}
-use Rattle.temp_ir.specs.declared.insn.Source.TheVariants as s
-use Rattle.temp_ir.specs.declared.insn.Operand.TheVariants as o
 use Rattle.temp_ir.specs.declared.insn.TempInsn.{TempInsn}
-use Rattle.temp_ir.specs.declared.insn.TempInsn.TheVariants.{Operate, ToFixed, SetFixed, Jump, Call, Return}
+use Rattle.temp_ir.specs.declared.insn.TempInsn.TheVariants.{SetFixed, Jump, Return}
 use Rattle.alloc_model.specs.declared.allocation.Loc.{Loc}
 use Rattle.alloc_model.specs.declared.allocation.Loc.TheVariants as loc
 use Rattle.alloc_model.specs.declared.allocation.TempPlace.{TempPlace}

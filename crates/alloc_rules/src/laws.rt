@@ -1,6 +1,7 @@
 //! What is judged of small allocations, each the contract of a function that does nothing.
 
 ghost use Rattle.alloc_rules.specs.FrugalExamples.{FrugalExamples};
+ghost use Rattle.alloc_rules.specs.Scan.{SetsAreUnique};
 ghost use Rattle.alloc_rules.specs.WrongPlacements.{WrongPlacements};
 
 /// A small allocation is frugal, and one with a needless load is not.
@@ -11,4 +12,9 @@ pub fn small_allocations_are_frugal_or_not()
 /// Allocations of which each breaks a clause are not faithful.
 pub fn wrong_placements_are_not_faithful()
     ensures { WrongPlacements }
+{}
+
+/// What is said of sets for blocks says which they are.
+pub fn sets_are_unique()
+    ensures { SetsAreUnique }
 {}

@@ -2,7 +2,9 @@
 //!
 //! `specs/Frugal.antt` has the seven rules of an allocation that moves no more than a scan with second chances does,
 //! over what such a scan comes upon (`specs/Visits.antt`). Small allocations show what is judged: one that is frugal and
-//! one that is not, and one for each clause of what is faithful that breaks it.
+//! one that is not, and one for each clause of what is faithful that breaks it. `specs/Scan.antt` says what the lists and
+//! sets are that an allocator's passes hand on (`scan`).
 #![tactic(auto)]
 
 pub mod laws;
+pub mod scan;
