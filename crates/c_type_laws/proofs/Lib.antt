@@ -1,0 +1,9 @@
+pub mod Truth
+pub mod Types
+pub mod Values
+pub mod Arithmetic
+pub mod Conversions
+pub mod Places
+pub mod Assignments
+pub mod Primary
+pub mod Operators
