@@ -1,0 +1,10 @@
+mod Values
+mod Memories
+mod Machines
+mod Arguments
+mod Steps
+mod Operations
+mod Builtins
+mod Calls
+mod Keeps
+mod Lengths

@@ -1,0 +1,19 @@
+-- When a program over temporaries is the selected one of a program over virtual registers.
+use Rattle.std.specs.Prelude.{◌≡◌, map, All}
+use Rattle.suifvm_ir.specs.Functions.{AllInsns}
+use Rattle.suifvm_ir.specs.Programs.{VmFunction}
+use Rattle.suifvm_ir.specs.declared.program.VmProgram.{VmProgram}
+use Rattle.temp_ir.specs.declared.program.TempProgram.{TempProgram}
+use Rattle.alloc_model.specs.Temporaries.{FunctionCode, code_of}
+use Rattle.selection_code.specs.Fields.{HasFields}
+use Rattle.selection_code.specs.Functions.{function_blocks}
+
+-- the code of a function
+abbrev pub selected_code : VmFunction → FunctionCode
+selected_code f = record { sizes = map (λ o. o.size) f.objects; blocks = function_blocks f.params f.blocks }
+
+pub record IsSelected (program : VmProgram) (selected : TempProgram) : Type 0 where
+  pub code : map code_of selected.functions ≡ map selected_code program.functions
+  pub names : map (λ f. f.name) selected.functions ≡ map (λ f. f.name) program.functions
+  pub globals : selected.globals ≡ program.globals
+  pub fields : All (λ (f : VmFunction). AllInsns HasFields f.blocks) program.functions
