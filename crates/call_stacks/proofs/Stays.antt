@@ -78,7 +78,7 @@ module _ (xs ys : Extents) (owner new : Owners) (m k : Bytes) (depth bound : ℕ
   return-stays : (sp d own : ℕ) (s : Shape) (store : Places) → bound ≤ sp → FrameIs xs owner m sp d own s store → word_in k (sp + return_at s) ≡ word_in m (sp + return_at s)
   return-stays sp d own s store le f = piece-stays sp d own s store le f (return_at s) ReturnPiece (pieces_of s d own).returns (never-written (d == depth))
 
-  saved-stays : (sp d own : ℕ) (s : Shape) (store : Places) → bound ≤ sp → FrameIs xs owner m sp d own s store → (r : ℕ) → 9 ≤ r → r < 16 → word_in k (sp + saved_at s r) ≡ word_in m (sp + saved_at s r)
+  pub saved-stays : (sp d own : ℕ) (s : Shape) (store : Places) → bound ≤ sp → FrameIs xs owner m sp d own s store → (r : ℕ) → 9 ≤ r → r < 16 → word_in k (sp + saved_at s r) ≡ word_in m (sp + saved_at s r)
   saved-stays sp d own s store le f r from to = piece-stays sp d own s store le f (saved_at s r) (SavedPiece r) ((pieces_of s d own).saved r from to) (never-written (d == depth))
 
   pub frame-stays : (sp d own : ℕ) (s : Shape) (store : Places) → d < depth → bound ≤ sp → FrameIs xs owner m sp d own s store → FrameIs ys new k sp d own s store

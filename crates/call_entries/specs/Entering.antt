@@ -1,0 +1,84 @@
+-- A call is entered: its frame below that of the caller, its objects in it, and what it holds at its start.
+use Rattle.std.specs.Prelude.{ℕ, suc, ◌+◌, ◌-◌, ◌<◌, ◌≤◌, nat_lt, List, [], ◌∷◌, ◌++◌, map, length, if◌then◌else◌}
+use Rattle.alpha_isa.specs.declared.insn.BranchOp.TheVariants.{Bsr}
+use Rattle.alpha_isa.specs.Program.{Program, stack_start}
+use Rattle.alpha_isa.specs.State.{State}
+use Rattle.alpha_items.specs.declared.item.AsmItem.{AsmItem}
+use Rattle.alpha_items.specs.declared.item.AsmItem.TheVariants.{Branch}
+use Rattle.item_steps.specs.Standing.{Labels, ItemsAt}
+use Rattle.item_steps.specs.Steps.{Comes}
+use Rattle.mem_model.specs.World.{Outer}
+use Rattle.machine_model.specs.Machine.{begin_locals}
+use Rattle.data_object.specs.Layout.{place_after}
+use Rattle.temp_ir.specs.declared.insn.TempInsn.TheVariants as i
+use Rattle.alloc_model.specs.Contents.{Content}
+use Rattle.alloc_model.specs.Stores.{empty, put_all}
+use Rattle.alloc_model.specs.Effect.{entry_holders}
+use Rattle.alloc_model.specs.Places.{Places, place_eq, home_of, places_read_at}
+use Rattle.flat_memory.specs.Relation.{Extents, Owners}
+use Rattle.flat_frames.specs.Shapes.{Shape, objects_at, frame_size, owner_at}
+use Rattle.frame_transfers.specs.Laws.{Call, IsCall, StandsFor}
+use Rattle.call_parts.specs.Items.{entry_part}
+use Rattle.instruction_items.specs.Laws.{usable, HasOuter}
+use Rattle.call_stacks.specs.Stacks.{Waiting, Start, StackIs}
+
+-- what a call hands over, and what the called function holds at its start
+abbrev pub passed : (function arguments : ℕ) → Places → List Content
+passed function arguments held = map held (places_read_at [] (i.Call function arguments))
+
+abbrev pub entry_places : List Content → Places
+entry_places cs = put_all place_eq (map home_of (entry_holders (length cs))) cs empty
+
+-- the extents of objects of these sizes, one behind the other
+abbrev pub extents_from : (base : ℕ) → (sizes : List ℕ) → Extents
+extents_from base [] = []
+extents_from base (n ∷ sizes) = record { base = base; size = n } ∷ extents_from (base + place_after n) sizes
+
+-- the frame of the called function is below that of the caller
+abbrev pub called_sp : Call → Shape → ℕ
+called_sp c s = c.sp - frame_size s
+
+abbrev pub called_owner : Call → Shape → (own : ℕ) → Owners
+called_owner c s own y =
+    if nat_lt y (called_sp c s) then c.owner y
+    else if nat_lt y c.sp then owner_at s (suc c.depth) own (y - called_sp c s) else c.owner y
+
+abbrev pub called : Call → Shape → (own : ℕ) → Call
+called c s own = record {
+  extents = c.extents ++ extents_from (called_sp c s + objects_at s) s.sizes;
+  owner = called_owner c s own;
+  sp = called_sp c s;
+  depth = suc c.depth;
+  own = own;
+  shape = s;
+}
+
+-- the call that waits meanwhile
+abbrev pub waits : Call → (held : Places) → (behind : List AsmItem) → (end : ℕ) → Waiting
+waits c held behind end = record { shape = c.shape; own = c.own; held = held; behind = behind; end = end }
+
+-- the stack has room for the frame, and an argument place of the caller is near from it
+pub record HasRoom (p : Program) (c : Call) (s : Shape) : Type 0 where
+  pub room : stack_start p + frame_size s ≤ c.sp
+  pub near : frame_size s + frame_size c.shape < 2147450880
+
+-- the machine stands at the first item of the called function, for the called function
+pub record EntryIs (p : Program) (there : Labels) (start : Start) (body : List AsmItem) (last : ℕ) (c d : Call)
+    (gs : List Waiting) (o : Outer) (held entry : Places) (rest : List AsmItem) (end : ℕ) (s : State) : Type 0 where
+  pub to : State
+  pub comes : Comes p s to
+  pub some : 1 ≤ comes.steps
+  pub is_call : IsCall d
+  pub stands : StandsFor p there body last d (begin_locals o d.shape.sizes).memory usable entry to
+  pub stack : StackIs p there start d (waits c held rest end ∷ gs) entry to
+  pub outer : HasOuter (begin_locals o d.shape.sizes) to
+
+abbrev pub CallsAreEntered : Type 0
+CallsAreEntered =
+    (p : Program) (there : Labels) (start : Start) (c : Call) (gs : List Waiting) (o : Outer) (held : Places)
+    (rest : List AsmItem) (end : ℕ) (s : State) → IsCall c → StackIs p there start c gs held s → HasOuter o s →
+    (l function arguments : ℕ) (shape : Shape) (body : List AsmItem) (last : ℕ) →
+    ItemsAt p there (there l) (entry_part shape shape.saves body) last → HasRoom p c shape →
+    arguments ≤ c.shape.outgoing + 6 → StandsFor p there (Branch Bsr 26 l ∷ rest) end c o.memory usable held s →
+    EntryIs p there start body last c (called c shape (length o.memory)) gs o held
+    (entry_places (passed function arguments held)) rest end s
