@@ -1,0 +1,84 @@
+-- The first function is left.
+use Rattle.std.proofs.Common.{◌≡◌, ℕ, ◌+◌, ◌*◌, ◌/◌, ◌%◌, Bool, List, [], ◌∷◌, length, Some, refl, ap, ◌∙◌, subst, arith, inl}
+use Rattle.std.specs.Prelude.{pos}
+use Rattle.alpha_isa.specs.declared.insn.Fields.TheVariants.{Memory, Pal}
+use Rattle.alpha_isa.specs.declared.insn.MemoryOp.TheVariants.{Lda}
+use Rattle.alpha_isa.specs.Program.{Program, word_address}
+use Rattle.alpha_isa.specs.State.{State, register}
+use Rattle.alpha_isa.specs.Step.{Done, Over, exec, service_step, go_on}
+use Rattle.alpha_isa.proofs.Runs.{exec_split}
+use Rattle.alpha_items.specs.declared.item.AsmItem.{AsmItem}
+use Rattle.alpha_items.specs.declared.item.AsmItem.TheVariants.{Plain}
+use Rattle.item_steps.specs.Standing.{Labels, ItemsAt}
+use Rattle.item_steps.specs.Steps.{Comes}
+use Rattle.item_steps.proofs.Steps.{plain_ends, steps_add_up}
+use Rattle.mem_model.specs.declared.value.Value.TheVariants.{Word, Address, Unset}
+use Rattle.mem_model.specs.World.{Outer}
+use Rattle.machine_model.specs.Machine.{end_locals}
+use Rattle.alloc_model.specs.Contents as contents
+use Rattle.alloc_model.specs.Contents.{Content, Bundle}
+use Rattle.alloc_model.specs.Stores.{first_or_unset}
+use Rattle.alloc_model.specs.Temporaries.{content_status, status_of}
+use Rattle.alloc_model.specs.Places.{Places}
+use Rattle.flat_memory.specs.Relation.{Extents}
+use Rattle.flat_operations.specs.Contents.{ContentIs}
+use Rattle.frame_accesses.specs.Laws.{IsAt}
+use Rattle.frame_accesses.proofs.Runs.{stands, word-written, register_moves}
+use Rattle.frame_transfers.specs.Laws.{Call, IsCall, StandsFor}
+use Rattle.call_parts.specs.Items.{exit_part}
+use Rattle.instruction_items.specs.Laws.{usable, HasOuter, IsOver}
+use Rattle.call_stacks.specs.Stacks.{Start, StackIs}
+use Rattle.call_exits.specs.Leaving.{returned, ending_items}
+use Rattle.call_exits.proofs.Leaving.{returned-is, left}
+
+-- the word of a status
+status-word : (xs : Extents) (content : Content) (w status : ℕ) → ContentIs xs content w → content_status content ≡ Some status → w % 256 ≡ status
+status-word xs (contents.Plain (Word n)) w status is e = let f : n % 256 ≡ status = cc in ap (λ z. z % 256) is ∙ f
+status-word xs (contents.Plain (Address q)) w status is e = absurd (cc)
+status-word xs (contents.Plain Unset) w status is e = absurd (cc)
+status-word xs (Bundle cells) w status is e = absurd (cc)
+
+-- the run is over some steps later
+over-later : (p : Program) (s t u : State) (n status : ℕ) (a : Comes p s t) → exec p n t ≡ Over (Done status) u → exec p (a.steps + n) s ≡ Over (Done status) u
+over-later p s t u n status a e = exec_split p a.steps n s ∙ ap (λ z. go_on z (exec p n)) a.run ∙ e
+
+-- the three items that end the run
+record Ends (p : Program) (s : State) : Type 0 where
+  steps : ℕ
+  last : State
+  run : exec p steps s ≡ Over (Done (register s 0 % 256)) last
+  output : last.output ≡ s.output
+
+ends : (p : Program) (there : Labels) (w : ℕ) (end : ℕ) (s : State) → IsAt p there w ending_items end s → Ends p s
+ends p there w end s h =
+    let rest = Plain (Memory Lda 0 31 (pos 1)) ∷ Plain (Pal 0x83) ∷ [] in
+    let a = register_moves p there w 0 16 rest end s h (omega arith) in
+    let t = a.to in
+    let b = word-written p there a.come.next (Memory Lda 0 31 (pos 1)) (Plain (Pal 0x83) ∷ []) end 0 1 t a.come.is_at (omega arith) (omega arith) refl in
+    let u = b.to in
+    let status : register u 16 ≡ register s 0 = b.others 16 (λ e. omega (arith, e)) ∙ a.here in
+    let run = plain_ends p there b.come.next (Pal 0x83) [] end u u (Done (register u 16 % 256)) (stands p there b.come.next (Plain (Pal 0x83)) [] end u b.come.is_at) (ap (λ n. service_step n u) b.here) in
+    let through = steps_add_up p s t u a.come.comes b.come.comes in
+    record {
+      steps = through.steps + 1;
+      last = u;
+      run = over-later p s u u 1 (register u 16 % 256) through run ∙ ap (λ n. Over (Done (n % 256)) u) status;
+      output = b.come.output ∙ a.come.output;
+    }
+
+pub runs_are_ended : (p : Program) (there : Labels) (start : Start) (c : Call) (o : Outer) (held : Places) (rest : List AsmItem) (end : ℕ) (s : State) → IsCall c → StackIs p there start c [] held s → HasOuter o s → start.behind ≡ ending_items → (with_value : Bool) (status : ℕ) → status_of (returned with_value held) ≡ Some status → StandsFor p there (exit_part c.shape c.shape.saves rest) end c o.memory usable held s → IsOver p (end_locals o c.own (length c.shape.sizes)) (Done status) s
+runs_are_ended p there start c o held rest end s call stack outer items with_value status e h =
+    let x = left p there c o held rest end s call h in
+    let back = stack.callers_are.1 in
+    let whole : word_address back.place / 4 * 4 ≡ word_address back.place = omega arith in
+    let pc : x.to.pc ≡ word_address back.place = x.pc ∙ ap (λ n. n / 4 * 4) back.is ∙ whole in
+    let at = x.is_at back.place ending_items start.end pc (subst (λ l. ItemsAt p there back.place l start.end) items back.items_at) in
+    let y = ends p there back.place start.end x.to at in
+    let zero-is : register x.to 0 ≡ register s 0 = x.others 0 (inl (omega arith)) (λ f. omega (arith, f)) (λ f. omega (arith, f)) (λ f. omega (arith, f)) in
+    let word = status-word c.extents (first_or_unset (returned with_value held)) (register s 0) status (returned-is c.extents held (register s 0) with_value (h.registers 0 refl)) e in
+    record {
+      steps = x.comes.steps + y.steps;
+      last = y.last;
+      run = over-later p s x.to y.last y.steps (register x.to 0 % 256) x.comes y.run ∙ ap (λ n. Over (Done n) y.last) (ap (λ n. n % 256) zero-is ∙ word);
+      output = y.output ∙ x.output ∙ outer.output;
+    }

@@ -1,0 +1,72 @@
+-- A call is left: its objects end, its frame is nobody's, and the call that waited goes on.
+use Rattle.std.specs.Prelude.{◌≡◌, ℕ, ◌+◌, ◌≤◌, nat_lt, pos, Bool, List, [], ◌∷◌, map, length, Some, if◌then◌else◌}
+use Rattle.alpha_isa.specs.declared.insn.Fields.TheVariants.{Memory, Operate, Pal}
+use Rattle.alpha_isa.specs.declared.insn.Operand.TheVariants.{Reg}
+use Rattle.alpha_isa.specs.declared.insn.MemoryOp.TheVariants.{Lda}
+use Rattle.alpha_isa.specs.declared.insn.OperateOp.TheVariants.{Bis}
+use Rattle.alpha_isa.specs.Program.{Program}
+use Rattle.alpha_isa.specs.State.{State}
+use Rattle.alpha_isa.specs.Step.{Done}
+use Rattle.alpha_items.specs.declared.item.AsmItem.{AsmItem}
+use Rattle.alpha_items.specs.declared.item.AsmItem.TheVariants.{Plain}
+use Rattle.item_steps.specs.Standing.{Labels}
+use Rattle.item_steps.specs.Steps.{Comes}
+use Rattle.mem_model.specs.World.{Outer}
+use Rattle.machine_model.specs.Machine.{end_locals}
+use Rattle.temp_ir.specs.declared.insn.TempInsn.TheVariants as i
+use Rattle.alloc_model.specs.Contents.{Content}
+use Rattle.alloc_model.specs.Temporaries.{status_of}
+use Rattle.alloc_model.specs.Places.{Places, places_read_at}
+use Rattle.flat_memory.specs.Relation.{Owners, Nobody}
+use Rattle.flat_frames.specs.Shapes.{frame_size}
+use Rattle.frame_transfers.specs.Laws.{Call, IsCall, StandsFor}
+use Rattle.call_parts.specs.Items.{exit_part}
+use Rattle.instruction_items.specs.Laws.{usable, HasOuter, IsOver, store_behind}
+use Rattle.call_stacks.specs.Stacks.{Waiting, call_of, Start, StackIs}
+
+-- what a call returns, and what the call that waited holds then
+abbrev pub returned : (with_value : Bool) → Places → List Content
+returned with_value held = map held (places_read_at [] (i.Return with_value))
+
+abbrev pub resumed : (function arguments : ℕ) → Waiting → List Content → Places
+resumed function arguments g cs = store_behind [] (i.Call function arguments) g.held cs
+
+-- the frame is nobody's any more
+abbrev pub left_owner : Call → Owners
+left_owner c y =
+    if nat_lt y c.sp then c.owner y else if nat_lt y (c.sp + frame_size c.shape) then Nobody else c.owner y
+
+abbrev pub caller_of : Call → (depth : ℕ) → Waiting → Call
+caller_of c depth g = call_of c.extents (left_owner c) (c.sp + frame_size c.shape) depth g
+
+-- the machine stands behind the call, for the call that waited
+pub record ExitIs (p : Program) (there : Labels) (start : Start) (g : Waiting) (gs : List Waiting) (d : Call) (o : Outer)
+    (held : Places) (s : State) : Type 0 where
+  pub to : State
+  pub comes : Comes p s to
+  pub some : 1 ≤ comes.steps
+  pub stands : StandsFor p there g.behind g.end d o.memory usable held to
+  pub stack : StackIs p there start d gs held to
+  pub outer : HasOuter o to
+
+abbrev pub CallsAreLeft : Type 0
+CallsAreLeft =
+    (p : Program) (there : Labels) (start : Start) (c : Call) (g : Waiting) (gs : List Waiting) (o : Outer)
+    (held : Places) (rest : List AsmItem) (end : ℕ) (s : State) → IsCall c → StackIs p there start c (g ∷ gs) held s →
+    HasOuter o s → (function arguments : ℕ) (with_value : Bool) →
+    StandsFor p there (exit_part c.shape c.shape.saves rest) end c o.memory usable held s →
+    ExitIs p there start g gs (caller_of c (length gs) g) (end_locals o c.own (length c.shape.sizes))
+    (resumed function arguments g (returned with_value held)) s
+
+-- behind the call of the first function the run is ended, with what it returned as its status
+abbrev pub ending_items : List AsmItem
+ending_items =
+    Plain (Operate Bis 31 (Reg 0) 16) ∷ Plain (Memory Lda 0 31 (pos 1)) ∷ Plain (Pal 0x83) ∷ []
+
+abbrev pub RunsAreEnded : Type 0
+RunsAreEnded =
+    (p : Program) (there : Labels) (start : Start) (c : Call) (o : Outer) (held : Places) (rest : List AsmItem) (end : ℕ)
+    (s : State) → IsCall c → StackIs p there start c [] held s → HasOuter o s → start.behind ≡ ending_items →
+    (with_value : Bool) (status : ℕ) → status_of (returned with_value held) ≡ Some status →
+    StandsFor p there (exit_part c.shape c.shape.saves rest) end c o.memory usable held s →
+    IsOver p (end_locals o c.own (length c.shape.sizes)) (Done status) s
