@@ -1,0 +1,4 @@
+//! What judgements find is well typed.
+#![tactic(auto)]
+
+pub mod laws;
