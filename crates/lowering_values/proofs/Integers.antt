@@ -155,7 +155,7 @@ promotion_is UnsignedLong n = conversion-same UnsignedLong n
 
 -- ---- conversions in code
 
-kept_is : (s t : IntegerType) → is_kept (plain_of s) (plain_of t) ≡ true → promote s ≡ t
+pub kept_is : (s t : IntegerType) → is_kept (plain_of s) (plain_of t) ≡ true → promote s ≡ t
 kept_is Char Char h = absurd (cc)
 kept_is Char UnsignedChar h = absurd (cc)
 kept_is Char Short h = absurd (cc)
