@@ -1,0 +1,113 @@
+-- Each declaration at file scope: its type with the bodies in it, whether that may be declared, its name, and what
+-- initialises it (C99 6.7, 6.9).
+use Rattle.std.specs.Prelude.{ℕ, true, false, List, [], ◌∷◌, Option, Some, None}
+use Rattle.std.specs.Option.{option_map}
+use Rattle.c_tree.specs.declared.types.Declaration.{Declaration}
+use Rattle.c_tree.specs.declared.types.TypeNode.{TypeNode}
+use Rattle.c_tree.specs.declared.declarations.Init.{Init}
+use Rattle.c_tree.specs.declared.declarations.Storage.{Storage}
+use Rattle.c_tree.specs.declared.declarations.FunctionEnd.{FunctionEnd}
+use Rattle.c_tree.specs.declared.declarations.FunctionEnd.TheVariants as f
+use Rattle.c_tree.specs.declared.declarations.External.{External}
+use Rattle.c_tree.specs.declared.declarations.External.TheVariants as x
+use Rattle.c_declared_types.specs.declared.declared.DeclaredType.{DeclaredType}
+use Rattle.c_declared_types.specs.declared.declared.DeclaredType.TheVariants as d
+use Rattle.c_definitions.specs.declared.names.Definitions.{Definitions}
+use Rattle.c_checks.specs.Checks.{each}
+use Rattle.c_judgements.specs.Types.{State, type_named}
+use Rattle.c_tag_bodies.specs.Bodies.{Scope, declared_type}
+use Rattle.c_initialisers.specs.Unfit.{judge_init}
+use Rattle.c_unit_names.specs.declared.names.NameDeclaration.{NameDeclaration}
+use Rattle.c_externals.specs.declared.walk.UnitSoFar.{UnitSoFar}
+use Rattle.c_externals.specs.Walk.{Walk, in_notes, with_state, declare}
+use Rattle.c_externals.specs.Objects.{faulty_object, array_object, value_object}
+use Rattle.c_externals.specs.Functions.{function_type, function_with_type, optional_refused, init_refused, defined_type, main_seen}
+
+-- ---- typedef names
+
+abbrev pub typedef_of : DeclaredType → NameDeclaration
+typedef_of ty = record { is_typedef = true; ty = ty; has_value = false }
+
+abbrev pub typedef_with : Definitions → ℕ → List ℕ → Option DeclaredType × Walk → Walk
+typedef_with ds at name r = declare ds at name (option_map typedef_of r.0) r.1
+
+abbrev pub typedef_declared : Definitions → ℕ → List ℕ → Option DeclaredType → Walk → Walk
+typedef_declared ds at name ty w = typedef_with ds at name (in_notes w (each ty (type_named at) w.1.1))
+
+-- ---- objects; a typedef name of a function type declares a function
+
+abbrev pub prototype : Definitions → ℕ → List ℕ → Option Storage → DeclaredType → Walk → Walk
+prototype ds at name storage ty w = function_with_type ds at name storage false (in_notes w (function_type at ty w.1.1))
+
+abbrev pub refused_behind : Option Init → Walk → Walk
+refused_behind init w = with_state (optional_refused init w.1) w
+
+abbrev pub value_behind : Init → Walk → Walk
+value_behind init w = with_state (init_refused init w.1) w
+
+abbrev pub object_with : Definitions → ℕ → List ℕ → Option Storage → Option Init → Option DeclaredType → Walk → Walk
+object_with ds at name storage init None w = faulty_object ds at name init w
+object_with ds at name storage init (Some (d.Value ty)) w = value_object ds at name storage init ty w
+object_with ds at name storage init (Some (d.Unsized element)) w = array_object ds at name storage init element w
+object_with ds at name storage init (Some (d.Function of parameters)) w =
+    refused_behind init (prototype ds at name storage (d.Function of parameters) w)
+
+-- ---- functions
+
+abbrev pub main_with : List ℕ → Option DeclaredType → UnitSoFar → UnitSoFar
+main_with name None u = u
+main_with name (Some ty) u = main_seen name ty u
+
+-- a definition of `main` counts whatever fault it has but for its type
+abbrev pub with_main_in : List ℕ → Option DeclaredType × Walk → Option DeclaredType × Walk
+with_main_in name r = (r.0, (main_with name r.0 r.1.0, r.1.1))
+
+abbrev pub with_definition : ℕ → TypeNode → Option DeclaredType × Walk → Option DeclaredType × Walk
+with_definition at node r = in_notes r.1 (each r.0 (defined_type at node) r.1.1.1)
+
+abbrev pub definition : Definitions → ℕ → List ℕ → Option Storage → TypeNode → DeclaredType → Walk → Walk
+definition ds at name storage node ty w =
+    function_with_type ds at name storage true
+    (with_definition at node (with_main_in name (in_notes w (function_type at ty w.1.1))))
+
+abbrev pub function_with :
+    Definitions → ℕ → List ℕ → Option Storage → TypeNode → FunctionEnd → DeclaredType → Walk → Walk
+function_with ds at name storage node f.Nothing ty w = prototype ds at name storage ty w
+function_with ds at name storage node (f.Init init) ty w = value_behind init (prototype ds at name storage ty w)
+function_with ds at name storage node (f.Body statements) ty w = definition ds at name storage node ty w
+
+abbrev pub end_judged : FunctionEnd → State → State
+end_judged f.Nothing s = s
+end_judged (f.Init init) s = (judge_init init s).1
+end_judged (f.Body statements) s = s
+
+abbrev pub end_behind : FunctionEnd → Walk → Walk
+end_behind end w = with_state (end_judged end w.1) w
+
+abbrev pub function_typed :
+    Definitions → ℕ → List ℕ → Option Storage → TypeNode → FunctionEnd → Option DeclaredType → Walk → Walk
+function_typed ds at name storage node end None w = end_behind end (declare ds at name None w)
+function_typed ds at name storage node end (Some ty) w = function_with ds at name storage node end ty w
+
+-- ---- the type of each comes first
+
+-- what follows a type with the bodies in it
+abbrev pub behind_type : UnitSoFar → Option DeclaredType × Scope → (Option DeclaredType → Walk → Walk) → UnitSoFar × Scope
+behind_type u r rest = ((rest r.0 (u, r.1.1)).0, (r.1.0, (rest r.0 (u, r.1.1)).1))
+
+abbrev pub type_of : Declaration → Scope → Option DeclaredType × Scope
+type_of e s = declared_type e.at e.ty s
+
+-- a declaration that declares tags alone has no place of its own
+abbrev pub tags_declared : UnitSoFar → Option DeclaredType × Scope → UnitSoFar × Scope
+tags_declared u r = (u, r.1)
+
+abbrev pub external : Definitions → External → UnitSoFar × Scope → UnitSoFar × Scope
+external ds (x.Typedef e) s = behind_type s.0 (type_of e s.1) (typedef_declared ds e.at e.name)
+external ds (x.Object e storage init) s = behind_type s.0 (type_of e s.1) (object_with ds e.at e.name storage init)
+external ds (x.Function e storage end) s = behind_type s.0 (type_of e s.1) (function_typed ds e.at e.name storage e.ty end)
+external ds (x.Tags storage ty) s = tags_declared s.0 (declared_type 0 ty s.1)
+
+abbrev pub externals : Definitions → List External → UnitSoFar × Scope → UnitSoFar × Scope
+externals ds [] s = s
+externals ds (e ∷ es) s = externals ds es (external ds e s)

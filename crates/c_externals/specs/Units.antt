@@ -1,0 +1,91 @@
+-- Whole units: the built-in functions, the declarations in their order, and what is seen of the unit at its end.
+use Rattle.std.specs.Prelude.{ℕ, true, false, if◌then◌else◌, Bool, List, [], ◌∷◌, Option, None, length, codes}
+use Rattle.c_tree.specs.declared.declarations.TranslationUnit.{TranslationUnit}
+use Rattle.c_declared_types.specs.declared.declared.DeclaredType.TheVariants as d
+use Rattle.c_definitions.specs.declared.names.Definitions.{Definitions}
+use Rattle.c_definitions.specs.Definitions.{definitions}
+use Rattle.c_typed_tree.specs.declared.types.CType as t
+use Rattle.c_typed_tree.specs.declared.expressions.Builtin.{Builtin}
+use Rattle.c_typed_tree.specs.declared.expressions.Builtin.TheVariants as b
+use Rattle.c_typed_tree.specs.declared.expressions.Callee.TheVariants as c
+use Rattle.c_type_faults.specs.declared.faults.Fault.{Fault}
+use Rattle.c_type_faults.specs.declared.faults.Kind.TheVariants.{MissingMain}
+use Rattle.c_type_faults.specs.Faults.{sorted, head}
+use Rattle.c_type_rules.specs.Values.{int}
+use Rattle.c_checks.specs.declared.env.Env.{Env}
+use Rattle.c_checks.specs.declared.notes.Notes.{Notes}
+use Rattle.c_checks.specs.declared.meanings.Meaning.TheVariants as m
+use Rattle.c_checks.specs.Notes.{with_fault}
+use Rattle.c_checks.specs.Scopes.{with_name}
+use Rattle.c_tag_bodies.specs.Bodies.{Scope}
+use Rattle.c_unit_names.specs.declared.names.UnitNames.{UnitNames}
+use Rattle.c_unit_names.specs.UnitNames.{with_declared}
+use Rattle.c_externals.specs.declared.walk.UnitSoFar.{UnitSoFar}
+use Rattle.c_externals.specs.Externals.{externals}
+use Rattle.c_externals.specs.Undefined.{undefined_noted}
+
+-- ---- before the first declaration
+
+abbrev pub no_notes : (first_text : ℕ) → Notes
+no_notes first_text = record {
+  faults = [];
+  addressed = [];
+  texts = [];
+  first_text = first_text;
+  uses = [];
+  structs = [];
+  members = [];
+  tags = [];
+  untagged = None;
+}
+
+abbrev pub no_names : UnitNames
+no_names = record { declared = []; functions = 0; objects = 0; undefined = 0 }
+
+-- the built-in functions are declared, and count as defined
+abbrev pub builtin_declared : List ℕ → Builtin → t.CType → List t.CType → UnitNames × Env → UnitNames × Env
+builtin_declared name builtin ty parameters r = (
+  with_declared name (record { is_typedef = false; ty = d.Function ty parameters; has_value = true }) r.0,
+  with_name name (m.Function (c.Builtin builtin) ty parameters) r.1,
+)
+
+abbrev pub with_builtins : UnitNames × Env → UnitNames × Env
+with_builtins r =
+    builtin_declared (codes "exit") b.Exit t.Void (int ∷ []) (builtin_declared (codes "abort") b.Abort t.Void []
+    (builtin_declared (codes "getchar") b.Getchar int []
+    (builtin_declared (codes "putchar") b.Putchar int (int ∷ []) r)))
+
+abbrev pub builtins : UnitNames × Env
+builtins = with_builtins (no_names, record { names = []; outside = 0 })
+
+abbrev pub start : Definitions → UnitSoFar × Scope
+start ds = (
+  record { names = builtins.0; objects = []; has_main = false },
+  ([], (builtins.1, no_notes (length ds.objects))),
+)
+
+-- ---- behind the last one
+
+abbrev pub main_missed : (length : ℕ) → (has_main : Bool) → Notes → Notes
+main_missed length has_main n = if has_main then n else with_fault length MissingMain n
+
+abbrev pub end_notes : (length : ℕ) → (has_main : Bool) → Notes → Notes
+end_notes length has_main n = main_missed length has_main (undefined_noted n)
+
+abbrev pub at_end : (length : ℕ) → UnitSoFar × Scope → UnitSoFar × Scope
+at_end length s = (s.0, (s.1.0, (s.1.1.0, end_notes length s.0.has_main s.1.1.1)))
+
+-- ---- the whole
+
+abbrev pub judge_unit : Definitions → TranslationUnit → UnitSoFar × Scope → UnitSoFar × Scope
+judge_unit ds unit s = at_end unit.length (externals ds unit.externals s)
+
+abbrev pub whole_unit : TranslationUnit → UnitSoFar × Scope
+whole_unit unit = judge_unit (definitions unit.externals) unit (start (definitions unit.externals))
+
+-- the faults of a unit, but for those in the bodies of functions
+abbrev pub declaration_faults : TranslationUnit → List Fault
+declaration_faults unit = sorted (whole_unit unit).1.1.1.faults
+
+abbrev pub first_declaration_fault : TranslationUnit → Option Fault
+first_declaration_fault unit = head (declaration_faults unit)

@@ -1,0 +1,108 @@
+-- What is known behind some declarations at file scope: the names with their numbers, the objects with what their
+-- initialisers give, and whether `main` is defined; the names in scope, and what was noted.
+use Rattle.std.specs.Prelude.{ℕ, Bool, true, false, if◌then◌else◌, List, [], ◌∷◌, ◌++◌, length, ◌==◌, Option, Some, None, bytes_eq, codes}
+use Rattle.c_tree.specs.declared.declarations.Storage.{Storage}
+use Rattle.c_tree.specs.declared.declarations.Storage.TheVariants as s
+use Rattle.c_definitions.specs.declared.names.Definitions.{Definitions}
+use Rattle.c_type_faults.specs.declared.faults.Kind.TheVariants.{Redeclared}
+use Rattle.data_object.specs.declared.Cell.{Cell}
+use Rattle.c_typed_tree.specs.declared.types.CType.{CType}
+use Rattle.c_globals.specs.declared.objects.UnitObject.{UnitObject}
+use Rattle.c_globals.specs.Globals.{set_cells}
+use Rattle.c_checks.specs.declared.meanings.Meaning.{Meaning}
+use Rattle.c_checks.specs.declared.meanings.Meaning.TheVariants as m
+use Rattle.c_checks.specs.declared.env.Env.{Env}
+use Rattle.c_checks.specs.declared.notes.Notes.{Notes}
+use Rattle.c_checks.specs.Notes.{with_fault}
+use Rattle.c_checks.specs.Scopes.{meaning_of}
+use Rattle.c_judgements.specs.Types.{State}
+use Rattle.c_unit_names.specs.declared.names.NameDeclaration.{NameDeclaration}
+use Rattle.c_unit_names.specs.declared.names.UnitNames.{UnitNames}
+use Rattle.c_unit_names.specs.UnitNames.{declaration}
+use Rattle.c_externals.specs.declared.walk.UnitSoFar.{UnitSoFar}
+
+abbrev pub Walk : Type 0
+Walk = UnitSoFar × State
+
+-- ---- what a judgement leaves as it was
+
+abbrev pub in_notes : {A : Type 0} → Walk → A × Notes → A × Walk
+in_notes w r = (r.0, (w.0, (w.1.0, r.1)))
+
+abbrev pub with_state : State → Walk → Walk
+with_state s w = (w.0, s)
+
+abbrev pub with_notes : Notes → Walk → Walk
+with_notes n w = (w.0, (w.1.0, n))
+
+-- ---- names
+
+abbrev pub with_names : UnitNames → UnitSoFar → UnitSoFar
+with_names names u = record { names = names; objects = u.objects; has_main = u.has_main }
+
+-- a name that is declared, or whose declaration has a fault
+abbrev pub enter_names : UnitNames × State → Walk → Walk
+enter_names r w = (with_names r.0 w.0, r.1)
+
+abbrev pub declare : Definitions → ℕ → List ℕ → Option NameDeclaration → Walk → Walk
+declare ds at name new w = enter_names (declaration ds at name new w.0.names w.1) w
+
+-- `main` is no function of one unit alone
+abbrev pub is_static : Option Storage → Bool
+is_static None = false
+is_static (Some s.Static) = true
+is_static (Some s.Extern) = false
+
+abbrev pub is_main : List ℕ → Bool
+is_main name = bytes_eq name (codes "main")
+
+abbrev pub main_checked : Option Storage → ℕ → List ℕ → Notes → Notes
+main_checked storage at name n =
+    if is_static storage then (if is_main name then with_fault at Redeclared n else n) else n
+
+-- ---- objects, in the order of their numbers
+
+abbrev pub with_objects : List UnitObject → UnitSoFar → UnitSoFar
+with_objects os u = record { names = u.names; objects = os; has_main = u.has_main }
+
+abbrev pub next_object : (is_next : Bool) → List ℕ → CType → UnitSoFar → UnitSoFar
+next_object false name ty u = u
+next_object true name ty u = with_objects (u.objects ++ record { name = name; ty = ty; cells = [] } ∷ []) u
+
+-- what a name means, if it is an object that the unit defines
+abbrev pub object_by : Option Meaning → Option ℕ
+object_by None = None
+object_by (Some m.Faulty) = None
+object_by (Some (m.Undefined number)) = None
+object_by (Some (m.Local number ty)) = None
+object_by (Some (m.Object number ty)) = Some number
+object_by (Some (m.Constant word)) = None
+object_by (Some (m.Function callee result parameters)) = None
+object_by (Some (m.Typedef ty)) = None
+
+abbrev pub object_at : Env → List ℕ → Option ℕ
+object_at env name = object_by (meaning_of env name)
+
+-- an object stands among them from the declaration on that gives it its number
+abbrev pub add_numbered : Option ℕ → List ℕ → CType → UnitSoFar → UnitSoFar
+add_numbered None name ty u = u
+add_numbered (Some number) name ty u = next_object (number == length u.objects) name ty u
+
+abbrev pub add_object : Env → List ℕ → CType → UnitSoFar → UnitSoFar
+add_object env name ty u = add_numbered (object_at env name) name ty u
+
+abbrev pub with_object : List ℕ → CType → Walk → Walk
+with_object name ty w = (add_object w.1.0 name ty w.0, w.1)
+
+-- ---- what initialisers give
+
+abbrev pub fill_numbered : Option ℕ → List Cell → UnitSoFar → UnitSoFar
+fill_numbered None cells u = u
+fill_numbered (Some number) cells u = with_objects (set_cells number cells u.objects) u
+
+abbrev pub keep_cells : Env → List ℕ → Option (List Cell) → UnitSoFar → UnitSoFar
+keep_cells env name None u = u
+keep_cells env name (Some cells) u = fill_numbered (object_at env name) cells u
+
+abbrev pub fill : List ℕ → UnitSoFar → Option (List Cell) × State → Walk
+fill name u r = (keep_cells r.1.0 name r.0 u, r.1)

@@ -1,0 +1,390 @@
+//! The walk over declarations.
+
+ghost use Rattle.std.specs.Prelude.{◌≡◌, OnOk};
+ghost use Rattle.std.specs.Option.{option_map};
+ghost use Rattle.c_checks.specs.Checks.{Finds, each};
+ghost use Rattle.c_externals.specs.Externals as spec;
+ghost use Rattle.c_externals.specs.Functions as functions;
+
+use crate::functions::{
+    declare_function, defined_type, function_type, refuse_optional, refuse_value, see_main,
+};
+use crate::objects::{declare_array, declare_faulty, declare_value, judge_parts};
+use crate::walk::{UnitSoFar, declare};
+use c_checks::{Env, Notes};
+use c_declared_types::DeclaredType;
+use c_definitions::Definitions;
+use c_judgements::types::type_named;
+use c_scopes::Table;
+use c_tag_bodies::declared_type;
+use c_tree::{Declaration, External, FunctionEnd, Init, Storage, TypeNode};
+use c_unit_names::NameDeclaration;
+use std::alloc::{AllocError, Global};
+
+fn typedef_of(ty: Option<DeclaredType>) -> Option<NameDeclaration>
+    ensures { result ≡ option_map spec.typedef_of ty }
+{
+    match ty {
+        None => None,
+        Some(ty) => Some(NameDeclaration {
+            is_typedef: true,
+            ty,
+            has_value: false,
+        }),
+    }
+}
+
+fn declare_typedef<'a>(
+    alloc: Global,
+    definitions: &Definitions<'_>,
+    unit: &mut UnitSoFar<'a>,
+    env: &mut Env<'a>,
+    notes: &mut Notes<'a>,
+    at: u32,
+    name: &'a [u8],
+    ty: Option<DeclaredType>,
+) -> Result<(), AllocError>
+    ensures { OnOk result ((unit.new, (env.new, notes.new))
+        ≡ spec.typedef_declared definitions.now at name.now ty (unit.old, (env.old, notes.old))) }
+{
+    let ty = type_named(notes, at, ty)?;
+    declare(
+        alloc,
+        definitions,
+        unit,
+        env,
+        notes,
+        at,
+        name,
+        typedef_of(ty),
+    )
+}
+
+/// Declares a function that is not defined here.
+fn declare_prototype<'a>(
+    alloc: Global,
+    definitions: &Definitions<'_>,
+    unit: &mut UnitSoFar<'a>,
+    env: &mut Env<'a>,
+    notes: &mut Notes<'a>,
+    at: u32,
+    name: &'a [u8],
+    storage: Option<Storage>,
+    ty: DeclaredType,
+) -> Result<(), AllocError>
+    ensures { OnOk result ((unit.new, (env.new, notes.new))
+        ≡ spec.prototype definitions.now at name.now storage ty (unit.old, (env.old, notes.old))) }
+{
+    let ty = function_type(notes, at, ty)?;
+    declare_function(
+        alloc,
+        definitions,
+        unit,
+        env,
+        notes,
+        at,
+        name,
+        storage,
+        false,
+        ty,
+    )
+}
+
+fn declare_object<'a>(
+    alloc: Global,
+    definitions: &Definitions<'_>,
+    unit: &mut UnitSoFar<'a>,
+    env: &mut Env<'a>,
+    notes: &mut Notes<'a>,
+    at: u32,
+    name: &'a [u8],
+    storage: Option<Storage>,
+    init: &'a Option<Init>,
+    ty: Option<DeclaredType>,
+) -> Result<(), AllocError>
+    ensures { OnOk result ((unit.new, (env.new, notes.new))
+        ≡ spec.object_with definitions.now at name.now storage init.now ty (unit.old, (env.old, notes.old))) }
+{
+    match ty {
+        None => declare_faulty(alloc, definitions, unit, env, notes, at, name, init),
+        Some(ty) => match ty {
+            DeclaredType::Value(ty) => {
+                declare_value(
+                    alloc,
+                    definitions,
+                    unit,
+                    env,
+                    notes,
+                    at,
+                    name,
+                    storage,
+                    init,
+                    ty,
+                )
+            }
+            DeclaredType::Unsized(element) => {
+                declare_array(
+                    alloc,
+                    definitions,
+                    unit,
+                    env,
+                    notes,
+                    at,
+                    name,
+                    storage,
+                    init,
+                    element,
+                )
+            }
+            DeclaredType::Function { result, parameters } => {
+                let ty = DeclaredType::Function { result, parameters };
+                declare_prototype(alloc, definitions, unit, env, notes, at, name, storage, ty)?;
+                refuse_optional(alloc, env, notes, init)
+            }
+        },
+    }
+}
+
+/// Notes whether a function that is defined is `main`, if its type has no fault.
+fn see_definition(unit: &mut UnitSoFar<'_>, name: &[u8], ty: &Option<DeclaredType>)
+    ensures { unit.new ≡ spec.main_with name.now ty.now unit.old }
+{
+    match ty {
+        None => {}
+        Some(ty) => see_main(unit, name, ty),
+    }
+}
+
+fn type_of_definition(
+    notes: &mut Notes<'_>,
+    at: u32,
+    node: &TypeNode,
+    ty: Option<DeclaredType>,
+) -> Result<Option<DeclaredType>, AllocError>
+    ensures { Finds (each ty (functions.defined_type at node.now) notes.old) result notes.new }
+{
+    match ty {
+        None => Ok(None),
+        Some(ty) => defined_type(notes, at, node, ty),
+    }
+}
+
+/// Declares a function that is defined here.
+fn declare_definition<'a>(
+    alloc: Global,
+    definitions: &Definitions<'_>,
+    unit: &mut UnitSoFar<'a>,
+    env: &mut Env<'a>,
+    notes: &mut Notes<'a>,
+    at: u32,
+    name: &'a [u8],
+    storage: Option<Storage>,
+    node: &TypeNode,
+    ty: DeclaredType,
+) -> Result<(), AllocError>
+    ensures { OnOk result ((unit.new, (env.new, notes.new))
+        ≡ spec.definition definitions.now at name.now storage node.now ty (unit.old, (env.old, notes.old))) }
+{
+    let ty = function_type(notes, at, ty)?;
+    see_definition(unit, name, &ty);
+    let ty = type_of_definition(notes, at, node, ty)?;
+    declare_function(
+        alloc,
+        definitions,
+        unit,
+        env,
+        notes,
+        at,
+        name,
+        storage,
+        true,
+        ty,
+    )
+}
+
+fn function_with<'a>(
+    alloc: Global,
+    definitions: &Definitions<'_>,
+    unit: &mut UnitSoFar<'a>,
+    env: &mut Env<'a>,
+    notes: &mut Notes<'a>,
+    at: u32,
+    name: &'a [u8],
+    storage: Option<Storage>,
+    node: &TypeNode,
+    end: &'a FunctionEnd,
+    ty: DeclaredType,
+) -> Result<(), AllocError>
+    ensures { OnOk result ((unit.new, (env.new, notes.new))
+        ≡ spec.function_with definitions.now at name.now storage node.now end.now ty (unit.old, (env.old, notes.old))) }
+{
+    match end {
+        FunctionEnd::Nothing => {
+            declare_prototype(alloc, definitions, unit, env, notes, at, name, storage, ty)
+        }
+        FunctionEnd::Init(init) => {
+            declare_prototype(alloc, definitions, unit, env, notes, at, name, storage, ty)?;
+            refuse_value(alloc, env, notes, init)
+        }
+        FunctionEnd::Body(_) => {
+            declare_definition(
+                alloc,
+                definitions,
+                unit,
+                env,
+                notes,
+                at,
+                name,
+                storage,
+                node,
+                ty,
+            )
+        }
+    }
+}
+
+fn judge_end<'a>(
+    alloc: Global,
+    env: &mut Env<'a>,
+    notes: &mut Notes<'a>,
+    end: &'a FunctionEnd,
+) -> Result<(), AllocError>
+    ensures { OnOk result ((env.new, notes.new) ≡ spec.end_judged end.now (env.old, notes.old)) }
+{
+    match end {
+        FunctionEnd::Nothing => Ok(()),
+        FunctionEnd::Init(init) => judge_parts(alloc, env, notes, init),
+        FunctionEnd::Body(_) => Ok(()),
+    }
+}
+
+fn function_typed<'a>(
+    alloc: Global,
+    definitions: &Definitions<'_>,
+    unit: &mut UnitSoFar<'a>,
+    env: &mut Env<'a>,
+    notes: &mut Notes<'a>,
+    at: u32,
+    name: &'a [u8],
+    storage: Option<Storage>,
+    node: &TypeNode,
+    end: &'a FunctionEnd,
+    ty: Option<DeclaredType>,
+) -> Result<(), AllocError>
+    ensures { OnOk result ((unit.new, (env.new, notes.new))
+        ≡ spec.function_typed definitions.now at name.now storage node.now end.now ty (unit.old, (env.old, notes.old))) }
+{
+    match ty {
+        None => {
+            declare(alloc, definitions, unit, env, notes, at, name, None)?;
+            judge_end(alloc, env, notes, end)
+        }
+        Some(ty) => function_with(
+            alloc,
+            definitions,
+            unit,
+            env,
+            notes,
+            at,
+            name,
+            storage,
+            node,
+            end,
+            ty,
+        ),
+    }
+}
+
+/// A declaration at file scope.
+fn external<'a>(
+    alloc: Global,
+    definitions: &Definitions<'_>,
+    unit: &mut UnitSoFar<'a>,
+    defined: &mut Table<'a, ()>,
+    env: &mut Env<'a>,
+    notes: &mut Notes<'a>,
+    item: &'a External,
+) -> Result<(), AllocError>
+    ensures { OnOk result ((unit.new, (defined.new, (env.new, notes.new)))
+        ≡ spec.external definitions.now item.now (unit.old, (defined.old, (env.old, notes.old)))) }
+{
+    match item {
+        External::Typedef(d) => {
+            let ty = declared_type(alloc, &d.ty, defined, env, notes, d.at)?;
+            declare_typedef(
+                alloc,
+                definitions,
+                unit,
+                env,
+                notes,
+                d.at,
+                d.name.as_slice(),
+                ty,
+            )
+        }
+        External::Object {
+            declaration: d,
+            storage,
+            init,
+        } => {
+            let ty = declared_type(alloc, &d.ty, defined, env, notes, d.at)?;
+            let name = d.name.as_slice();
+            declare_object(
+                alloc,
+                definitions,
+                unit,
+                env,
+                notes,
+                d.at,
+                name,
+                *storage,
+                init,
+                ty,
+            )
+        }
+        External::Function {
+            declaration: d,
+            storage,
+            end,
+        } => {
+            let ty = declared_type(alloc, &d.ty, defined, env, notes, d.at)?;
+            let name = d.name.as_slice();
+            function_typed(
+                alloc,
+                definitions,
+                unit,
+                env,
+                notes,
+                d.at,
+                name,
+                *storage,
+                &d.ty,
+                end,
+                ty,
+            )
+        }
+        External::Tags { ty, .. } => {
+            declared_type(alloc, ty, defined, env, notes, 0)?;
+            Ok(())
+        }
+    }
+}
+
+/// The declarations of a unit in their order. `defined` has the tags that have a body.
+pub(crate) fn externals<'a>(
+    alloc: Global,
+    definitions: &Definitions<'_>,
+    unit: &mut UnitSoFar<'a>,
+    defined: &mut Table<'a, ()>,
+    env: &mut Env<'a>,
+    notes: &mut Notes<'a>,
+    list: &'a [External],
+) -> Result<(), AllocError>
+    ensures { OnOk result ((unit.new, (defined.new, (env.new, notes.new)))
+        ≡ spec.externals definitions.now list.now (unit.old, (defined.old, (env.old, notes.old)))) }
+{
+    for e in list {
+        external(alloc, definitions, unit, defined, env, notes, e)?;
+    }
+    Ok(())
+}
