@@ -1,0 +1,4 @@
+//! The bounds of what a machine holds: a run from registers with words and from memory and input with bytes keeps both.
+#![tactic(auto)]
+
+pub mod laws;
