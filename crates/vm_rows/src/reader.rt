@@ -4,13 +4,13 @@ use crate::insns::insn;
 use anyhow::{Context, Result, bail};
 use c_tree::{Name, Seq};
 use data_object::{Cell, DataObject, data_end, next_place};
+use function_checks::{Parts, function_of};
 use row_sheets::escape::unescape;
 use row_sheets::number::number;
 use std::alloc::Global;
 use suifvm_ir::function::{Func, Object};
 use suifvm_ir::insn::VmInsn;
 use suifvm_ir::program::VmProgram;
-use vm_checks::function::{Parts, function_of};
 use vm_checks::program::program_of;
 
 /// A program as far as its text was read.
@@ -20,7 +20,7 @@ pub struct Reader {
     names: Vec<String>,
     functions: Seq<Func<VmInsn>>,
     globals: Seq<DataObject>,
-    function: Option<Parts>,
+    function: Option<Parts<VmInsn>>,
 }
 
 /// The number of a word, which is 32 bits long.
@@ -88,7 +88,7 @@ impl Reader {
     }
 
     /// The function that was begun.
-    fn parts(&mut self) -> Result<&mut Parts> {
+    fn parts(&mut self) -> Result<&mut Parts<VmInsn>> {
         self.function.as_mut().context("no function was begun")
     }
 

@@ -1,6 +1,6 @@
 use Rattle.std.proofs.Common.{arith}
 use Rattle.data_object.specs.Globals.{IsLawfulObject}
-use Rattle.vm_checks.proofs.Alls.{all_more, all_done}
+use Rattle.function_checks.proofs.Alls.{all_more, all_done}
 use Rattle.vm_checks.proofs.globals.all_lawful_objects.Goals as goal
 
 pub loop-object-preserved : goal.loop-object-preserved

@@ -1,6 +1,6 @@
 use Rattle.std.proofs.Common.{IsTrue}
 use Rattle.suifvm_ir.specs.Programs.{goes_back_to_marks}
-use Rattle.vm_checks.proofs.Alls.{all_left}
+use Rattle.function_checks.proofs.Alls.{all_left}
 use Rattle.vm_checks.proofs.marks.block_goes_to_marks.Goals as goal
 
 pub loop-line-preserved : goal.loop-line-preserved

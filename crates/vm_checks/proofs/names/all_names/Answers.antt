@@ -1,6 +1,6 @@
 use Rattle.std.proofs.Common.{All, IsTrue, arith}
 use Rattle.suifvm_ir.specs.Programs.{names_what_is_there}
-use Rattle.vm_checks.proofs.Alls.{all_more, all_done}
+use Rattle.function_checks.proofs.Alls.{all_more, all_done}
 use Rattle.vm_checks.proofs.names.all_names.Goals as goal
 
 pub loop-block-preserved : goal.loop-block-preserved

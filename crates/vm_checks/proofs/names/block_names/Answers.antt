@@ -1,6 +1,6 @@
 use Rattle.std.proofs.Common.{IsTrue}
 use Rattle.suifvm_ir.specs.Programs.{names_what_is_there}
-use Rattle.vm_checks.proofs.Alls.{all_left}
+use Rattle.function_checks.proofs.Alls.{all_left}
 use Rattle.vm_checks.proofs.names.block_names.Goals as goal
 
 pub loop-line-preserved : goal.loop-line-preserved

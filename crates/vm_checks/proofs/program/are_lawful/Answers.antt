@@ -1,6 +1,6 @@
 use Rattle.std.proofs.Common.{arith}
 use Rattle.suifvm_ir.specs.Programs.{IsLawfulFunction}
-use Rattle.vm_checks.proofs.Alls.{all_more, all_done}
+use Rattle.function_checks.proofs.Alls.{all_more, all_done}
 use Rattle.vm_checks.proofs.program.are_lawful.Goals as goal
 
 pub loop-function-preserved : goal.loop-function-preserved
