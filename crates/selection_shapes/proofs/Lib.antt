@@ -1,0 +1,7 @@
+mod Lists
+mod Plain
+mod Shaped
+mod Registers
+mod Settled
+mod Marks
+mod Named
