@@ -31,7 +31,7 @@ pub record FrameIs (xs : Extents) (owner : Owners) (m : Bytes) (sp depth own : �
 pub record KeepsFrames (owner : Owners) (m k : Bytes) : Type 0 where
   pub same : (y : ℕ) → ((o : ℕ) → owner y ≢ OfObject o) → k y ≡ m y
 
--- the instructions of a call write bytes of objects, of its slots and of its argument places
+-- the instructions of a call write bytes of objects, of its slots and of its argument places; what is nobody's may change
 abbrev pub is_written_piece : Piece → Bool
 is_written_piece (SlotPiece t) = true
 is_written_piece (ArgumentPiece k) = true
@@ -40,7 +40,7 @@ is_written_piece _ = false
 abbrev pub is_written : (depth : ℕ) → Owner → Bool
 is_written depth (OfObject o) = true
 is_written depth (OfFrame other piece) = (other == depth) && is_written_piece piece
-is_written depth Nobody = false
+is_written depth Nobody = true
 
 -- so all other bytes are as before: the return address, the saved registers, and what calls that wait own
 abbrev pub KeepsUnwritten : Owners → (depth : ℕ) → (m k : Bytes) → Type 0
