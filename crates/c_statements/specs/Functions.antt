@@ -1,0 +1,67 @@
+-- The body of a function (C99 6.9.1). Parameters and the outermost block are one scope. The parameters are judged once
+-- more there, with their numbers: what the declarator has noted of them is noted at the same places.
+use Rattle.std.specs.Prelude.{ℕ, ◌&&◌, Bool, true, false, List, [], ◌∷◌, Option, Some, None, length, is_some}
+use Rattle.c_tree.specs.declared.types.TypeNode as n
+use Rattle.c_tree.specs.declared.types.Declaration.{Declaration}
+use Rattle.c_tree.specs.declared.types.Parameter.{Parameter}
+use Rattle.c_tree.specs.declared.expressions.Expr.TheBlock as k
+use Rattle.c_tree.specs.declared.statements.Stmt.{Stmt}
+use Rattle.c_typed_tree.specs.declared.types.CType.{CType}
+use Rattle.c_typed_tree.specs.declared.statements.TStmt as t
+use Rattle.c_typed_tree.specs.declared.units.Local.{Local}
+use Rattle.c_typed_tree.specs.declared.units.TypedFn.{TypedFn}
+use Rattle.c_checks.specs.declared.notes.Notes.{Notes}
+use Rattle.c_checks.specs.Checks.{and_then, walk}
+use Rattle.c_checks.specs.Notes.{with_taken}
+use Rattle.c_checks.specs.Scopes.{enter, leave}
+use Rattle.c_judgements.specs.Types.{State}
+use Rattle.c_statement_rules.specs.declared.locals.NewLocal.{NewLocal}
+use Rattle.c_statement_rules.specs.Jumps.{no_jumps}
+use Rattle.c_statement_rules.specs.Locals.{BodyState, beside, parameter_declared, with_addressed}
+use Rattle.c_statements.specs.Parts.{type_of}
+use Rattle.c_statements.specs.Statements.{statement}
+
+-- ---- parameters
+
+-- those of a declarator of a function
+unfoldable pub parameters_of : n.TypeNode → List Parameter
+parameters_of (n.Basic words) = []
+parameters_of (n.Named name) = []
+parameters_of (n.Enum' at tag constants) = []
+parameters_of (n.Struct' at tag members) = []
+parameters_of (n.Pointer' _ target) = []
+parameters_of (n.Array' _ element length) = []
+parameters_of (n.Takes' _ result _ list) = k.items-the_row-Parameter _ list
+
+abbrev pub parameter_of : Parameter → BodyState → Option NewLocal × BodyState
+parameter_of p s = and_then (beside s.0 (type_of p.at p.ty s.1)) (λ ty. parameter_declared p.at p.name ty)
+
+-- whether none has a fault
+abbrev pub parameters : List Parameter → (sound : Bool) → BodyState → Bool × BodyState
+parameters [] sound s = (sound, s)
+parameters (p ∷ ps) sound s = and_then (parameter_of p s) (λ r. parameters ps (sound && is_some r))
+
+-- ---- the function, where nothing in it has a fault
+
+abbrev pub typed_body : List ℕ → CType → (params : ℕ) → List Local → Option (List t.TStmt) → Option TypedFn
+typed_body name ty params ls None = None
+typed_body name ty params ls (Some list) =
+    Some (record { name = name; result = ty; params = params; locals = ls; body = t.Block list })
+
+abbrev pub typed_function :
+    List ℕ → Option CType → (sound : Bool) → (params : ℕ) → List Local → Option (List t.TStmt) → Option TypedFn
+typed_function name None sound params ls list = None
+typed_function name (Some ty) false params ls list = None
+typed_function name (Some ty) true params ls list = typed_body name ty params ls list
+
+abbrev pub without_addresses : Notes → Notes
+without_addresses n = with_taken [] n.texts n
+
+-- the locals whose address was taken are objects of memory
+abbrev pub function : Declaration → (result : Option CType) → List Stmt → State → Option TypedFn × State
+function d of list s =
+    and_then (parameters (parameters_of d.ty) true ([], (enter s.0, s.1))) (λ sound u.
+    and_then (walk (statement of no_jumps) list (Some []) u) (λ found v. (
+      typed_function d.name of sound (length u.0) (with_addressed v.1.1.addressed v.0) found,
+      (leave s.0.outside v.1.0, without_addresses v.1.1),
+    )))

@@ -1,0 +1,85 @@
+-- The parts of statements that are no statements (C99 6.7, 6.8): expressions, locals with their initialisers, and labels.
+use Rattle.std.specs.Prelude.{ℕ, [], Option, Some, None}
+use Rattle.std.specs.Option.{option_map}
+use Rattle.c_arithmetic.specs.declared.integer_type.IntegerType.{IntegerType}
+use Rattle.c_tree.specs.declared.expressions.Expr.{Expr}
+use Rattle.c_tree.specs.declared.types.TypeNode.{TypeNode}
+use Rattle.c_tree.specs.declared.statements.Local.{Local}
+use Rattle.c_tree.specs.declared.statements.ForFirst.{ForFirst}
+use Rattle.c_tree.specs.declared.statements.ForFirst.TheVariants as g
+use Rattle.c_tree.specs.declared.statements.Label.{Label}
+use Rattle.c_tree.specs.declared.statements.Label.TheVariants as l
+use Rattle.c_declared_types.specs.declared.declared.DeclaredType.{DeclaredType}
+use Rattle.c_typed_tree.specs.declared.types.CType.{CType}
+use Rattle.c_typed_tree.specs.declared.expressions.TExpr.{TExpr}
+use Rattle.c_typed_tree.specs.declared.statements.TStmt.{TStmt}
+use Rattle.c_typed_tree.specs.declared.statements.TLabel.{TLabel}
+use Rattle.c_typed_tree.specs.declared.statements.TLocal.{TLocal}
+use Rattle.c_typed_tree.specs.declared.statements.TFirst.{TFirst}
+use Rattle.c_typed_tree.specs.declared.statements.TFirst.TheVariants as f
+use Rattle.c_primary_rules.specs.declared.switches.SwitchValue.{SwitchValue}
+use Rattle.c_checks.specs.declared.env.Env.{Env}
+use Rattle.c_checks.specs.Checks.{pure, and_then, each, both, walk}
+use Rattle.c_judgements.specs.Leaves.{leaf}
+use Rattle.c_judgements.specs.Types.{State, within}
+use Rattle.c_expressions.specs.Expressions.{judge, derive}
+use Rattle.c_statement_rules.specs.declared.labels.Labels.{Labels}
+use Rattle.c_statement_rules.specs.declared.locals.NewLocal.{NewLocal}
+use Rattle.c_statement_rules.specs.Values.{condition, switch_operand, full_expression, return_value, return_nothing}
+use Rattle.c_statement_rules.specs.Labels.{LabelState, beside_labels, case_label, default_label}
+use Rattle.c_statement_rules.specs.Locals.{BodyState, beside, in_body, local_declared, local_with_value, without_initialiser}
+use Rattle.c_statement_rules.specs.Forms.{there, first_value, first_locals}
+
+-- ---- expressions
+
+abbrev pub condition_of : Expr → State → Option TExpr × State
+condition_of x s = and_then (judge x s) (λ a u. within u.0 (each a condition u.1))
+
+abbrev pub value_of : Expr → State → Option TExpr × State
+value_of x s = and_then (judge x s) (λ a. pure (option_map full_expression a))
+
+abbrev pub operand_of : Expr → State → Option SwitchValue × State
+operand_of x s = and_then (judge x s) (λ a u. within u.0 (each a switch_operand u.1))
+
+abbrev pub optional_condition : Option Expr → State → Option (Option TExpr) × State
+optional_condition None s = (Some None, s)
+optional_condition (Some x) s = and_then (condition_of x s) (λ c. pure (there c))
+
+abbrev pub optional_value : Option Expr → State → Option (Option TExpr) × State
+optional_value None s = (Some None, s)
+optional_value (Some x) s = and_then (value_of x s) (λ v. pure (there v))
+
+-- in a function of which the result has a type
+abbrev pub return_statement : Option CType → ℕ → Option Expr → State → Option TStmt × State
+return_statement of at None s = within s.0 (each of (return_nothing at) s.1)
+return_statement of at (Some x) s = and_then (judge x s) (λ a u. within u.0 (both of a (return_value at) u.1))
+
+-- ---- locals. A specifier in a function has no body (6.7.2), and a name is in scope in its own initialiser (6.2.1)
+
+abbrev pub type_of : ℕ → TypeNode → State → Option DeclaredType × State
+type_of at ty s = and_then (within s.0 (leaf s.0 at ty s.1)) (λ of. derive at ty of)
+
+abbrev pub initialiser_of : Option NewLocal → Option Expr → BodyState → Option TLocal × BodyState
+initialiser_of new None s = (option_map without_initialiser new, s)
+initialiser_of new (Some x) s =
+    and_then (beside s.0 (judge x s.1)) (λ a u. in_body u (both new a local_with_value u.1.1))
+
+abbrev pub local_of : Local → BodyState → Option TLocal × BodyState
+local_of d s =
+    and_then (beside s.0 (type_of d.declaration.at d.declaration.ty s.1)) (λ ty u.
+    and_then (local_declared d.declaration.at d.declaration.name ty u) (λ new. initialiser_of new d.init))
+
+abbrev pub first_of : ForFirst → BodyState → Option TFirst × BodyState
+first_of g.Nothing s = (Some f.Nothing, s)
+first_of (g.Value x) s = beside s.0 (and_then (value_of x s.1) (λ v. pure (first_value v)))
+first_of (g.Locals ds) s = and_then (walk local_of ds (Some []) s) (λ vs. pure (first_locals vs))
+
+-- ---- labels, with those that stand before in the same `switch`
+
+abbrev pub with_env : {A : Type 0} → Env → A × LabelState → A × (Labels × State)
+with_env env x = (x.0, (x.1.0, (env, x.1.1)))
+
+abbrev pub label_of : Option IntegerType → Label → Labels × State → Option TLabel × (Labels × State)
+label_of ty (l.Case at x) s =
+    and_then (beside_labels s.0 (judge x s.1)) (λ a u. with_env u.1.0 (each a (case_label ty at) (u.0, u.1.1)))
+label_of ty (l.Default at) s = with_env s.1.0 (default_label at (s.0, s.1.1))
