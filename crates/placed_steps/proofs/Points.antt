@@ -48,7 +48,7 @@ known-same s (Store t r) h = refl
 known-same s (Load t r) h = more-usable r h.1.usable_one
 known-same s (Shift t from to) h = more-usable to h.1.usable_one
 
-can-transfer-all : (s : Shape) (xs : List Transfer) → AllMayTransfer s xs → CanTransferAll s usable xs
+pub can-transfer-all : (s : Shape) (xs : List Transfer) → AllMayTransfer s xs → CanTransferAll s usable xs
 can-transfer-all s [] h = tt
 can-transfer-all s (x ∷ xs) h = (can-transfer s x h.0, subst (λ k. CanTransferAll s k xs) (sym (known-same s x h.0)) (can-transfer-all s xs h.1))
 
@@ -63,7 +63,7 @@ one-in (Store t r) c store k = refl
 one-in (Load t r) c store k = refl
 one-in (Shift t from to) c store k = refl
 
-all-in : (xs : List Transfer) (store : Places) (k : ℕ) → do_all xs store (In k) ≡ store (In k)
+pub all-in : (xs : List Transfer) (store : Places) (k : ℕ) → do_all xs store (In k) ≡ store (In k)
 all-in [] store k = refl
 all-in (x ∷ xs) store k = all-in xs (put place_eq (target_of x) (store (source_of x)) store) k ∙ one-in x (store (source_of x)) store k
 
