@@ -1,10 +1,10 @@
-mod Values
-mod Memories
-mod Machines
-mod Arguments
-mod Steps
-mod Operations
-mod Builtins
-mod Calls
-mod Keeps
-mod Lengths
+pub mod Values
+pub mod Memories
+pub mod Machines
+pub mod Arguments
+pub mod Steps
+pub mod Operations
+pub mod Builtins
+pub mod Calls
+pub mod Keeps
+pub mod Lengths

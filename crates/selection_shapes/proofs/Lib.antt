@@ -1,7 +1,7 @@
-mod Lists
-mod Plain
-mod Shaped
-mod Registers
-mod Settled
-mod Marks
-mod Named
+pub mod Lists
+pub mod Plain
+pub mod Shaped
+pub mod Registers
+pub mod Settled
+pub mod Marks
+pub mod Named

@@ -1,0 +1,19 @@
+-- What `select` gives.
+use Rattle.std.specs.Prelude.{◌≡◌, ℕ, ◌+◌, List, [], ◌∷◌}
+use Rattle.suifvm_ir.specs.Programs.{VmFunction}
+use Rattle.temp_ir.specs.Programs.{TempFn}
+use Rattle.selection_code.specs.Functions.{function_blocks}
+
+-- the selected one of a function: its name, number of parameters and objects stay, and it has four temporaries more than
+-- the function has registers
+pub record IsSelectedFunction (f : VmFunction) (g : TempFn) : Type 0 where
+  pub name : g.name ≡ f.name
+  pub params : g.params ≡ f.params
+  pub temps : g.temps ≡ f.temps + 4
+  pub objects : g.objects ≡ f.objects
+  pub blocks : g.blocks ≡ function_blocks f.params f.blocks
+
+abbrev pub AreSelected : List VmFunction → List TempFn → Type 0
+AreSelected [] [] = Unit {0}
+AreSelected (f ∷ fs) (g ∷ gs) = IsSelectedFunction f g × AreSelected fs gs
+AreSelected _ _ = ⊥

@@ -1,0 +1,32 @@
+//! Selected programs.
+
+ghost use Rattle.std.specs.Prelude.{◌≡◌, ◌+◌, ◌*◌, ◌^◌, ◌<◌, ◌≤◌, All, length, sum_by, IfOk};
+ghost use Rattle.suifvm_ir.specs.Functions.{count_of};
+ghost use Rattle.suifvm_ir.specs.Programs.{VmFunction, program_size};
+ghost use Rattle.temp_ir.specs.Programs.{TempFn};
+ghost use Rattle.selection_laws.specs.Selected.{IsSelected};
+ghost use Rattle.selection_laws.specs.Laws.{SelectionKeeps};
+ghost use Rattle.alpha_select.specs.Selection.{AreSelected};
+
+use crate::copies::copy_globals;
+use crate::functions::select_functions;
+use std::alloc::{AllocError, Global};
+use suifvm_ir::program::VmProgram;
+use temp_ir::program::TempProgram;
+
+/// The selected program: it has the endings of the program, unless they are Undefined, and no others. Its functions are
+/// settled, and their backward jumps go to blocks that begin with a mark. It fails only where memory is short.
+pub fn select(alloc: Global, program: &VmProgram) -> Result<TempProgram, AllocError>
+    requires size { program_size program.now.functions ≤ 2 ^ 24 }
+    requires registers { All (λ (f : VmFunction). f.temps ≤ 2 ^ 24) program.now.functions }
+    ensures selected { IfOk result (λ p. IsSelected program.now p) }
+    ensures functions { IfOk result (λ p. AreSelected program.now.functions p.functions) }
+    ensures globals { IfOk result (λ p. p.globals ≡ program.now.globals) }
+    ensures keeps { IfOk result (λ p. SelectionKeeps program.now p) }
+    ensures few { IfOk result (λ p.
+        sum_by (λ (g : TempFn). 5 * length g.blocks + count_of g.blocks) p.functions < 2 ^ 30) }
+{
+    let functions = select_functions(alloc, program.functions.as_slice())?;
+    let globals = copy_globals(alloc, program.globals.as_slice())?;
+    Ok(TempProgram { functions, globals })
+}
