@@ -43,8 +43,8 @@ use Rattle.lowering_code.specs.declared.item.Item.TheVariants.{Plain}
 use Rattle.lowering_code.specs.Registers.{register_type, value_register, temporary}
 use Rattle.lowering_code.specs.Expressions.{plain_of, is_kept, narrow_type, operation_of, operation_insn, binary_code, conversion_code, convert_code, plus_of, expr_code, place_code}
 use Rattle.lowering_states.specs.Places.{Place, next_place, stands_at}
-use Rattle.lowering_states.specs.Runs.{opens, Seen, SeenTrap, view, finish}
-use Rattle.lowering_states.specs.States.{IsHeld, IsIn, Kept}
+use Rattle.lowering_states.specs.Runs.{opens, Observation, ObservesTrap, view, finish}
+use Rattle.lowering_states.specs.States.{IsHeld, IsIn, KeepsLower}
 use Rattle.lowering_states.proofs.Steps.{finish-bind, meets_same, plain, traps, used_meets, number_meets, outcome_meets}
 use Rattle.lowering_states.proofs.States.{kept_all, kept_on, kept_temporary, kept_reads, value_at, after_same, after_on, fits_temporary}
 use Rattle.lowering_values.specs.Laws.{is_shift, does_in}
@@ -114,17 +114,17 @@ module _ (c : Setting) (found : slice_get c.functions c.number ≡ Some c.code) 
   abbrev L : ℕ
   L = count c
 
-  pub insn_on : {o : Seen} (insn : VmInsn) (p : Place) (r : Registers) (w : World) (m : Memory) (vs : List Value) → stands_at c.code.blocks p ≡ Some (Some insn)
+  pub insn_on : {o : Observation} (insn : VmInsn) (p : Place) (r : Registers) (w : World) (m : Memory) (vs : List Value) → stands_at c.code.blocks p ≡ Some (Some insn)
       → takes_turn insn ≡ false → does_in c.own r (outer_with_memory w.outer m) insn ≡ Writes vs (outer_with_memory w.outer m)
       → EndsSo c o (next_place p) (set_registers (writes_of insn) vs r) w m → EndsSo c o p r w m
   insn_on insn p r w m vs e calm d next = plain c.rooms c.functions c.number c.code found c.own c.waiting insn p r w m vs m e calm d next
 
-  insn_traps : {o : Seen} (insn : VmInsn) (p : Place) (r : Registers) (w : World) (m : Memory) (code : ℕ) → stands_at c.code.blocks p ≡ Some (Some insn)
+  insn_traps : {o : Observation} (insn : VmInsn) (p : Place) (r : Registers) (w : World) (m : Memory) (code : ℕ) → stands_at c.code.blocks p ≡ Some (Some insn)
       → takes_turn insn ≡ false → does_in c.own r (outer_with_memory w.outer m) insn ≡ Stops (Traps code) (outer_with_memory w.outer m)
-      → SeenTrap (view w) code ≡ o → EndsSo c o p r w m
+      → ObservesTrap (view w) code ≡ o → EndsSo c o p r w m
   insn_traps insn p r w m code e calm d same = traps c.rooms c.functions c.number c.code found c.own c.waiting insn p r w m code e calm d same
 
-  pub bound : {A B : Type 0} (x : Evaluation A State) (k : A → Run B) (K : B → State → Seen) (p : Place) (r : Registers) (w : World) (m : Memory)
+  pub bound : {A B : Type 0} (x : Evaluation A State) (k : A → Run B) (K : B → State → Observation) (p : Place) (r : Registers) (w : World) (m : Memory)
       → EndsSo c (finish x (λ a s. finish (k a s) K)) p r w m → EndsSo c (finish (and_then x k) K) p r w m
   bound x k K p r w m h = meets_same c.rooms c.functions (finish-bind x k K) h
 
@@ -300,12 +300,12 @@ module _ (c : Setting) (found : slice_get c.functions c.number ≡ Some c.code) 
     R = plain_of (result_type op t)
 
     -- both operands are known
-    operated : (d : ℕ) (rest : List Item) (heads : List ℕ) (f : Names) (scope : Scope) (r : Registers) (s : State) (m : Memory) (K : Value → State → Seen) → Follows c d R heads rest f scope r s m K
+    operator_meets : (d : ℕ) (rest : List Item) (heads : List ℕ) (f : Names) (scope : Scope) (r : Registers) (s : State) (m : Memory) (K : Value → State → Observation) → Follows c d R heads rest f scope r s m K
         → (q : Place) (x y : ℕ) (g : Names) (t1 : State) (q1 : Registers) (m1 : Memory) → Stands c heads q (Plain (insn_of op d R t o) ∷ rest) → Aft c f s m g t1 m1 → Fit c g scope q1 t1 m1
-        → Kept L d r q1 → WordIn L d t x q1 → WordIn L (suc d) o y q1
+        → KeepsLower L d r q1 → WordIn L d t x q1 → WordIn L (suc d) o y q1
         → EndsSo c (finish (outcome (integers_with op t o x y) t1) K) q q1 t1.world m1
     unfolding opens
-    operated d rest heads f scope r s m K next q x y g t1 q1 m1 at1 aft fit1 kept wx wy =
+    operator_meets d rest heads f scope r s m K next q x y g t1 q1 m1 at1 aft fit1 kept wx wy =
         let insn = insn_of op d R t o in
         let u : Outer = outer_with_memory t1.world.outer m1 in
         let does_it : integers_with op t o x y ≢ a.Undefined → does_in c.own q1 u insn ≡ writes (vm.outcome_answer (integers_with op t o x y)) u =
@@ -351,7 +351,7 @@ module _ (c : Setting) (found : slice_get c.functions c.number ≡ Some c.code) 
           (number_meets c.rooms c.functions w t2 (λ j t3. finish (outcome (integers_with op t o i j) t3) K) _ (λ j wj.
           let one = word_in g L d (type_of x) t v i q1 ex vi held stands in
           let kept_one : q3 (value_register L d (plain_of t)) ≡ q1 (value_register L d (plain_of t)) = kept_reads d (register_type (plain_of t)) (omega arith) kept2 in
-          operated d rest heads f scope r s m K next q2 i j g2 t2 q3 m2 at2 (after_on aft aft2) fit2 (kept_on (omega arith) kept kept2)
+          operator_meets d rest heads f scope r s m K next q2 i j g2 t2 q3 m2 at2 (after_on aft aft2) fit2 (kept_on (omega arith) kept kept2)
           (record { is_one = one.is_one; stands = kept_one ∙ one.stands }) (word_in g2 L (suc d) (type_of y) o w j q3 ey wj held2 stands2)))))))))));
     }
 
@@ -359,10 +359,10 @@ module _ (c : Setting) (found : slice_get c.functions c.number ≡ Some c.code) 
 
   module _ (t o : IntegerType) where
     -- a word is converted
-    converted : (d : ℕ) (rest : List Item) (heads : List ℕ) (f : Names) (scope : Scope) (r : Registers) (s : State) (m : Memory) (K : Value → State → Seen) → Follows c d (plain_of o) heads rest f scope r s m K
+    conversion_meets : (d : ℕ) (rest : List Item) (heads : List ℕ) (f : Names) (scope : Scope) (r : Registers) (s : State) (m : Memory) (K : Value → State → Observation) → Follows c d (plain_of o) heads rest f scope r s m K
         → (q : Place) (k : ℕ) (g : Names) (t1 : State) (q1 : Registers) (m1 : Memory) → Stands c heads q (convert_code L d (plain_of t) (plain_of o) rest) → Aft c f s m g t1 m1 → Fit c g scope q1 t1 m1
-        → Kept L d r q1 → WordIn L d t k q1 → EndsSo c (K (Word (conversion t o k)) t1) q q1 t1.world m1
-    converted d rest heads f scope r s m K next q k g t1 q1 m1 at1 aft fit1 kept word = by_kept (is_kept (plain_of t) (plain_of o)) refl at1
+        → KeepsLower L d r q1 → WordIn L d t k q1 → EndsSo c (K (Word (conversion t o k)) t1) q q1 t1.world m1
+    conversion_meets d rest heads f scope r s m K next q k g t1 q1 m1 at1 aft fit1 kept word = by_kept (is_kept (plain_of t) (plain_of o)) refl at1
       where
         k1 : ℕ
         k1 = conversion t o k
@@ -401,7 +401,7 @@ module _ (c : Setting) (found : slice_get c.functions c.number ≡ Some c.code) 
           bound (number v t1) (λ k. pure (Word (conversion (objects.integer_of (plain_of t)) (objects.integer_of (plain_of o)) k))) K q q1 t1.world m1
           (number_meets c.rooms c.functions v t1 (λ k t2. K (Word (conversion (objects.integer_of (plain_of t)) (objects.integer_of (plain_of o)) k)) t2) _ (λ k is.
           meets_same c.rooms c.functions (ap (λ z. K (Word (conversion z (objects.integer_of (plain_of o)) k)) t1) (integer_of-plain t) ∙ ap (λ z. K (Word (conversion t z k)) t1) (integer_of-plain o))
-          (converted d rest heads f scope r s m K next1 q k g t1 q1 m1 at1 aft fit1 kept (word_in g L d (type_of x) t v k q1 ex is held stands)))))));
+          (conversion_meets d rest heads f scope r s m K next1 q k g t1 q1 m1 at1 aft fit1 kept (word_in g L d (type_of x) t v k q1 ex is held stands)))))));
     }
 
     pub conversions : (x : Expr) → type_of x ≡ plain_of t → ExprMeets c x → ExprMeets c (Convert (plain_of o) x)

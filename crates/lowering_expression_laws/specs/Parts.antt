@@ -22,8 +22,8 @@ use Rattle.lowering_code.specs.declared.item.Item.{Item}
 use Rattle.lowering_code.specs.Registers.{value_register}
 use Rattle.lowering_code.specs.Expressions.{expr_code}
 use Rattle.lowering_states.specs.Places.{Place, At}
-use Rattle.lowering_states.specs.Runs.{Seen, finish, Meets, config}
-use Rattle.lowering_states.specs.States.{IsHeld, IsIn, Fits, Kept, After}
+use Rattle.lowering_states.specs.Runs.{Observation, finish, Meets, config}
+use Rattle.lowering_states.specs.States.{IsHeld, IsIn, Fits, KeepsLower, After}
 
 -- a call of a function of the code: its number, the number of its first object, its code, the number of its last block
 -- and how that ends, and the calls that wait; and what the C meaning has beside it: how many objects of static storage,
@@ -44,7 +44,7 @@ pub record Setting : Type 0 where
   pub level : ℕ
 
 module _ (c : Setting) where
-  abbrev pub EndsSo : Seen → Place → Registers → World → Memory → Type 0
+  abbrev pub EndsSo : Observation → Place → Registers → World → Memory → Type 0
   EndsSo o p r w n = Meets c.rooms c.functions o (config c.number c.own c.waiting p r w n)
 
   abbrev pub Stands : (heads : List ℕ) → Place → List Item → Type 0
@@ -64,15 +64,15 @@ module _ (c : Setting) where
 
   -- what follows a value of a type at a depth
   abbrev pub Follows : (depth : ℕ) → PlainType → (heads : List ℕ) → (rest : List Item) → Names → Scope → Registers
-      → State → Memory → (Value → State → Seen) → Type 0
+      → State → Memory → (Value → State → Observation) → Type 0
   Follows d ty heads rest f scope r s n K =
       (q : Place) (v : Value) (g : Names) (t : State) (q1 : Registers) (m : Memory) → Stands heads q rest
-      → Aft f s n g t m → Fit g scope q1 t m → Kept count d r q1 → IsHeld ty v
+      → Aft f s n g t m → Fit g scope q1 t m → KeepsLower count d r q1 → IsHeld ty v
       → IsIn g ty v (q1 (value_register count d ty)) → EndsSo (K v t) q q1 t.world m
 
   pub record ExprMeets (x : Expr) : Type 0 where
     pub by : (d : ℕ) (rest : List Item) (heads : List ℕ) (p : Place) (f : Names) (scope : Scope) (r : Registers)
-        (s : State) (n : Memory) (K : Value → State → Seen) →
+        (s : State) (n : Memory) (K : Value → State → Observation) →
         Stands heads p (expr_code count c.structs c.locals d x rest) → Fit f scope r s n
         → s.world.meter.turns ≤ c.level → Follows d (type_of x) heads rest f scope r s n K
         → EndsSo (finish (eval c.structs c.locals c.calls scope x s) K) p r s.world n

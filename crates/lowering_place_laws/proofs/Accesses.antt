@@ -39,11 +39,11 @@ use Rattle.lowering_code.specs.declared.item.Item.{Item}
 use Rattle.lowering_code.specs.Registers.{register_type, memory_type, value_register, address_register, bytes_register}
 use Rattle.lowering_code.specs.Expressions.{plain_of, moved_code, load_code, load_from, member_plus, expr_code, place_code}
 use Rattle.lowering_states.specs.Places.{Place, next_place}
-use Rattle.lowering_states.specs.Runs.{opens, Seen, finish}
-use Rattle.lowering_states.specs.States.{IsHeld, Kept}
+use Rattle.lowering_states.specs.Runs.{opens, Observation, finish}
+use Rattle.lowering_states.specs.States.{IsHeld, KeepsLower}
 use Rattle.lowering_states.proofs.Steps.{meets_anything, meets_same, used_meets, number_meets, access_meets}
 use Rattle.lowering_states.proofs.States.{set_same, set_other, other_type, kept_all, kept_temporary, value_at, after_same, fits_temporary}
-use Rattle.lowering_values.specs.Laws.{IsMoved, loaded}
+use Rattle.lowering_values.specs.Laws.{IsMoved, load_result}
 use Rattle.lowering_values.proofs.Integers.{memory-plain, integer_of-plain}
 use Rattle.lowering_values.proofs.Accesses.{memories_correspond}
 use Rattle.lowering_expression_places.proofs.Behind.{at_plain}
@@ -51,7 +51,7 @@ use Rattle.lowering_expression_laws.specs.Parts.{Setting, count, EndsSo, Stands,
 use Rattle.lowering_expression_laws.proofs.Forms.{held_word, insn_on, bound}
 use Rattle.lowering_place_laws.specs.Places.{left_of, PlaceMeets}
 use Rattle.lowering_place_laws.specs.Laws.{IsWithin, IsWhole}
-use Rattle.lowering_place_laws.proofs.Places.{held_pointer, moved_held, same_moved, byte_of, exact, long_word, addressed, address_of, pointer_in, moved_meets}
+use Rattle.lowering_place_laws.proofs.Places.{held_pointer, moved_held, same_moved, byte_of, exact, long_word, address_meets, address_of, pointer_in, moved_meets}
 
 pub array_held : (element : PlainType) (k : ℕ) (v : Value) → IsHeld (Array element k) v
 array_held element k (Word n) = tt
@@ -95,9 +95,9 @@ module _ (c : Setting) (found : slice_get c.functions c.number ≡ Some c.code) 
   L = count c
 
   -- the pointer is moved by the bytes that are left
-  moved_on : {o : Seen} (d left : ℕ) (rest : List Item) (heads : List ℕ) (scope : Scope) (r : Registers) (q : Place) (base at : Value) (g : Names) (t : State) (q1 : Registers) (m1 : Memory) → Stands c heads q (moved_code L d left rest)
-      → Fit c g scope q1 t m1 → Kept L d r q1 → IsValueOf g base (q1 (address_register L d)) → left ≤ MOST_DATA → IsMoved t.world.outer.memory base left at
-      → ((q2 : Place) (q3 : Registers) → Stands c heads q2 rest → Fit c g scope q3 t m1 → Kept L d r q3 → IsValueOf g at (q3 (address_register L d)) → EndsSo c o q2 q3 t.world m1) → EndsSo c o q q1 t.world m1
+  moved_on : {o : Observation} (d left : ℕ) (rest : List Item) (heads : List ℕ) (scope : Scope) (r : Registers) (q : Place) (base at : Value) (g : Names) (t : State) (q1 : Registers) (m1 : Memory) → Stands c heads q (moved_code L d left rest)
+      → Fit c g scope q1 t m1 → KeepsLower L d r q1 → IsValueOf g base (q1 (address_register L d)) → left ≤ MOST_DATA → IsMoved t.world.outer.memory base left at
+      → ((q2 : Place) (q3 : Registers) → Stands c heads q2 rest → Fit c g scope q3 t m1 → KeepsLower L d r q3 → IsValueOf g at (q3 (address_register L d)) → EndsSo c o q2 q3 t.world m1) → EndsSo c o q q1 t.world m1
   moved_on d zero rest heads scope r q base at g t q1 m1 stands fit kept rel le (inl h) next = next q q1 stands fit kept (subst (λ z. IsValueOf g z (q1 (address_register L d))) (sym h.1) rel)
   moved_on d zero rest heads scope r q base at g t q1 m1 stands fit kept rel le (inr e) next =
       next q q1 stands fit kept (subst (λ z. IsValueOf g z (q1 (address_register L d))) (sym (same_moved t.world.outer.memory base at e)) rel)
@@ -121,8 +121,8 @@ module _ (c : Setting) (found : slice_get c.functions c.number ≡ Some c.code) 
       (next (next_place (next_place q)) r2 (at_plain c.code.blocks c.last c.end _ at2) (fits_temporary d P64 x.0 fit1)
       (kept_temporary d P64 x.0 (omega arith) (kept_temporary d S64 (Word (suc k)) (omega arith) kept)) (value_at g at x.0 r1 addr x.2)))
 
-  module _ (d left : ℕ) (rest : List Item) (heads : List ℕ) (f : Names) (scope : Scope) (r : Registers) (s : State) (m : Memory) (K : Value → State → Seen) (q : Place) (base at : Value) (g : Names) (t : State) (q1 : Registers) (m1 : Memory)
-      (aft : Aft c f s m g t m1) (fit : Fit c g scope q1 t m1) (kept : Kept L d r q1) (held : IsHeld (Pointer Void) at) (rel : IsValueOf g base (q1 (address_register L d))) (le : left ≤ MOST_DATA) (moved : IsMoved t.world.outer.memory base left at) where
+  module _ (d left : ℕ) (rest : List Item) (heads : List ℕ) (f : Names) (scope : Scope) (r : Registers) (s : State) (m : Memory) (K : Value → State → Observation) (q : Place) (base at : Value) (g : Names) (t : State) (q1 : Registers) (m1 : Memory)
+      (aft : Aft c f s m g t m1) (fit : Fit c g scope q1 t m1) (kept : KeepsLower L d r q1) (held : IsHeld (Pointer Void) at) (rel : IsValueOf g base (q1 (address_register L d))) (le : left ≤ MOST_DATA) (moved : IsMoved t.world.outer.memory base left at) where
     integer_load : (t0 : IntegerType) (at0 : Value) → at ≡ at0 → Follows c d (plain_of t0) heads rest f scope r s m K → Stands c heads q (load_from (plain_of t0) (value_register L d (plain_of t0)) (address_register L d) left rest)
         → EndsSo c (finish (read_at (plain_of t0) at0 t) K) q q1 t.world m1
     unfolding opens
@@ -141,7 +141,7 @@ module _ (c : Setting) (found : slice_get c.functions c.number ≡ Some c.code) 
         let got = (memories_correspond g t.world.outer.memory m1 fit.memory).1.loads mt base (q1 (address_register L d)) left a v rel (subst (λ z. IsMoved t.world.outer.memory base left z) is moved)
         (subst (λ z. 0 < vm.access_bytes z) (sym same) (some t0)) (subst (λ z. load_at t.world.outer.memory a (vm.access_bytes z) (vm.is_pointer_access z) ≡ Ok v) (sym same) ev) in
         let x_is : got.0 ≡ Word k = subst (λ z. IsValueOf g z got.0) vk got.2 in
-        let gives : loaded mt got.0 ≡ Word (extension t0 k) = ap (λ z. vm.extended_value z got.0) same ∙ ap (vm.extended_value (Some t0)) x_is in
+        let gives : load_result mt got.0 ≡ Word (extension t0 k) = ap (λ z. vm.extended_value z got.0) same ∙ ap (vm.extended_value (Some t0)) x_is in
         let w = Word (extension t0 k) in
         meets_same c.rooms c.functions (ap (λ z. K (Word (extension z k)) t) (integer_of-plain t0))
         (insn_on c found (n.Load mt reg (address_register L d) (pos left)) q q1 t.world m1 (w ∷ []) stands.has.0 refl (ap (λ z. writes z o2) got.1 ∙ ap (λ z. writes (Gives z) o2) gives)
@@ -195,7 +195,7 @@ module _ (c : Setting) (found : slice_get c.functions c.number ≡ Some c.code) 
     by = λ d rest heads place f scope r s m K at fit low next.
         let w = byte_of k 0 in
         let reg = address_register L d in
-        addressed c found d (p.Global k) 0 (load_code L d ty 0 rest) heads place r s.world m at
+        address_meets c found d (p.Global k) 0 (load_code L d ty 0 rest) heads place r s.world m at
         (load_on d 0 rest heads f scope r s m K (next_place place) w w f s (set_register reg w r) m after_same (fits_temporary d P64 w fit) (kept_temporary d P64 w (omega arith) kept_all) tt
         (value_at f w w r reg (address_of c found f k k 0 (fit.statics k lt))) (omega arith) (inl (refl, refl)) ty whole next (at_plain c.code.blocks c.last c.end _ at));
   }

@@ -31,7 +31,7 @@ use Rattle.lowering_code.specs.declared.item.Item.{Item}
 use Rattle.lowering_code.specs.Registers.{value_register, address_register, object_of}
 use Rattle.lowering_code.specs.Expressions.{address_code, member_plus, place_code}
 use Rattle.lowering_states.specs.Places.{Place, next_place}
-use Rattle.lowering_states.specs.Runs.{opens, Seen, finish}
+use Rattle.lowering_states.specs.Runs.{opens, Observation, finish}
 use Rattle.lowering_states.specs.States.{IsHeld, IsIn}
 use Rattle.lowering_states.proofs.Steps.{meets_same, used_meets, known_meets}
 use Rattle.lowering_states.proofs.States.{kept_all, kept_temporary, value_at, after_same, fits_temporary}
@@ -104,9 +104,9 @@ module _ (c : Setting) (found : slice_get c.functions c.number ≡ Some c.code) 
   L = count c
 
   -- the address of an object comes into the register of pointers at a depth
-  pub addressed : {o : Seen} (d : ℕ) (to : vp.Place) (plus : ℕ) (rest : List Item) (heads : List ℕ) (q : Place) (r : Registers) (w : World) (m : Memory) → Stands c heads q (address_code L d to plus rest)
+  pub address_meets : {o : Observation} (d : ℕ) (to : vp.Place) (plus : ℕ) (rest : List Item) (heads : List ℕ) (q : Place) (r : Registers) (w : World) (m : Memory) → Stands c heads q (address_code L d to plus rest)
       → EndsSo c o (next_place q) (set_register (address_register L d) (vm.place_address c.own to plus) r) w m → EndsSo c o q r w m
-  addressed d to plus rest heads q r w m at next =
+  address_meets d to plus rest heads q r w m at next =
       insn_on c found (n.LoadAddress (address_register L d) to plus) q r w m (vm.place_address c.own to plus ∷ []) at.has.0 refl refl next
 
   pub address_of : (f : Names) (o name plus : ℕ) → f o ≡ Some name → IsValueOf f (byte_of o plus) (byte_of name plus)
@@ -120,7 +120,7 @@ module _ (c : Setting) (found : slice_get c.functions c.number ≡ Some c.code) 
     by = λ d plus rest heads place f scope r s m K le fits at fit low next.
         let w = byte_of k plus in
         let reg = address_register L d in
-        addressed d (p.Global k) plus rest heads place r s.world m at
+        address_meets d (p.Global k) plus rest heads place r s.world m at
         (next (next_place place) w (start_of k) f s (set_register reg w r) m (at_plain c.code.blocks c.last c.end _ at) after_same (fits_temporary d P64 w fit) (kept_temporary d P64 w (omega arith) kept_all) tt
         (value_at f w w r reg (address_of f k k plus (fit.statics k lt))) (omega arith) (byte_base s.world.outer.memory k plus));
   }
@@ -137,7 +137,7 @@ module _ (c : Setting) (found : slice_get c.functions c.number ≡ Some c.code) 
         (bound c found (or_undefined UsesDeadObject (scope k) s) (λ o. pure (objects.At (start_of o))) K place r s.world m
         (known_meets c.rooms c.functions UsesDeadObject (scope k) s (λ o t. K (objects.At (start_of o)) t) _ (λ o here.
         let w = byte_of name plus in
-        addressed d (p.Local (object_of c.locals k)) plus rest heads place r s.world m at
+        address_meets d (p.Local (object_of c.locals k)) plus rest heads place r s.world m at
         (next (next_place place) (byte_of o plus) (start_of o) f s (set_register reg w r) m (at_plain c.code.blocks c.last c.end _ at) after_same (fits_temporary d P64 w fit) (kept_temporary d P64 w (omega arith) kept_all) tt
         (value_at f (byte_of o plus) w r reg (address_of f o name plus (fit.scopes k o here))) (omega arith) (byte_base s.world.outer.memory o plus)))));
   }
@@ -160,7 +160,7 @@ module _ (c : Setting) (found : slice_get c.functions c.number ≡ Some c.code) 
   }
 
   -- a pointer is moved to a member
-  pub moved_meets : {k : Place} {r : Registers} {m : Memory} (at : Value) (off : ℕ) (s : State) (K : Value → State → Seen) → ((u : Value) → pointer_plus s.world.outer.memory at (pos off) ≡ Some u → EndsSo c (K u s) k r s.world m)
+  pub moved_meets : {k : Place} {r : Registers} {m : Memory} (at : Value) (off : ℕ) (s : State) (K : Value → State → Observation) → ((u : Value) → pointer_plus s.world.outer.memory at (pos off) ≡ Some u → EndsSo c (K u s) k r s.world m)
       → EndsSo c (finish (move at (pos off) s) K) k r s.world m
   unfolding opens
   moved_meets at off s K h =

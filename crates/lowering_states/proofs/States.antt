@@ -21,7 +21,7 @@ use Rattle.c_semantics.specs.Runs as c
 use Rattle.c_semantics.specs.Objects.{Scope}
 use Rattle.vm_meaning.specs.Behave.{Registers, set_register}
 use Rattle.lowering_code.specs.Registers.{type_place, temporary, object_of}
-use Rattle.lowering_states.specs.States.{IsHeld, IsIn, is_live, type_at, Fits, Kept, After}
+use Rattle.lowering_states.specs.States.{IsHeld, IsIn, is_live, type_at, Fits, KeepsLower, After}
 
 -- ---- registers
 
@@ -54,25 +54,25 @@ other_depth L d e ty u lt same = let a = place_small ty in absurd (omega (arith,
 pub other_type : (L d : ℕ) (ty u : VmType) → type_place ty ≢ type_place u → temporary L d ty ≢ temporary L d u
 other_type L d ty u ne same = ne (omega (arith, same))
 
-pub kept_all : {L d : ℕ} {r : Registers} → Kept L d r r
+pub kept_all : {L d : ℕ} {r : Registers} → KeepsLower L d r r
 kept_all = record { same = λ k l h. refl }
 
-pub kept_on : {L d e : ℕ} {r s t : Registers} → d ≤ e → Kept L d r s → Kept L e s t → Kept L d r t
+pub kept_on : {L d e : ℕ} {r s t : Registers} → d ≤ e → KeepsLower L d r s → KeepsLower L e s t → KeepsLower L d r t
 kept_on le a b = record { same = λ k l h. b.same k l (omega (arith, le, h)) ∙ a.same k l h }
 
 -- a register of a depth from this one on is written, and one of a local
-pub kept_temporary : {L d : ℕ} (e : ℕ) (ty : VmType) (v : Value) {r s : Registers} → d ≤ e → Kept L d r s → Kept L d r (set_register (temporary L e ty) v s)
+pub kept_temporary : {L d : ℕ} (e : ℕ) (ty : VmType) (v : Value) {r s : Registers} → d ≤ e → KeepsLower L d r s → KeepsLower L d r (set_register (temporary L e ty) v s)
 kept_temporary {L = L} {d = d} e ty v {s = s} le a = record {
   same = λ j l h. let ne : j ≢ temporary L e ty = λ same. absurd (omega (arith, le, h, same)) in set_other s (temporary L e ty) j v ne ∙ a.same j l h;
 }
 
-pub kept_local : {L d : ℕ} (k : ℕ) (v : Value) {r s : Registers} → k < L → Kept L d r s → Kept L d r (set_register k v s)
+pub kept_local : {L d : ℕ} (k : ℕ) (v : Value) {r s : Registers} → k < L → KeepsLower L d r s → KeepsLower L d r (set_register k v s)
 kept_local {L = L} k v {s = s} lt a = record {
   same = λ j l h. let ne : j ≢ k = λ same. absurd (omega (arith, lt, l, same)) in set_other s k j v ne ∙ a.same j l h;
 }
 
 -- a register of a lower depth is as before
-pub kept_reads : {L e : ℕ} (d : ℕ) (ty : VmType) {r s : Registers} → d < e → Kept L e r s → s (temporary L d ty) ≡ r (temporary L d ty)
+pub kept_reads : {L e : ℕ} (d : ℕ) (ty : VmType) {r s : Registers} → d < e → KeepsLower L e r s → s (temporary L d ty) ≡ r (temporary L d ty)
 kept_reads {L = L} d ty lt a = let p = place_small ty in a.same (temporary L d ty) (omega arith) (omega (arith, p, lt))
 
 -- ---- values

@@ -27,10 +27,10 @@ use Rattle.c_semantics.specs.Operators.{outcome}
 use Rattle.c_semantics.specs.Reasons.{Reason}
 use Rattle.lowering_states.specs.Runs.{opens}
 use Rattle.lowering_states.specs.Places.{Place, next_place, start_of_block, next_block, in_block, stands_at}
-use Rattle.lowering_states.specs.Runs.{view, Seen, SeenTrap, SeenMore, NotDefined, shown, seen, finish, run, Meets, resumes, Resumes, frame_of, config}
+use Rattle.lowering_states.specs.Runs.{view, Observation, ObservesTrap, ObservesMore, NotDefined, observation_of, observation, finish, run, Meets, resumes, Resumes, frame_of, config}
 
 -- the law of `and_then`
-pub finish-bind : {A B : Type 0} (r : Evaluation A State) (k : A → Run B) (K : B → State → Seen) → finish (and_then r k) K ≡ finish r (λ a s. finish (k a s) K)
+pub finish-bind : {A B : Type 0} (r : Evaluation A State) (k : A → Run B) (K : B → State → Observation) → finish (and_then r k) K ≡ finish r (λ a s. finish (k a s) K)
 finish-bind (Gives a s) k K = refl
 finish-bind (Ends e) k K = refl
 
@@ -39,35 +39,35 @@ in_block-site None block at o e = absurd (cc)
 in_block-site (Some is) block at o e = let same : slice_get is at ≡ o = cc in ap (λ z. Some (site_or_next block z)) same
 
 module _ (rooms : Rooms) (functions : List FunctionCode) where
-  pub meets_anything : {o : Seen} {k : Config Registers} → o ≡ NotDefined → Meets rooms functions o k
+  pub meets_anything : {o : Observation} {k : Config Registers} → o ≡ NotDefined → Meets rooms functions o k
   meets_anything e = record { by = λ ne. absurd (ne e) }
 
-  pub meets_same : {o p : Seen} {k : Config Registers} → o ≡ p → Meets rooms functions p k → Meets rooms functions o k
+  pub meets_same : {o p : Observation} {k : Config Registers} → o ≡ p → Meets rooms functions p k → Meets rooms functions o k
   meets_same {k = k} e m = subst (λ x. Meets rooms functions x k) (sym e) m
 
   -- an instruction that leads on
-  pub step_on : {o : Seen} (k d : Config Registers) (s : Site Value Registers) → (vm_code functions).site k.here.point ≡ Some s
+  pub step_on : {o : Observation} (k d : Config Registers) (s : Site Value Registers) → (vm_code functions).site k.here.point ≡ Some s
       → step_at Value Registers rooms (vm_code functions) k (Some s) ≡ Goes d → Meets rooms functions o d → Meets rooms functions o k
   step_on k d s at e m = record {
     by = λ ne. let a = m.by ne in
-        (suc a.0, ap (λ x. seen (go_on (step_at Value Registers rooms (vm_code functions) k x) (run rooms functions a.0))) at ∙ ap (λ x. seen (go_on x (run rooms functions a.0))) e ∙ a.1);
+        (suc a.0, ap (λ x. observation (go_on (step_at Value Registers rooms (vm_code functions) k x) (run rooms functions a.0))) at ∙ ap (λ x. observation (go_on x (run rooms functions a.0))) e ∙ a.1);
   }
 
   -- one that ends the run
-  pub step_over : {o : Seen} (k : Config Registers) (z : Ending) (s : Site Value Registers) → (vm_code functions).site k.here.point ≡ Some s
-      → step_at Value Registers rooms (vm_code functions) k (Some s) ≡ Over z → shown z ≡ o → Meets rooms functions o k
+  pub step_over : {o : Observation} (k : Config Registers) (z : Ending) (s : Site Value Registers) → (vm_code functions).site k.here.point ≡ Some s
+      → step_at Value Registers rooms (vm_code functions) k (Some s) ≡ Over z → observation_of z ≡ o → Meets rooms functions o k
   step_over k z s at e same = record {
     by = λ ne.
-        (1, ap (λ x. seen (go_on (step_at Value Registers rooms (vm_code functions) k x) (run rooms functions 0))) at ∙ ap (λ x. seen (go_on x (run rooms functions 0))) e ∙ same);
+        (1, ap (λ x. observation (go_on (step_at Value Registers rooms (vm_code functions) k x) (run rooms functions 0))) at ∙ ap (λ x. observation (go_on x (run rooms functions 0))) e ∙ same);
   }
 
   -- one that ends a call
-  pub step_back : {o : Seen} (k : Config Registers) (vs : List Value) (w : World) (s : Site Value Registers) → (vm_code functions).site k.here.point ≡ Some s
+  pub step_back : {o : Observation} (k : Config Registers) (vs : List Value) (w : World) (s : Site Value Registers) → (vm_code functions).site k.here.point ≡ Some s
       → step_at Value Registers rooms (vm_code functions) k (Some s) ≡ resumes rooms functions ((vm_code functions).number k.here.point) vs w k.callers
       → Resumes rooms functions o vs w k.callers → Meets rooms functions o k
   step_back k vs w s at e m = record {
     by = λ ne. let a = m.by ne ((vm_code functions).number k.here.point) in
-        (suc a.0, ap (λ x. seen (go_on (step_at Value Registers rooms (vm_code functions) k x) (run rooms functions a.0))) at ∙ ap (λ x. seen (go_on x (run rooms functions a.0))) e ∙ a.1);
+        (suc a.0, ap (λ x. observation (go_on (step_at Value Registers rooms (vm_code functions) k x) (run rooms functions a.0))) at ∙ ap (λ x. observation (go_on x (run rooms functions a.0))) e ∙ a.1);
   }
 
   -- ---- within a function that has blocks
@@ -76,14 +76,14 @@ module _ (rooms : Rooms) (functions : List FunctionCode) where
     abbrev at : Place → Registers → World → Memory → Config Registers
     at p r w m = config i own waiting p r w m
 
-    abbrev Ends_so : Seen → Config Registers → Type 0
+    abbrev Ends_so : Observation → Config Registers → Type 0
     Ends_so o k = Meets rooms functions o k
 
     pub site_at : (p : Place) (o : Option VmInsn) → stands_at code.blocks p ≡ Some o → site_in_function p.block p.at (slice_get functions i) ≡ Some (site_or_next p.block o)
     site_at p o e = ap (site_in_function p.block p.at) found ∙ in_block-site (slice_get code.blocks p.block) p.block p.at o e
 
     -- the end of a block
-    pub fall : {o : Seen} (p : Place) (r : Registers) (w : World) (m : Memory) → stands_at code.blocks p ≡ Some None → Ends_so o (at (next_block p) r w m) → Ends_so o (at p r w m)
+    pub fall : {o : Observation} (p : Place) (r : Registers) (w : World) (m : Memory) → stands_at code.blocks p ≡ Some None → Ends_so o (at (next_block p) r w m) → Ends_so o (at p r w m)
     fall p r w m e next = step_on (at p r w m) (at (next_block p) r w m) (next_site p.block) (site_at p None e) refl next
 
     -- what an instruction does where it stands, without a turn and with one
@@ -99,7 +99,7 @@ module _ (rooms : Rooms) (functions : List FunctionCode) where
         ∙ ap (λ x. step_with Value Registers rooms (vm_code functions) (at p r w m) (insn_site insn) x) e
 
     -- an instruction without a turn that writes values
-    pub plain : {o : Seen} (insn : VmInsn) (p : Place) (r : Registers) (w : World) (m : Memory) (vs : List Value) (m1 : Memory) → stands_at code.blocks p ≡ Some (Some insn) → takes_turn insn ≡ false
+    pub plain : {o : Observation} (insn : VmInsn) (p : Place) (r : Registers) (w : World) (m : Memory) (vs : List Value) (m1 : Memory) → stands_at code.blocks p ≡ Some (Some insn) → takes_turn insn ≡ false
         → does insn own (map r (reads_of insn)) (outer_with_memory w.outer m) ≡ Writes vs (outer_with_memory w.outer m1)
         → Ends_so o (at (next_place p) (set_registers (writes_of insn) vs r) w m1) → Ends_so o (at p r w m)
     plain insn p r w m vs m1 e calm d next =
@@ -107,18 +107,18 @@ module _ (rooms : Rooms) (functions : List FunctionCode) where
         (acts insn p r w m calm ∙ ap (λ a. act_on Value Registers rooms (vm_code functions) (at p r w m) w.meter (insn_site insn) a) d) next
 
     -- one that traps
-    pub traps : {o : Seen} (insn : VmInsn) (p : Place) (r : Registers) (w : World) (m : Memory) (c : ℕ) → stands_at code.blocks p ≡ Some (Some insn) → takes_turn insn ≡ false
+    pub traps : {o : Observation} (insn : VmInsn) (p : Place) (r : Registers) (w : World) (m : Memory) (c : ℕ) → stands_at code.blocks p ≡ Some (Some insn) → takes_turn insn ≡ false
         → does insn own (map r (reads_of insn)) (outer_with_memory w.outer m) ≡ Stops (Traps c) (outer_with_memory w.outer m)
-        → SeenTrap (view w) c ≡ o → Ends_so o (at p r w m)
+        → ObservesTrap (view w) c ≡ o → Ends_so o (at p r w m)
     traps insn p r w m c e calm d same =
         step_over (at p r w m) (Trap (with_memory w m) c) (insn_site insn) (site_at p (Some insn) e)
         (acts insn p r w m calm ∙ ap (λ a. act_on Value Registers rooms (vm_code functions) (at p r w m) w.meter (insn_site insn) a) d) same
 
     -- a jump, and a branch by a test
-    pub jump : {o : Seen} (block : ℕ) (p : Place) (r : Registers) (w : World) (m : Memory) → stands_at code.blocks p ≡ Some (Some (n.Jump block)) → Ends_so o (at (start_of_block block) r w m) → Ends_so o (at p r w m)
+    pub jump : {o : Observation} (block : ℕ) (p : Place) (r : Registers) (w : World) (m : Memory) → stands_at code.blocks p ≡ Some (Some (n.Jump block)) → Ends_so o (at (start_of_block block) r w m) → Ends_so o (at p r w m)
     jump block p r w m e next = step_on (at p r w m) (at (start_of_block block) r w m) (insn_site (n.Jump block)) (site_at p (Some (n.Jump block)) e) refl next
 
-    pub branch_taken : {o : Seen} (op : BranchOp) (ty : VmType) (source block : ℕ) (t : Bool) (p : Place) (r : Registers) (w : World) (m : Memory) → stands_at code.blocks p ≡ Some (Some (n.Branch op ty source block))
+    pub branch_taken : {o : Observation} (op : BranchOp) (ty : VmType) (source block : ℕ) (t : Bool) (p : Place) (r : Registers) (w : World) (m : Memory) → stands_at code.blocks p ≡ Some (Some (n.Branch op ty source block))
         → value_holds m ty (r source) ≡ Some t → is_taken op t ≡ true → Ends_so o (at (start_of_block block) r w m) → Ends_so o (at p r w m)
     branch_taken op ty source block t p r w m e holds taken next =
         let insn = n.Branch op ty source block in
@@ -127,7 +127,7 @@ module _ (rooms : Rooms) (functions : List FunctionCode) where
         (ap (λ x. act_on Value Registers rooms (vm_code functions) (at p r w m) w.meter (insn_site insn) (branches op x o1)) holds
         ∙ ap (λ b. act_on Value Registers rooms (vm_code functions) (at p r w m) w.meter (insn_site insn) (if b then Jumps 0 o1 else Writes [] o1)) taken) next
 
-    pub branch_passed : {o : Seen} (op : BranchOp) (ty : VmType) (source block : ℕ) (t : Bool) (p : Place) (r : Registers) (w : World) (m : Memory) → stands_at code.blocks p ≡ Some (Some (n.Branch op ty source block))
+    pub branch_passed : {o : Observation} (op : BranchOp) (ty : VmType) (source block : ℕ) (t : Bool) (p : Place) (r : Registers) (w : World) (m : Memory) → stands_at code.blocks p ≡ Some (Some (n.Branch op ty source block))
         → value_holds m ty (r source) ≡ Some t → is_taken op t ≡ false → stands_at code.blocks (next_place p) ≡ Some None → Ends_so o (at (next_block p) r w m) → Ends_so o (at p r w m)
     branch_passed op ty source block t p r w m e holds taken end next =
         let insn = n.Branch op ty source block in
@@ -137,12 +137,12 @@ module _ (rooms : Rooms) (functions : List FunctionCode) where
         ∙ ap (λ b. act_on Value Registers rooms (vm_code functions) (at p r w m) w.meter (insn_site insn) (if b then Jumps 0 o1 else Writes [] o1)) taken) (fall (next_place p) r w m end next)
 
     -- an instruction that takes a turn: there is none, or it writes values, or it ends the run
-    pub no_turn : {o : Seen} (insn : VmInsn) (p : Place) (r : Registers) (w : World) (m : Memory) → stands_at code.blocks p ≡ Some (Some insn) → takes_turn insn ≡ true → take_turn w.meter ≡ None
-        → SeenMore (view w) ≡ o → Ends_so o (at p r w m)
+    pub no_turn : {o : Observation} (insn : VmInsn) (p : Place) (r : Registers) (w : World) (m : Memory) → stands_at code.blocks p ≡ Some (Some insn) → takes_turn insn ≡ true → take_turn w.meter ≡ None
+        → ObservesMore (view w) ≡ o → Ends_so o (at p r w m)
     no_turn insn p r w m e takes none same =
         step_over (at p r w m) (More (with_memory w m)) (insn_site insn) (site_at p (Some insn) e) (acts_turn insn p r w m None takes none) same
 
-    pub turning : {o : Seen} (insn : VmInsn) (p : Place) (r : Registers) (w w1 : World) (m m1 : Memory) (t : Meter) (vs : List Value) → stands_at code.blocks p ≡ Some (Some insn) → takes_turn insn ≡ true → take_turn w.meter ≡ Some t
+    pub turning : {o : Observation} (insn : VmInsn) (p : Place) (r : Registers) (w w1 : World) (m m1 : Memory) (t : Meter) (vs : List Value) → stands_at code.blocks p ≡ Some (Some insn) → takes_turn insn ≡ true → take_turn w.meter ≡ Some t
         → does insn own (map r (reads_of insn)) (outer_with_memory w.outer m) ≡ Writes vs (outer_with_memory w1.outer m1) → w1.meter ≡ t
         → Ends_so o (at (next_place p) (set_registers (writes_of insn) vs r) w1 m1) → Ends_so o (at p r w m)
     turning insn p r w w1 m m1 t vs e takes some d meter next =
@@ -150,15 +150,15 @@ module _ (rooms : Rooms) (functions : List FunctionCode) where
         (acts_turn insn p r w m (Some t) takes some ∙ ap (λ a. act_on Value Registers rooms (vm_code functions) (at p r w m) t (insn_site insn) a) d
         ∙ ap (λ x. Goes (record { here = frame_of i own (next_place p) (set_registers (writes_of insn) vs r); callers = waiting; world = world_of (outer_with_memory w1.outer m1) x })) (sym meter)) next
 
-    pub turning_over : {o : Seen} (insn : VmInsn) (p : Place) (r : Registers) (w : World) (m : Memory) (t : Meter) (z : Stop) → stands_at code.blocks p ≡ Some (Some insn) → takes_turn insn ≡ true → take_turn w.meter ≡ Some t
+    pub turning_over : {o : Observation} (insn : VmInsn) (p : Place) (r : Registers) (w : World) (m : Memory) (t : Meter) (z : Stop) → stands_at code.blocks p ≡ Some (Some insn) → takes_turn insn ≡ true → take_turn w.meter ≡ Some t
         → does insn own (map r (reads_of insn)) (outer_with_memory w.outer m) ≡ Stops z (outer_with_memory w.outer m)
-        → shown (stop_ending z ((vm_code functions).number (at p r w m).here.point) (with_memory (with_meter w t) m)) ≡ o → Ends_so o (at p r w m)
+        → observation_of (stop_ending z ((vm_code functions).number (at p r w m).here.point) (with_memory (with_meter w t) m)) ≡ o → Ends_so o (at p r w m)
     turning_over insn p r w m t z e takes some d same =
         step_over (at p r w m) (stop_ending z ((vm_code functions).number (at p r w m).here.point) (with_memory (with_meter w t) m)) (insn_site insn) (site_at p (Some insn) e)
         (acts_turn insn p r w m (Some t) takes some ∙ ap (λ a. act_on Value Registers rooms (vm_code functions) (at p r w m) t (insn_site insn) a) d) same
 
     -- a call is entered
-    pub calling : {o : Seen} (insn : VmInsn) (p : Place) (r : Registers) (w : World) (m : Memory) (t : Meter) (k : ℕ) (callee : FunctionCode) (vs : List Value) → stands_at code.blocks p ≡ Some (Some insn) → takes_turn insn ≡ true
+    pub calling : {o : Observation} (insn : VmInsn) (p : Place) (r : Registers) (w : World) (m : Memory) (t : Meter) (k : ℕ) (callee : FunctionCode) (vs : List Value) → stands_at code.blocks p ≡ Some (Some insn) → takes_turn insn ≡ true
         → take_turn w.meter ≡ Some t → slice_get functions k ≡ Some callee
         → does insn own (map r (reads_of insn)) (outer_with_memory w.outer m) ≡ Calls k vs (outer_with_memory w.outer m)
         → Ends_so o (config k (length m) (frame_of i own p r ∷ waiting) (start_of_block 0) (registers_of vs) (with_meter w (enter_call rooms k t)) (begin_objects m callee.sizes)) → Ends_so o (at p r w m)
@@ -168,18 +168,18 @@ module _ (rooms : Rooms) (functions : List FunctionCode) where
         ∙ ap (λ x. Goes (config k (length m) (frame_of i own p r ∷ waiting) (start_of_block 0) (registers_of vs) (with_meter w (enter_call rooms k t)) (begin_objects m (sizes_in x)))) there) next
 
     -- a call goes on where it stands, with what was returned
-    pub resumed : {o : Seen} (insn : VmInsn) (p : Place) (r : Registers) (w : World) (m : Memory) (vs : List Value) → stands_at code.blocks p ≡ Some (Some insn)
+    pub resume_meets : {o : Observation} (insn : VmInsn) (p : Place) (r : Registers) (w : World) (m : Memory) (vs : List Value) → stands_at code.blocks p ≡ Some (Some insn)
         → Ends_so o (at (next_place p) (set_registers (writes_of insn) vs r) w m) → Resumes rooms functions o vs (with_memory w m) (frame_of i own p r ∷ waiting)
-    resumed insn p r w m vs e next = record {
+    resume_meets insn p r w m vs e next = record {
       by = λ ne number. let a = next.by ne in
-          (a.0, ap (λ x. seen (go_on (machine.resume Value Registers rooms (vm_code functions) (frame_of i own p r) waiting (with_memory w m) vs x) (run rooms functions a.0))) (site_at p (Some insn) e) ∙ a.1);
+          (a.0, ap (λ x. observation (go_on (machine.resume Value Registers rooms (vm_code functions) (frame_of i own p r) waiting (with_memory w m) vs x) (run rooms functions a.0))) (site_at p (Some insn) e) ∙ a.1);
     }
 
     -- the world that a call leaves
     abbrev pub left : World → Memory → World
     left w m = with_memory (with_meter w (leave_call rooms i w.meter)) (end_objects m own (length code.sizes))
 
-    pub returning : {o : Seen} (insn : VmInsn) (p : Place) (r : Registers) (w : World) (m : Memory) (vs : List Value) → stands_at code.blocks p ≡ Some (Some insn) → takes_turn insn ≡ false
+    pub returning : {o : Observation} (insn : VmInsn) (p : Place) (r : Registers) (w : World) (m : Memory) (vs : List Value) → stands_at code.blocks p ≡ Some (Some insn) → takes_turn insn ≡ false
         → does insn own (map r (reads_of insn)) (outer_with_memory w.outer m) ≡ Returns vs (outer_with_memory w.outer m)
         → Resumes rooms functions o vs (left w m) waiting → Ends_so o (at p r w m)
     returning insn p r w m vs e calm d next =
@@ -189,37 +189,37 @@ module _ (rooms : Rooms) (functions : List FunctionCode) where
 
   -- ---- a part of a run of the C meaning, by what it gives
 
-  pub used_meets : (reason : Reason) (v : Value) (s : State) (K : Value → State → Seen) (k : Config Registers) → (is_set v ≡ true → Meets rooms functions (K v s) k) → Meets rooms functions (finish (use_value reason v s) K) k
+  pub used_meets : (reason : Reason) (v : Value) (s : State) (K : Value → State → Observation) (k : Config Registers) → (is_set v ≡ true → Meets rooms functions (K v s) k) → Meets rooms functions (finish (use_value reason v s) K) k
   unfolding opens
   used_meets reason (Word x) s K k h = h refl
   used_meets reason (Address p) s K k h = h refl
   used_meets reason Unset s K k h = meets_anything refl
 
-  pub known_meets : {A : Type 0} (reason : Reason) (x : Option A) (s : State) (K : A → State → Seen) (k : Config Registers) → ((a : A) → x ≡ Some a → Meets rooms functions (K a s) k) → Meets rooms functions (finish (or_undefined reason x s) K) k
+  pub known_meets : {A : Type 0} (reason : Reason) (x : Option A) (s : State) (K : A → State → Observation) (k : Config Registers) → ((a : A) → x ≡ Some a → Meets rooms functions (K a s) k) → Meets rooms functions (finish (or_undefined reason x s) K) k
   unfolding opens
   known_meets reason None s K k h = meets_anything refl
   known_meets reason (Some a) s K k h = h a refl
 
-  pub number_meets : (v : Value) (s : State) (K : ℕ → State → Seen) (k : Config Registers) → ((x : ℕ) → v ≡ Word x → Meets rooms functions (K x s) k) → Meets rooms functions (finish (number v s) K) k
+  pub number_meets : (v : Value) (s : State) (K : ℕ → State → Observation) (k : Config Registers) → ((x : ℕ) → v ≡ Word x → Meets rooms functions (K x s) k) → Meets rooms functions (finish (number v s) K) k
   unfolding opens
   number_meets (Word x) s K k h = h x refl
   number_meets (Address p) s K k h = meets_anything refl
   number_meets Unset s K k h = meets_anything refl
 
-  pub access_meets : {A : Type 0} (x : Result A MemFault) (s : State) (K : A → State → Seen) (k : Config Registers) → ((a : A) → x ≡ Ok a → Meets rooms functions (K a s) k) → Meets rooms functions (finish (access x s) K) k
+  pub access_meets : {A : Type 0} (x : Result A MemFault) (s : State) (K : A → State → Observation) (k : Config Registers) → ((a : A) → x ≡ Ok a → Meets rooms functions (K a s) k) → Meets rooms functions (finish (access x s) K) k
   unfolding opens
   access_meets (Ok a) s K k h = h a refl
   access_meets (Err e) s K k h = meets_anything refl
 
-  pub outcome_meets : (x : ArithmeticOutcome) (s : State) (K : Value → State → Seen) (k : Config Registers) → ((n : ℕ) → x ≡ o.Word n → Meets rooms functions (K (Word n) s) k) → ((c : ℕ) → x ≡ o.Trap c → Meets rooms functions (SeenTrap (view s.world) c) k)
+  pub outcome_meets : (x : ArithmeticOutcome) (s : State) (K : Value → State → Observation) (k : Config Registers) → ((n : ℕ) → x ≡ o.Word n → Meets rooms functions (K (Word n) s) k) → ((c : ℕ) → x ≡ o.Trap c → Meets rooms functions (ObservesTrap (view s.world) c) k)
       → Meets rooms functions (finish (outcome x s) K) k
   unfolding opens
   outcome_meets (o.Word n) s K k h t = h n refl
   outcome_meets (o.Trap c) s K k h t = t c refl
   outcome_meets o.Undefined s K k h t = meets_anything refl
 
-  pub turn_meets : (s : State) (K : Unit {0} → State → Seen) (k : Config Registers) → ((m : Meter) → take_turn s.world.meter ≡ Some m → Meets rooms functions (K tt (in_world s (with_meter s.world m))) k)
-      → (take_turn s.world.meter ≡ None → Meets rooms functions (SeenMore (view s.world)) k) → Meets rooms functions (finish (turn s) K) k
+  pub turn_meets : (s : State) (K : Unit {0} → State → Observation) (k : Config Registers) → ((m : Meter) → take_turn s.world.meter ≡ Some m → Meets rooms functions (K tt (in_world s (with_meter s.world m))) k)
+      → (take_turn s.world.meter ≡ None → Meets rooms functions (ObservesMore (view s.world)) k) → Meets rooms functions (finish (turn s) K) k
   unfolding opens
   turn_meets s K k h none = (elim (take_turn s.world.meter) as (λ x. take_turn s.world.meter ≡ x → Meets rooms functions (finish (spend_turn x s) K) k) [
     | None ↦ λ e. none e

@@ -34,27 +34,27 @@ view w = record {
 }
 
 -- a run ended with a status, by a trap or for want of a turn; it is not defined, or not over
-pub data Seen : Type 0 where
-  SeenDone : View → (status : ℕ) → Seen
-  SeenTrap : View → (code : ℕ) → Seen
-  SeenMore : View → Seen
-  NotDefined : Seen
-  NotOver : Seen
+pub data Observation : Type 0 where
+  ObservesDone : View → (status : ℕ) → Observation
+  ObservesTrap : View → (code : ℕ) → Observation
+  ObservesMore : View → Observation
+  NotDefined : Observation
+  NotOver : Observation
 
-abbrev pub shown : Ending → Seen
-shown (Done w status) = SeenDone (view w) status
-shown (Trap w code) = SeenTrap (view w) code
-shown (Undefined w at) = NotDefined
-shown (More w) = SeenMore (view w)
+abbrev pub observation_of : Ending → Observation
+observation_of (Done w status) = ObservesDone (view w) status
+observation_of (Trap w code) = ObservesTrap (view w) code
+observation_of (Undefined w at) = NotDefined
+observation_of (More w) = ObservesMore (view w)
 
-abbrev pub seen : Next Registers → Seen
-seen (Goes k) = NotOver
-seen (Over e) = shown e
+abbrev pub observation : Next Registers → Observation
+observation (Goes k) = NotOver
+observation (Over e) = observation_of e
 
 -- what a part of a program gives, handed to what follows it
-abbrev pub finish : {A : Type 0} → Evaluation A State → (A → State → Seen) → Seen
+abbrev pub finish : {A : Type 0} → Evaluation A State → (A → State → Observation) → Observation
 finish (Gives a s) K = K a s
-finish (Ends e) K = shown e
+finish (Ends e) K = observation_of e
 
 module _ (rooms : Rooms) (functions : List FunctionCode) where
   -- so many instructions from a configuration
@@ -62,15 +62,15 @@ module _ (rooms : Rooms) (functions : List FunctionCode) where
   run steps k = exec Value Registers rooms (vm_code functions) steps k
 
   -- the run from a configuration is seen to end so, where that is defined
-  pub record Meets (o : Seen) (k : Config Registers) : Type 0 where
-    pub by : o ≢ NotDefined → (steps : ℕ) × (seen (run steps k) ≡ o)
+  pub record Meets (o : Observation) (k : Config Registers) : Type 0 where
+    pub by : o ≢ NotDefined → (steps : ℕ) × (observation (run steps k) ≡ o)
 
   -- the same where a call returns values to those that wait, with this instruction's number
   abbrev pub resumes : (at : ℕ) → List Value → World → List (Frame Registers) → Next Registers
   resumes at vs w frames = machine.return_to Value Registers rooms (vm_code functions) at vs w frames
 
-  pub record Resumes (o : Seen) (vs : List Value) (w : World) (frames : List (Frame Registers)) : Type 0 where
-    pub by : o ≢ NotDefined → (at : ℕ) → (steps : ℕ) × (seen (go_on (resumes at vs w frames) (run steps)) ≡ o)
+  pub record Resumes (o : Observation) (vs : List Value) (w : World) (frames : List (Frame Registers)) : Type 0 where
+    pub by : o ≢ NotDefined → (at : ℕ) → (steps : ℕ) × (observation (go_on (resumes at vs w frames) (run steps)) ≡ o)
 
 -- a call of a function at a place, with the memory of the code in the place of that of the C meaning
 abbrev pub frame_of : (function own : ℕ) → Place → Registers → Frame Registers

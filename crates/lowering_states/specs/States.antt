@@ -75,7 +75,7 @@ pub record Fits (globals : ℕ) (ds : List StructDef) (ls : List Local) (own : �
   pub bytes : All (λ b. b < 256) input
 
 -- the registers from the first one of expressions to those of a depth are as before
-pub record Kept (locals depth : ℕ) (r q : Registers) : Type 0 where
+pub record KeepsLower (locals depth : ℕ) (r q : Registers) : Type 0 where
   pub same : (k : ℕ) → locals ≤ k → k < locals + 5 * depth → q k ≡ r k
 
 -- how a part of a run leaves names, memories and turns: it ends the objects that it began

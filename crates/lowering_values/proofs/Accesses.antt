@@ -23,7 +23,7 @@ use Rattle.vm_meaning.specs.declared.answer.Answer.TheVariants.{Gives}
 use Rattle.vm_meaning.specs.Operations as vm
 use Rattle.lowering_code.specs.Registers.{register_type}
 use Rattle.lowering_code.specs.Expressions.{plain_of}
-use Rattle.lowering_values.specs.Laws.{IsMoved, loaded, MemoriesCorrespond}
+use Rattle.lowering_values.specs.Laws.{IsMoved, load_result, MemoriesCorrespond}
 use Rattle.lowering_values.proofs.Integers.{promoted_word}
 use Rattle.lowering_values.proofs.Operators.{word_true}
 
@@ -112,7 +112,7 @@ module _ (f : Names) (m n : Memory) (h : IsMemoryOf f m n) where
 
   load_there : (ty : MemoryType) (base w : Value) (plus : ℕ) (p : Ptr) (v : Value) → IsValueOf f base w → IsMoved m base plus (Address p) → 0 < vm.access_bytes (vm.memory_integer ty)
       → load_at m p (vm.access_bytes (vm.memory_integer ty)) (vm.is_pointer_access (vm.memory_integer ty)) ≡ Ok v
-      → (x : Value) × (vm.loaded_answer n ty w (pos plus) ≡ Gives (loaded ty x)) × IsValueOf f v x
+      → (x : Value) × (vm.loaded_answer n ty w (pos plus) ≡ Gives (load_result ty x)) × IsValueOf f v x
   load_there ty base w plus p v rel moved some e =
       let i = vm.memory_integer ty in
       let told = load_tells m p (vm.access_bytes i) (vm.is_pointer_access i) v e in

@@ -235,17 +235,17 @@ shorter UnsignedInt u le = inl le
 shorter Long u le = inr tt
 shorter UnsignedLong u le = inr tt
 
-narrowed : (s t : IntegerType) (n : ℕ) → is_word s n ≡ true → bytes t ≤ 4 → Gives (Word (conversion t (promote t) n)) ≡ Gives (Word (conversion s t n))
-narrowed s t n w le = ap (λ k. Gives (Word k)) (promotion_is t n ∙ sym (conversion_is s t n w (shorter s t le)))
+narrow_is : (s t : IntegerType) (n : ℕ) → is_word s n ≡ true → bytes t ≤ 4 → Gives (Word (conversion t (promote t) n)) ≡ Gives (Word (conversion s t n))
+narrow_is s t n w le = ap (λ k. Gives (Word k)) (promotion_is t n ∙ sym (conversion_is s t n w (shorter s t le)))
 
 -- and else the instruction gives it
 pub made_conversion : (s t : IntegerType) (n : ℕ) → is_word s n ≡ true
     → vm.convert_answer (narrow_type (plain_of s) (plain_of t)) (register_type (plain_of t)) (Word n) ≡ Gives (Word (conversion s t n))
-made_conversion s Char n w = narrowed s Char n w (omega arith)
-made_conversion s UnsignedChar n w = narrowed s UnsignedChar n w (omega arith)
-made_conversion s Short n w = narrowed s Short n w (omega arith)
-made_conversion s UnsignedShort n w = narrowed s UnsignedShort n w (omega arith)
-made_conversion s Int n w = narrowed s Int n w (omega arith)
-made_conversion s UnsignedInt n w = narrowed s UnsignedInt n w (omega arith)
+made_conversion s Char n w = narrow_is s Char n w (omega arith)
+made_conversion s UnsignedChar n w = narrow_is s UnsignedChar n w (omega arith)
+made_conversion s Short n w = narrow_is s Short n w (omega arith)
+made_conversion s UnsignedShort n w = narrow_is s UnsignedShort n w (omega arith)
+made_conversion s Int n w = narrow_is s Int n w (omega arith)
+made_conversion s UnsignedInt n w = narrow_is s UnsignedInt n w (omega arith)
 made_conversion s Long n w = ap (λ x. vm.conversion_answer x (Some Long) (Word n)) (memory-plain s)
 made_conversion s UnsignedLong n w = ap (λ x. vm.conversion_answer x (Some UnsignedLong) (Word n)) (memory-plain s)

@@ -147,23 +147,23 @@ counts t c y w f none ne = by_count (shift_count t c y) refl ne
 -- ---- instructions
 
 module _ (t c : IntegerType) (own : ℕ) (r : Registers) (u : Outer) (left right x y : ℕ) (p : promote t ≡ t) (el : r left ≡ Word x) (er : r right ≡ Word y) (wx : is_word t x ≡ true) (wy : is_word c y ≡ true) where
-  calculated : (op : vb.BinaryOp) → c ≡ t → writes (vm.binary_answer u.memory op (register_type (plain_of t)) (r left) (r right)) u ≡ writes (vm.binary_number op t x y) u
-  calculated op e =
+  calculates : (op : vb.BinaryOp) → c ≡ t → writes (vm.binary_answer u.memory op (register_type (plain_of t)) (r left) (r right)) u ≡ writes (vm.binary_number op t x y) u
+  calculates op e =
       ap (λ a. writes a u) (ap (λ a. vm.binary_answer u.memory op (register_type (plain_of t)) a (r right)) el ∙ ap (λ a. vm.binary_answer u.memory op (register_type (plain_of t)) (Word x) a) er
       ∙ binary_is t u.memory op x y p wx (subst (λ z. is_word z y ≡ true) e wy))
 
-  compared : (op : CompareOp) → c ≡ t → writes (vm.compare_answer u.memory op (register_type (plain_of t)) (r left) (r right)) u ≡ writes (vm.comparison_answer op t x y) u
-  compared op e =
+  compares : (op : CompareOp) → c ≡ t → writes (vm.compare_answer u.memory op (register_type (plain_of t)) (r left) (r right)) u ≡ writes (vm.comparison_answer op t x y) u
+  compares op e =
       ap (λ a. writes a u) (ap (λ a. vm.compare_answer u.memory op (register_type (plain_of t)) a (r right)) el ∙ ap (λ a. vm.compare_answer u.memory op (register_type (plain_of t)) (Word x) a) er
       ∙ compare_is t u.memory op x y p wx (subst (λ z. is_word z y ≡ true) e wy))
 
-  compared_back : (op : CompareOp) → c ≡ t → writes (vm.compare_answer u.memory op (register_type (plain_of t)) (r right) (r left)) u ≡ writes (vm.comparison_answer op t y x) u
-  compared_back op e =
+  compares_back : (op : CompareOp) → c ≡ t → writes (vm.compare_answer u.memory op (register_type (plain_of t)) (r right) (r left)) u ≡ writes (vm.comparison_answer op t y x) u
+  compares_back op e =
       ap (λ a. writes a u) (ap (λ a. vm.compare_answer u.memory op (register_type (plain_of t)) a (r left)) er ∙ ap (λ a. vm.compare_answer u.memory op (register_type (plain_of t)) (Word y) a) el
       ∙ compare_is t u.memory op y x p (subst (λ z. is_word z y ≡ true) e wy) wx)
 
-  moved : (op : ShiftOp) → writes (vm.shift_answer op (register_type (plain_of t)) (r left) (r right)) u ≡ writes (vm.shift_number op t x y) u
-  moved op =
+  shifts : (op : ShiftOp) → writes (vm.shift_answer op (register_type (plain_of t)) (r left) (r right)) u ≡ writes (vm.shift_number op t x y) u
+  shifts op =
       ap (λ a. writes a u) (ap (λ a. vm.shift_answer op (register_type (plain_of t)) a (r right)) el ∙ ap (λ a. vm.shift_answer op (register_type (plain_of t)) (Word x) a) er
       ∙ shift_is t c op x y p wx wy)
 
@@ -181,26 +181,26 @@ right_number UnsignedLong x y p = refl
 pub operators_correspond : OperatorsCorrespond
 operators_correspond b.LogicalOr t c d l q own r u x y p same el er wx wy ne = absurd (ne refl)
 operators_correspond b.LogicalAnd t c d l q own r u x y p same el er wx wy ne = absurd (ne refl)
-operators_correspond b.Or t c d l q own r u x y p same el er wx wy ne = calculated t c own r u l q x y p el er wx wy Or (same refl)
-operators_correspond b.Xor t c d l q own r u x y p same el er wx wy ne = calculated t c own r u l q x y p el er wx wy ExclusiveOr (same refl)
-operators_correspond b.And t c d l q own r u x y p same el er wx wy ne = calculated t c own r u l q x y p el er wx wy And (same refl)
-operators_correspond b.Add t c d l q own r u x y p same el er wx wy ne = calculated t c own r u l q x y p el er wx wy Add (same refl)
-operators_correspond b.Subtract t c d l q own r u x y p same el er wx wy ne = calculated t c own r u l q x y p el er wx wy Subtract (same refl)
-operators_correspond b.Multiply t c d l q own r u x y p same el er wx wy ne = calculated t c own r u l q x y p el er wx wy Multiply (same refl)
-operators_correspond b.Divide t c d l q own r u x y p same el er wx wy ne = calculated t c own r u l q x y p el er wx wy Divide (same refl)
-operators_correspond b.Remainder t c d l q own r u x y p same el er wx wy ne = calculated t c own r u l q x y p el er wx wy Remainder (same refl)
-operators_correspond b.Equal t c d l q own r u x y p same el er wx wy ne = compared t c own r u l q x y p el er wx wy Equal (same refl)
-operators_correspond b.NotEqual t c d l q own r u x y p same el er wx wy ne = compared t c own r u l q x y p el er wx wy NotEqual (same refl)
-operators_correspond b.Less t c d l q own r u x y p same el er wx wy ne = compared t c own r u l q x y p el er wx wy Less (same refl)
-operators_correspond b.LessEqual t c d l q own r u x y p same el er wx wy ne = compared t c own r u l q x y p el er wx wy LessOrEqual (same refl)
-operators_correspond b.Greater t c d l q own r u x y p same el er wx wy ne = compared_back t c own r u l q x y p el er wx wy Less (same refl)
-operators_correspond b.GreaterEqual t c d l q own r u x y p same el er wx wy ne = compared_back t c own r u l q x y p el er wx wy LessOrEqual (same refl)
+operators_correspond b.Or t c d l q own r u x y p same el er wx wy ne = calculates t c own r u l q x y p el er wx wy Or (same refl)
+operators_correspond b.Xor t c d l q own r u x y p same el er wx wy ne = calculates t c own r u l q x y p el er wx wy ExclusiveOr (same refl)
+operators_correspond b.And t c d l q own r u x y p same el er wx wy ne = calculates t c own r u l q x y p el er wx wy And (same refl)
+operators_correspond b.Add t c d l q own r u x y p same el er wx wy ne = calculates t c own r u l q x y p el er wx wy Add (same refl)
+operators_correspond b.Subtract t c d l q own r u x y p same el er wx wy ne = calculates t c own r u l q x y p el er wx wy Subtract (same refl)
+operators_correspond b.Multiply t c d l q own r u x y p same el er wx wy ne = calculates t c own r u l q x y p el er wx wy Multiply (same refl)
+operators_correspond b.Divide t c d l q own r u x y p same el er wx wy ne = calculates t c own r u l q x y p el er wx wy Divide (same refl)
+operators_correspond b.Remainder t c d l q own r u x y p same el er wx wy ne = calculates t c own r u l q x y p el er wx wy Remainder (same refl)
+operators_correspond b.Equal t c d l q own r u x y p same el er wx wy ne = compares t c own r u l q x y p el er wx wy Equal (same refl)
+operators_correspond b.NotEqual t c d l q own r u x y p same el er wx wy ne = compares t c own r u l q x y p el er wx wy NotEqual (same refl)
+operators_correspond b.Less t c d l q own r u x y p same el er wx wy ne = compares t c own r u l q x y p el er wx wy Less (same refl)
+operators_correspond b.LessEqual t c d l q own r u x y p same el er wx wy ne = compares t c own r u l q x y p el er wx wy LessOrEqual (same refl)
+operators_correspond b.Greater t c d l q own r u x y p same el er wx wy ne = compares_back t c own r u l q x y p el er wx wy Less (same refl)
+operators_correspond b.GreaterEqual t c d l q own r u x y p same el er wx wy ne = compares_back t c own r u l q x y p el er wx wy LessOrEqual (same refl)
 operators_correspond b.ShiftLeft t c d l q own r u x y p same el er wx wy ne =
-    moved t c own r u l q x y p el er wx wy Left ∙ ap (λ a. writes (vm.outcome_answer a) u) (counts t c y wy (left_shift_by t x) refl ne)
+    shifts t c own r u l q x y p el er wx wy Left ∙ ap (λ a. writes (vm.outcome_answer a) u) (counts t c y wy (left_shift_by t x) refl ne)
 operators_correspond b.ShiftRight t c d l q own r u x y p same el er wx wy ne =
     shifted (lowering.right_shift (is_signed t)) refl
   where
     shifted : (op : ShiftOp) → lowering.right_shift (is_signed t) ≡ op → writes (vm.shift_answer op (register_type (plain_of t)) (r l) (r q)) u ≡ writes (vm.outcome_answer (right_shift t c x y)) u
     shifted op e =
-        moved t c own r u l q x y p el er wx wy op ∙ ap (λ z. writes (vm.shift_number z t x y) u) (sym e) ∙ ap (λ a. writes a u) (right_number t x y p)
+        shifts t c own r u l q x y p el er wx wy op ∙ ap (λ z. writes (vm.shift_number z t x y) u) (sym e) ∙ ap (λ a. writes a u) (right_number t x y p)
         ∙ ap (λ a. writes (vm.outcome_answer a) u) (counts t c y wy (right_shift_by t x) refl ne)

@@ -86,15 +86,15 @@ abbrev pub IsMoved : Memory → (base : Value) → (plus : ℕ) → (moved : Val
 IsMoved m base plus moved = ((plus ≡ 0) × (moved ≡ base)) ⊎ (pointer_plus m base (pos plus) ≡ Some moved)
 
 -- what a load gives, as a register holds it
-abbrev pub loaded : MemoryType → Value → Value
-loaded ty v = extended_value (memory_integer ty) v
+abbrev pub load_result : MemoryType → Value → Value
+load_result ty v = extended_value (memory_integer ty) v
 
 -- a load, and a store, at a pointer moved by so many bytes, in a memory that stands for another one
 pub record AccessesCorrespond (f : Names) (m n : Memory) : Type 0 where
   pub loads : (ty : MemoryType) (base w : Value) (plus : ℕ) (p : Ptr) (v : Value) → IsValueOf f base w
       → IsMoved m base plus (Address p) → 0 < access_bytes (memory_integer ty)
       → load_at m p (access_bytes (memory_integer ty)) (is_pointer_access (memory_integer ty)) ≡ Ok v
-      → (x : Value) × (loaded_answer n ty w (pos plus) ≡ Gives (loaded ty x)) × IsValueOf f v x
+      → (x : Value) × (loaded_answer n ty w (pos plus) ≡ Gives (load_result ty x)) × IsValueOf f v x
   pub stores : (ty : MemoryType) (base w : Value) (plus : ℕ) (p : Ptr) (v a : Value) (m1 : Memory)
       → IsValueOf f base w → IsMoved m base plus (Address p) → 0 < access_bytes (memory_integer ty)
       → is_storable (memory_integer ty) v ≡ true → IsValueOf f v a
