@@ -1,0 +1,35 @@
+//! The kinds of rows, each with its file.
+
+use crate::{needs, placements, runs};
+use anyhow::Result;
+use row_sheets::Table;
+use std::alloc::Global;
+
+/// What the rows of a file are given to.
+#[derive(Clone, Copy, Debug)]
+pub enum Kind {
+    Runs,
+    Placements,
+    Needs,
+}
+
+/// The kinds in the order in which they are checked.
+pub const KINDS: [Kind; 3] = [Kind::Runs, Kind::Placements, Kind::Needs];
+
+impl Table for Kind {
+    fn file(&self) -> &'static str {
+        match self {
+            Kind::Runs => "temp_runs.rows",
+            Kind::Placements => "plain.rows",
+            Kind::Needs => "needs.rows",
+        }
+    }
+
+    fn answer(&mut self, alloc: Global, given: &str) -> Result<Vec<u8>> {
+        match self {
+            Kind::Runs => runs::answer(alloc, given),
+            Kind::Placements => placements::answer(alloc, given),
+            Kind::Needs => needs::answer(alloc, given),
+        }
+    }
+}

@@ -1,0 +1,24 @@
+//! Checks the tables of the folder `data/`: programs over temporaries, how they run, and where `plain` puts them.
+//!
+//! The form of the files is described in `docs/rows.md`, and that of each kind of row at the head of its file.
+#![tactic(auto)]
+
+mod insns;
+mod kind;
+mod machine;
+mod needs;
+mod operation;
+mod placements;
+mod reader;
+mod runs;
+mod words;
+
+use crate::kind::KINDS;
+use anyhow::Result;
+use row_sheets::check_tables;
+
+/// Checks the files that the words name, or all of them in this folder where there are no words.
+fn main(rt: HostRuntime) -> Result<()> {
+    let mut kinds = KINDS;
+    check_tables(&rt, &mut kinds)
+}
