@@ -72,7 +72,7 @@ passed-through : (p : Program) (there : Labels) (start : Start) (items : List As
 passed-through p there start items end c gs o held s t a d = record { to = d.to; comes = steps_add_up p s t d.to a d.comes; stands = d.stands; stack = d.stack; outer = d.outer }
 
 -- a label is no word
-label-passed : (p : Program) (there : Labels) (items : List AsmItem) (end : ℕ) (c : Call) (m : memory.Memory) (store : Places) (s : State) (l : ℕ) → StandsFor p there (Label l ∷ items) end c m usable store s → StandsFor p there items end c m usable store s
+pub label-passed : (p : Program) (there : Labels) (items : List AsmItem) (end : ℕ) (c : Call) (m : memory.Memory) (store : Places) (s : State) (l : ℕ) → StandsFor p there (Label l ∷ items) end c m usable store s → StandsFor p there items end c m usable store s
 label-passed p there items end c m store s l h =
     let none : h.word + 0 ≡ h.word = omega arith in
     record {
