@@ -92,7 +92,7 @@ IsFoundIn c n structure (w.Member found) = Knows c n → IsMemberOf c structure 
 module _ (c : Context) (lawful : IsLawfulContext c) (names : Type 0) where
   member_in : (n : Notes) (structure number : ℕ) (d : StructDef) (q : Option Member) → slice_get n.structs structure ≡ Some d → slice_get d.members number ≡ q → IsFoundIn c n (Struct structure) (member_at number q)
   member_in n structure number d None e f = tt
-  member_in n structure number d (Some x) e f = λ known. member_known c n.structs structure number d x lawful known e f
+  member_in n structure number d (Some x) e f = λ known. member_known c n.structs structure number d x lawful known.structs_known e f
 
   member_numbered : (n : Notes) (structure number : ℕ) (o : Option StructDef) → slice_get n.structs structure ≡ o → IsFoundIn c n (Struct structure) (member_at number (struct_member o number))
   member_numbered n structure number None e = tt
@@ -126,28 +126,28 @@ module _ (c : Context) (lawful : IsLawfulContext c) (names : Type 0) where
       (found_ruled c names (IsJudged c) (form.taken_by op a.place n) (unary n.structs at op a)
       (λ v k. let known = later.knows k in
       joined c (Takes c (form.taken_by op a.place n)) (unary n.structs at op a) (unary_whole n.structs at op a (h v known).whole)
-      (λ t. unary_typed c n.structs at op a known.complete (taken_memory c op a.place n t) ((h v known).typed (later.takes t)))))
+      (λ t. unary_typed c n.structs at op a known.structs_known.complete (taken_memory c op a.place n t) ((h v known).typed (later.takes t)))))
 
   pub between_judged : (at : ℕ) (op : BinaryOp) (a b : TypedExpression) (n : Notes) → (names → Knows c n → IsJudged c (Takes c n) a) → (names → Knows c n → IsJudged c (Takes c n) b)
       → Judges c names (IsJudged c) n (form.between at op a b n)
   between_judged at op a b n h g =
       found_ruled c names (IsJudged c) n (binary n.structs at op a b)
       (λ v k. joined c (Takes c n) (binary n.structs at op a b) (binary_whole n.structs at op a b (h v k).whole (g v k).whole)
-      (λ t. binary_typed c n.structs at op a b k.complete ((h v k).typed t) ((g v k).typed t)))
+      (λ t. binary_typed c n.structs at op a b k.structs_known.complete ((h v k).typed t) ((g v k).typed t)))
 
   pub assignment_judged : (at : ℕ) (op : AssignOp) (a b : TypedExpression) (n : Notes) → (names → Knows c n → IsJudged c (Takes c n) a) → (names → Knows c n → IsJudged c (Takes c n) b)
       → Judges c names (IsJudged c) n (form.assignment at op a b n)
   assignment_judged at op a b n h g =
       found_ruled c names (IsJudged c) n (assign n.structs at op a b)
       (λ v k. joined c (Takes c n) (assign n.structs at op a b) (assign_whole n.structs at op a b (h v k).whole)
-      (λ t. assign_typed c n.structs at op a b k.complete ((h v k).typed t) ((g v k).typed t)))
+      (λ t. assign_typed c n.structs at op a b k.structs_known.complete ((h v k).typed t) ((g v k).typed t)))
 
   pub element_judged : (at : ℕ) (a b : TypedExpression) (n : Notes) → (names → Knows c n → IsJudged c (Takes c n) a) → (names → Knows c n → IsJudged c (Takes c n) b)
       → Judges c names (IsJudged c) n (form.element at a b n)
   element_judged at a b n h g =
       found_ruled c names (IsJudged c) n (subscript n.structs at a b)
       (λ v k. joined c (Takes c n) (subscript n.structs at a b) (subscript_whole n.structs at a b (h v k).whole (g v k).whole)
-      (λ t. subscript_typed c n.structs at a b k.complete ((h v k).typed t) ((g v k).typed t)))
+      (λ t. subscript_typed c n.structs at a b k.structs_known.complete ((h v k).typed t) ((g v k).typed t)))
 
   pub choice_judged : (at : ℕ) (q a b : TypedExpression) (n : Notes) → (names → Knows c n → IsJudged c (Takes c n) q) → (names → Knows c n → IsJudged c (Takes c n) a) → (names → Knows c n → IsJudged c (Takes c n) b)
       → Judges c names (IsJudged c) n (form.choice at q a b n)
@@ -165,19 +165,19 @@ module _ (c : Context) (lawful : IsLawfulContext c) (names : Type 0) where
   pub size_judged : (at : ℕ) (a : TypedExpression) (n : Notes) → (names → Knows c n → IsTrue (is_whole (type_view a.ty))) → Judges c names (IsJudged c) n (form.size_of_value at a n)
   size_judged at a n h =
       found_ruled c names (IsJudged c) n (size n.structs at a.ty)
-      (λ v k. joined c (Takes c n) (size n.structs at a.ty) (size_whole n.structs at a.ty) (λ t. size_typed c n.structs at a.ty (known_small c n.structs a.ty lawful k.complete (h v k))))
+      (λ v k. joined c (Takes c n) (size n.structs at a.ty) (size_whole n.structs at a.ty) (λ t. size_typed c n.structs at a.ty (known_small c n.structs a.ty lawful k.structs_known.complete (h v k))))
 
   pub size_name_judged : (at : ℕ) (ty : DeclaredType) (n : Notes) → (names → Knows c n → IsFitType c ty) → Judges c names (IsJudged c) n (form.size_of_name at ty n)
   size_name_judged at (d.Value ty) n h =
       found_ruled c names (IsJudged c) n (size n.structs at ty)
-      (λ v k. joined c (Takes c n) (size n.structs at ty) (size_whole n.structs at ty) (λ t. size_typed c n.structs at ty (known_small c n.structs ty lawful k.complete (fit_whole c.structs (type_view ty) (h v k)))))
+      (λ v k. joined c (Takes c n) (size n.structs at ty) (size_whole n.structs at ty) (λ t. size_typed c n.structs at ty (known_small c n.structs ty lawful k.structs_known.complete (fit_whole c.structs (type_view ty) (h v k)))))
   size_name_judged at (d.Unsized element) n h = found_fault c names (IsJudged c) at _ n
   size_name_judged at (d.Function result parameters) n h = found_fault c names (IsJudged c) at _ n
 
   pub behind_judged : (at : ℕ) (op : StepOp) (a : TypedExpression) (n : Notes) → (names → Knows c n → IsJudged c (Takes c n) a) → Judges c names (IsJudged c) n (form.behind at op a n)
   behind_judged at op a n h =
       found_ruled c names (IsJudged c) n (step_behind n.structs at op a)
-      (λ v k. joined c (Takes c n) (step_behind n.structs at op a) (behind_whole n.structs at op a (h v k).whole) (λ t. step_behind_typed c n.structs at op a k.complete ((h v k).typed t)))
+      (λ v k. joined c (Takes c n) (step_behind n.structs at op a) (behind_whole n.structs at op a (h v k).whole) (λ t. step_behind_typed c n.structs at op a k.structs_known.complete ((h v k).typed t)))
 
   -- ---- commas
 

@@ -33,7 +33,7 @@ one_at_least : (o : Option StructDef) → 1 ≤ struct_depth o
 one_at_least None = le_refl 1
 one_at_least (Some d) = omega arith
 
-behind_within : (ds : List StructDef) (x : PlainType) → depth_behind x ≤ depth_of ds x
+pub behind_within : (ds : List StructDef) (x : PlainType) → depth_behind x ≤ depth_of ds x
 behind_within ds Void = le_refl 1
 behind_within ds (Int n s) = le_refl 1
 behind_within ds (Pointer x) = le_refl _

@@ -1,6 +1,6 @@
 -- What a context has to have for the names in scope and for what was noted, so that what is judged is well typed
 -- there.
-use Rattle.std.specs.Prelude.{◌≡◌, ℕ, ◌+◌, nat_le, Bool, true, IsTrue, IsFalse, List, [], ◌∷◌, length, All, slice_get, Option, Some, None, IfSome}
+use Rattle.std.specs.Prelude.{◌≡◌, ℕ, ◌+◌, nat_le, Bool, true, IsTrue, IsFalse, List, [], ◌∷◌, length, All, slice_get, is_some, Option, Some, None, IfSome}
 use Rattle.c_arithmetic.specs.declared.integer_type.IntegerType.TheVariants.{Int}
 use Rattle.c_arithmetic.specs.Words.{is_word}
 use Rattle.c_typed_tree.specs.declared.types.CType.{CType}
@@ -16,6 +16,10 @@ use Rattle.c_primary_rules.specs.Primary.{text_type}
 use Rattle.c_checks.specs.declared.env.Env.{Env}
 use Rattle.c_checks.specs.declared.meanings.Meaning.{Meaning}
 use Rattle.c_checks.specs.declared.meanings.Meaning.TheVariants as m
+use Rattle.c_scopes.specs.Names.{Entry}
+use Rattle.c_checks.specs.declared.meanings.Tag.{Tag}
+use Rattle.c_checks.specs.declared.meanings.Tag.TheVariants as g
+use Rattle.c_checks.specs.declared.meanings.UntaggedStruct.{UntaggedStruct}
 use Rattle.c_checks.specs.declared.notes.Notes.{Notes}
 use Rattle.c_checks.specs.Scopes.{meaning_of}
 use Rattle.c_type_laws.specs.Typed.{IsTypedIn, IsFunctionOf, AreKnown}
@@ -86,8 +90,27 @@ pub record HasTaken (c : Context) (addressed : List ℕ) (first_text : ℕ) (tex
   pub locals : AreInMemory c addressed
   pub objects : HaveTexts c first_text texts
 
+-- the struct of a tag is there
+abbrev pub IsTagIn : Context → Tag → Type 0
+IsTagIn c (g.Struct number) = IsTrue (is_some (slice_get c.structs number))
+IsTagIn c g.Enum = Unit {0}
+
+abbrev pub AreTagsIn : Context → List (Entry Tag) → Type 0
+AreTagsIn c [] = Unit {0}
+AreTagsIn c (tag ∷ rest) = IsTagIn c tag.value × AreTagsIn c rest
+
+abbrev pub IsUntaggedIn : Context → Option UntaggedStruct → Type 0
+IsUntaggedIn c None = Unit {0}
+IsUntaggedIn c (Some last) = IsTrue (is_some (slice_get c.structs last.number))
+
+-- the structs of the notes, and those that tags mean, are there
+pub record HasNoted (c : Context) (structs : List StructDef) (tags : List (Entry Tag)) (untagged : Option UntaggedStruct) : Type 0 where
+  pub structs_known : HasStructs c structs
+  pub tags_known : AreTagsIn c tags
+  pub untagged_known : IsUntaggedIn c untagged
+
 abbrev pub Knows : Context → Notes → Type 0
-Knows c n = HasStructs c n.structs
+Knows c n = HasNoted c n.structs n.tags n.untagged
 
 abbrev pub Takes : Context → Notes → Type 0
 Takes c n = HasTaken c n.addressed n.first_text n.texts

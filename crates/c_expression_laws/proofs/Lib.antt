@@ -1,0 +1,4 @@
+pub mod Types
+pub mod Walks
+pub mod Parts
+pub mod Expressions

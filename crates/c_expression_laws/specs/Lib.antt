@@ -1,0 +1,4 @@
+pub mod Types
+pub mod Commas
+pub mod Walks
+pub mod Laws

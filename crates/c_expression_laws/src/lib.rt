@@ -1,0 +1,4 @@
+//! What whole expressions are is well typed.
+#![tactic(auto)]
+
+pub mod laws;
