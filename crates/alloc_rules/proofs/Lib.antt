@@ -1,3 +1,4 @@
 mod FrugalExamples
 mod Sets
+mod Unique
 mod WrongPlacements

@@ -5,7 +5,7 @@ use Rattle.std.proofs.lemmas.List.{ext_get_or, replicate_more}
 use Rattle.std.proofs.lemmas.List.Elements.{All-get_or}
 use Rattle.bk_bits.specs.Sets.{has}
 use Rattle.alloc_model.specs.Places.{Plan}
-use Rattle.alloc_rules.specs.Scan.{AreSets, SetsAreUnique}
+use Rattle.alloc_rules.specs.Scan.{AreSets}
 
 pub one_more : (sets : List (List Bool)) (count bound : ℕ) → sets ≡ replicate count (replicate bound false) →
     sets ++ replicate bound false ∷ [] ≡ replicate (count + 1) (replicate bound false)
@@ -33,11 +33,3 @@ module _ {a : Plan} {IsSo : (t block : ℕ) → Type 0} (xs ys : List (List Bool
 
   pub unique : xs ≡ ys
   unique = ext_get_or [] xs ys as_many same_set
-
-pub all_unique : SetsAreUnique
-all_unique = record {
-  needs = λ a xs ys are others. unique xs ys are others;
-  relied = λ a xs ys are others. unique xs ys are others;
-  stored = λ a xs ys are others. unique xs ys are others;
-  written = λ a xs ys are others. unique xs ys are others;
-}

@@ -75,12 +75,10 @@ pub record AreScanned (s : Scanned) : Type 0 where
 
 -- ---- that this says which they are
 
--- two lists of sets of which this is so are the same
-abbrev pub IsUnique : (Plan → List (List Bool) → Type 0) → Type 0
-IsUnique Are = (a : Plan) (sets others : List (List Bool)) → Are a sets → Are a others → sets ≡ others
-
-pub record SetsAreUnique : Type 0 where
-  pub needs : IsUnique (λ a. AreSets a (IsNeeded a))
-  pub relied : IsUnique (λ a. AreSets a (IsRelied a))
-  pub stored : IsUnique (λ a. AreSets a (IsStored a))
-  pub written : IsUnique (λ a. AreSets a (IsWritten a))
+-- lists of which it is said of the same function are the same, and so are sets of the same allocation or scan
+pub record ListsAreUnique : Type 0 where
+  pub lifetimes : (f : TempFn) (l m : Lifetimes) → AreLifetimes f l → AreLifetimes f m →
+      (l.parts ≡ m.parts) × (l.refs ≡ m.refs)
+  pub needs : (a : Plan) (n m : Needs) → AreNeeds a n → AreNeeds a m → n.need ≡ m.need
+  pub scans : (s t : Scanned) → plan_of_scanned s ≡ plan_of_scanned t → AreScanned s → AreScanned t →
+      (s.relied ≡ t.relied) × (s.stored ≡ t.stored) × (s.written ≡ t.written)

@@ -1,7 +1,7 @@
 //! What is judged of small allocations, each the contract of a function that does nothing.
 
 ghost use Rattle.alloc_rules.specs.FrugalExamples.{FrugalExamples};
-ghost use Rattle.alloc_rules.specs.Scan.{SetsAreUnique};
+ghost use Rattle.alloc_rules.specs.Scan.{ListsAreUnique};
 ghost use Rattle.alloc_rules.specs.WrongPlacements.{WrongPlacements};
 
 /// A small allocation is frugal, and one with a needless load is not.
@@ -14,7 +14,7 @@ pub fn wrong_placements_are_not_faithful()
     ensures { WrongPlacements }
 {}
 
-/// What is said of sets for blocks says which they are.
-pub fn sets_are_unique()
-    ensures { SetsAreUnique }
+/// What is said of the lists and sets that an allocator's passes hand on says which they are.
+pub fn lists_are_unique()
+    ensures { ListsAreUnique }
 {}
