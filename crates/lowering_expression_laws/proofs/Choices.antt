@@ -48,7 +48,7 @@ use Rattle.lowering_expression_laws.proofs.Forms.{held_word, word_held, value_of
 -- ---- tests
 
 -- what a test of a value gives, where it is defined
-abbrev TestIs : Memory → Value → Bool → Type 0
+abbrev pub TestIs : Memory → Value → Bool → Type 0
 TestIs m (Word k) x = x ≡ not (k == 0)
 TestIs m (Address p) x = (pointers.is_live m p ≡ true) × (x ≡ true)
 TestIs m Unset x = ⊥
@@ -87,7 +87,7 @@ module _ (c : Setting) (found : slice_get c.functions c.number ≡ Some c.code) 
   abbrev T : PlainType
   T = plain_of i.Int
 
-  test_meets : (v : Value) (s : State) (K : Bool → State → Observation) (k : Config Registers) → ((x : Bool) → TestIs s.world.outer.memory v x → Meets c.rooms c.functions (K x s) k) → Meets c.rooms c.functions (finish (test v s) K) k
+  pub test_meets : (v : Value) (s : State) (K : Bool → State → Observation) (k : Config Registers) → ((x : Bool) → TestIs s.world.outer.memory v x → Meets c.rooms c.functions (K x s) k) → Meets c.rooms c.functions (finish (test v s) K) k
   unfolding opens
   test_meets (Word k) s K cf h = h (not (k == 0)) refl
   test_meets (Address p) s K cf h = (elim (pointers.is_live s.world.outer.memory p) as (λ x. pointers.is_live s.world.outer.memory p ≡ x → Meets c.rooms c.functions (finish (if◌then◌else◌ {A = Run Bool} x (pure true) (undefined UsesDeadObject) s) K) cf) [
@@ -97,7 +97,7 @@ module _ (c : Setting) (found : slice_get c.functions c.number ≡ Some c.code) 
   test_meets Unset s K cf h = meets_anything c.rooms c.functions refl
 
   -- to the block that begins with code which stands there
-  at_block : {o : Observation} (r : Registers) (w : World) (m : Memory) (x y : ℕ) → x ≡ y → EndsSo c o (start_of_block x) r w m → EndsSo c o (start_of_block y) r w m
+  pub at_block : {o : Observation} (r : Registers) (w : World) (m : Memory) (x y : ℕ) → x ≡ y → EndsSo c o (start_of_block x) r w m → EndsSo c o (start_of_block y) r w m
   at_block {o = o} r w m x y e h = subst (λ z. EndsSo c o (start_of_block z) r w m) e h
 
   -- a truth value comes into the register of `int` at the depth
@@ -113,12 +113,12 @@ module _ (c : Setting) (found : slice_get c.functions c.number ≡ Some c.code) 
     holds : vm.value_holds m (register_type ty) (r (value_register L d ty)) ≡ Some x
     holds = holds_there f s.world.outer.memory m ty v (r (value_register L d ty)) x scalar fit.memory held stands is
 
-    goes : {o : Observation} (block : ℕ) → block + name ≡ c.last → is_taken op x ≡ true → EndsSo c o (start_of_block block) r s.world m → EndsSo c o q r s.world m
+    pub goes : {o : Observation} (block : ℕ) → block + name ≡ c.last → is_taken op x ≡ true → EndsSo c o (start_of_block block) r s.world m → EndsSo c o q r s.world m
     goes block e taken next =
         branch_taken c.rooms c.functions c.number c.code found c.own c.waiting op (register_type ty) (value_register L d ty) (c.last - name) x q r s.world m at.has.0 holds taken
         (at_block r s.world m block (c.last - name) (omega (arith, e)) next)
 
-    passes : {o : Observation} → is_taken op x ≡ false → EndsSo c o (next_block q) r s.world m → EndsSo c o q r s.world m
+    pub passes : {o : Observation} → is_taken op x ≡ false → EndsSo c o (next_block q) r s.world m → EndsSo c o q r s.world m
     passes passed next = branch_passed c.rooms c.functions c.number c.code found c.own c.waiting op (register_type ty) (value_register L d ty) (c.last - name) x q r s.world m at.has.0 holds passed at.has.1 next
 
   module _ (op : BranchOp) (stop : Bool) (taken : is_taken op stop ≡ true) (passed : is_taken op (not stop) ≡ false) (x y : Expr) (sx : IsScalarType (type_of x)) (sy : IsScalarType (type_of y)) (hx : ExprMeets c x) (hy : ExprMeets c y) where

@@ -1,0 +1,59 @@
+-- That the code of a statement does what the statement does.
+--
+-- A statement goes on behind its code, or leaves it by a jump to the block with the one name for a `break` or the other
+-- one for a `continue`, or by a return to the calls that wait.
+use Rattle.std.specs.Prelude.{◌≡◌, ◌≤◌, ◌-◌, ℕ, List, [], ◌∷◌, length, Option, Some, None}
+use Rattle.mem_model.specs.declared.value.Value.{Value}
+use Rattle.mem_model.specs.Memory.{Memory, end_objects}
+use Rattle.mem_model.specs.World.{World, with_memory, with_meter, leave_call}
+use Rattle.mem_model.specs.Related.{Names, IsValueOf}
+use Rattle.vm_meaning.specs.Behave.{Registers}
+use Rattle.c_typed_tree.specs.Statements.{Stmt, Stmts}
+use Rattle.c_semantics.specs.Runs.{State, Run}
+use Rattle.c_semantics.specs.Objects.{Scope}
+use Rattle.c_semantics.specs.Executes.{Flow, Goes, Breaks, Continues, Returns, exec, execs}
+use Rattle.lowering_code.specs.declared.item.Item.{Item}
+use Rattle.lowering_code.specs.Statements.{stmt_code, stmts_code}
+use Rattle.lowering_states.specs.Places.{Place, start_of_block}
+use Rattle.lowering_states.specs.Runs.{Observation, finish, Resumes}
+use Rattle.lowering_expression_laws.specs.Parts.{Setting, count, EndsSo, Stands, Fit, Aft}
+
+-- what a call returns on both sides
+abbrev pub IsReturned : Names → Option Value → List Value → Type 0
+IsReturned f None ws = ws ≡ []
+IsReturned f (Some v) ws = (w : Value) × (ws ≡ w ∷ []) × IsValueOf f v w
+
+module _ (c : Setting) where
+  -- the world that the call leaves
+  abbrev pub world_left : World → Memory → World
+  world_left w m =
+      with_memory (with_meter w (leave_call c.rooms c.number w.meter)) (end_objects m c.own (length c.code.sizes))
+
+  -- what follows a statement, by how it ends
+  pub record Onward (scope : Scope) (f : Names) (s : State) (n : Memory) (K : Flow → State → Observation)
+      (heads : List ℕ) (rest : List Item) (break_to continue_to : ℕ) : Type 0 where
+    pub goes : (q : Place) (g : Names) (t : State) (r : Registers) (m : Memory) → Stands c heads q rest
+        → Aft c f s n g t m → Fit c g scope r t m → EndsSo c (K Goes t) q r t.world m
+    pub breaks : (g : Names) (t : State) (r : Registers) (m : Memory) → Aft c f s n g t m → Fit c g scope r t m
+        → EndsSo c (K Breaks t) (start_of_block (c.last - break_to)) r t.world m
+    pub continues : (g : Names) (t : State) (r : Registers) (m : Memory) → Aft c f s n g t m → Fit c g scope r t m
+        → EndsSo c (K Continues t) (start_of_block (c.last - continue_to)) r t.world m
+    pub returns : (v : Option Value) (ws : List Value) (g : Names) (t : State) (r : Registers) (m : Memory)
+        → Aft c f s n g t m → Fit c g scope r t m → IsReturned g v ws
+        → Resumes c.rooms c.functions (K (Returns v) t) ws (world_left t.world m) c.waiting
+
+  -- again is what a statement does one level down
+  module _ (again : Scope → Stmt → Run Flow) where
+    pub record StmtMeets (x : Stmt) : Type 0 where
+      pub by : (break_to continue_to : ℕ) (rest : List Item) (heads : List ℕ) (p : Place) (f : Names) (scope : Scope)
+          (r : Registers) (s : State) (n : Memory) (K : Flow → State → Observation) →
+          Stands c heads p (stmt_code (count c) c.structs c.locals break_to continue_to x rest) → Fit c f scope r s n
+          → s.world.meter.turns ≤ c.level → Onward scope f s n K heads rest break_to continue_to
+          → EndsSo c (finish (exec c.structs c.locals c.calls again scope x s) K) p r s.world n
+
+    pub record StmtsMeet (xs : Stmts) : Type 0 where
+      pub by : (break_to continue_to : ℕ) (rest : List Item) (heads : List ℕ) (p : Place) (f : Names) (scope : Scope)
+          (r : Registers) (s : State) (n : Memory) (K : Flow → State → Observation) →
+          Stands c heads p (stmts_code (count c) c.structs c.locals break_to continue_to xs rest) → Fit c f scope r s n
+          → s.world.meter.turns ≤ c.level → Onward scope f s n K heads rest break_to continue_to
+          → EndsSo c (finish (execs c.structs c.locals c.calls again scope xs s) K) p r s.world n
