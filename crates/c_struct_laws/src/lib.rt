@@ -1,0 +1,4 @@
+//! The structs that bodies declare are lawful.
+#![tactic(auto)]
+
+pub mod laws;
