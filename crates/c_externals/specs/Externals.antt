@@ -1,9 +1,10 @@
 -- Each declaration at file scope: its type with the bodies in it, whether that may be declared, its name, and what
--- initialises it (C99 6.7, 6.9).
+-- initialises it, or its body (C99 6.7, 6.9).
 use Rattle.std.specs.Prelude.{ℕ, true, false, List, [], ◌∷◌, Option, Some, None}
 use Rattle.std.specs.Option.{option_map}
 use Rattle.c_tree.specs.declared.types.Declaration.{Declaration}
 use Rattle.c_tree.specs.declared.types.TypeNode.{TypeNode}
+use Rattle.c_tree.specs.declared.statements.Stmt.{Stmt}
 use Rattle.c_tree.specs.declared.declarations.Init.{Init}
 use Rattle.c_tree.specs.declared.declarations.Storage.{Storage}
 use Rattle.c_tree.specs.declared.declarations.FunctionEnd.{FunctionEnd}
@@ -12,14 +13,16 @@ use Rattle.c_tree.specs.declared.declarations.External.{External}
 use Rattle.c_tree.specs.declared.declarations.External.TheVariants as x
 use Rattle.c_declared_types.specs.declared.declared.DeclaredType.{DeclaredType}
 use Rattle.c_declared_types.specs.declared.declared.DeclaredType.TheVariants as d
+use Rattle.c_typed_tree.specs.declared.types.CType.{CType}
 use Rattle.c_definitions.specs.declared.names.Definitions.{Definitions}
 use Rattle.c_checks.specs.Checks.{each}
 use Rattle.c_judgements.specs.Types.{State, type_named}
 use Rattle.c_tag_bodies.specs.Bodies.{Scope, declared_type}
 use Rattle.c_initialisers.specs.Unfit.{judge_init}
+use Rattle.c_statements.specs.Functions.{function}
 use Rattle.c_unit_names.specs.declared.names.NameDeclaration.{NameDeclaration}
 use Rattle.c_externals.specs.declared.walk.UnitSoFar.{UnitSoFar}
-use Rattle.c_externals.specs.Walk.{Walk, in_notes, with_state, declare}
+use Rattle.c_externals.specs.Walk.{Walk, in_notes, with_state, declare, body_kept}
 use Rattle.c_externals.specs.Objects.{faulty_object, array_object, value_object}
 use Rattle.c_externals.specs.Functions.{function_type, function_with_type, optional_refused, init_refused, defined_type, main_seen}
 
@@ -65,29 +68,43 @@ with_main_in name r = (r.0, (main_with name r.0 r.1.0, r.1.1))
 abbrev pub with_definition : ℕ → TypeNode → Option DeclaredType × Walk → Option DeclaredType × Walk
 with_definition at node r = in_notes r.1 (each r.0 (defined_type at node) r.1.1.1)
 
-abbrev pub definition : Definitions → ℕ → List ℕ → Option Storage → TypeNode → DeclaredType → Walk → Walk
-definition ds at name storage node ty w =
-    function_with_type ds at name storage true
-    (with_definition at node (with_main_in name (in_notes w (function_type at ty w.1.1))))
+-- the type of the result of a function
+abbrev pub result_of : Option DeclaredType → Option CType
+result_of None = None
+result_of (Some (d.Value ty)) = None
+result_of (Some (d.Unsized element)) = None
+result_of (Some (d.Function of parameters)) = Some of
 
-abbrev pub function_with :
-    Definitions → ℕ → List ℕ → Option Storage → TypeNode → FunctionEnd → DeclaredType → Walk → Walk
-function_with ds at name storage node f.Nothing ty w = prototype ds at name storage ty w
-function_with ds at name storage node (f.Init init) ty w = value_behind init (prototype ds at name storage ty w)
-function_with ds at name storage node (f.Body statements) ty w = definition ds at name storage node ty w
+-- a body is judged behind the declaration of its name, which may call itself there
+abbrev pub body_judged : Declaration → (result : Option CType) → List Stmt → Walk → Walk
+body_judged e of list w = body_kept e.name w.0 (function e of list w.1)
 
-abbrev pub end_judged : FunctionEnd → State → State
-end_judged f.Nothing s = s
-end_judged (f.Init init) s = (judge_init init s).1
-end_judged (f.Body statements) s = s
+abbrev pub definition_with : Definitions → Declaration → Option Storage → List Stmt → Option DeclaredType × Walk → Walk
+definition_with ds e storage list r =
+    body_judged e (result_of r.0) list (function_with_type ds e.at e.name storage true r)
 
-abbrev pub end_behind : FunctionEnd → Walk → Walk
-end_behind end w = with_state (end_judged end w.1) w
+abbrev pub definition : Definitions → Declaration → Option Storage → List Stmt → DeclaredType → Walk → Walk
+definition ds e storage list ty w =
+    definition_with ds e storage list
+    (with_definition e.at e.ty (with_main_in e.name (in_notes w (function_type e.at ty w.1.1))))
 
-abbrev pub function_typed :
-    Definitions → ℕ → List ℕ → Option Storage → TypeNode → FunctionEnd → Option DeclaredType → Walk → Walk
-function_typed ds at name storage node end None w = end_behind end (declare ds at name None w)
-function_typed ds at name storage node end (Some ty) w = function_with ds at name storage node end ty w
+abbrev pub function_with : Definitions → Declaration → Option Storage → FunctionEnd → DeclaredType → Walk → Walk
+function_with ds e storage f.Nothing ty w = prototype ds e.at e.name storage ty w
+function_with ds e storage (f.Init init) ty w = value_behind init (prototype ds e.at e.name storage ty w)
+function_with ds e storage (f.Body list) ty w = definition ds e storage list ty w
+
+-- what stands behind a declaration with a fault
+abbrev pub end_judged : Declaration → FunctionEnd → State → State
+end_judged e f.Nothing s = s
+end_judged e (f.Init init) s = (judge_init init s).1
+end_judged e (f.Body list) s = (function e None list s).1
+
+abbrev pub end_behind : Declaration → FunctionEnd → Walk → Walk
+end_behind e end w = with_state (end_judged e end w.1) w
+
+abbrev pub function_typed : Definitions → Declaration → Option Storage → FunctionEnd → Option DeclaredType → Walk → Walk
+function_typed ds e storage end None w = end_behind e end (declare ds e.at e.name None w)
+function_typed ds e storage end (Some ty) w = function_with ds e storage end ty w
 
 -- ---- the type of each comes first
 
@@ -105,7 +122,7 @@ tags_declared u r = (u, r.1)
 abbrev pub external : Definitions → External → UnitSoFar × Scope → UnitSoFar × Scope
 external ds (x.Typedef e) s = behind_type s.0 (type_of e s.1) (typedef_declared ds e.at e.name)
 external ds (x.Object e storage init) s = behind_type s.0 (type_of e s.1) (object_with ds e.at e.name storage init)
-external ds (x.Function e storage end) s = behind_type s.0 (type_of e s.1) (function_typed ds e.at e.name storage e.ty end)
+external ds (x.Function e storage end) s = behind_type s.0 (type_of e s.1) (function_typed ds e storage end)
 external ds (x.Tags storage ty) s = tags_declared s.0 (declared_type 0 ty s.1)
 
 abbrev pub externals : Definitions → List External → UnitSoFar × Scope → UnitSoFar × Scope

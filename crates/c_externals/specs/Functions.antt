@@ -94,7 +94,12 @@ is_start (d.Unsized element) = false
 is_start (d.Function of parameters) = is_start_of of parameters
 
 abbrev pub with_main : (is_defined : Bool) → UnitSoFar → UnitSoFar
-with_main is_defined u = record { names = u.names; objects = u.objects; has_main = u.has_main || is_defined }
+with_main is_defined u = record {
+  names = u.names;
+  objects = u.objects;
+  functions = u.functions;
+  has_main = u.has_main || is_defined;
+}
 
 abbrev pub main_seen : List ℕ → DeclaredType → UnitSoFar → UnitSoFar
 main_seen name ty u = with_main (is_main name && is_start ty) u

@@ -60,7 +60,7 @@ builtins = with_builtins (no_names, record { names = []; outside = 0 })
 
 abbrev pub start : Definitions → UnitSoFar × Scope
 start ds = (
-  record { names = builtins.0; objects = []; has_main = false },
+  record { names = builtins.0; objects = []; functions = []; has_main = false },
   ([], (builtins.1, no_notes (length ds.objects))),
 )
 
@@ -83,9 +83,9 @@ judge_unit ds unit s = at_end unit.length (externals ds unit.externals s)
 abbrev pub whole_unit : TranslationUnit → UnitSoFar × Scope
 whole_unit unit = judge_unit (definitions unit.externals) unit (start (definitions unit.externals))
 
--- the faults of a unit, but for those in the bodies of functions
-abbrev pub declaration_faults : TranslationUnit → List Fault
-declaration_faults unit = sorted (whole_unit unit).1.1.1.faults
+-- the faults of a unit
+abbrev pub faults_of : TranslationUnit → List Fault
+faults_of unit = sorted (whole_unit unit).1.1.1.faults
 
-abbrev pub first_declaration_fault : TranslationUnit → Option Fault
-first_declaration_fault unit = head (declaration_faults unit)
+abbrev pub first_fault : TranslationUnit → Option Fault
+first_fault unit = head (faults_of unit)

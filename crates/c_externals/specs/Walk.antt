@@ -1,5 +1,6 @@
 -- What is known behind some declarations at file scope: the names with their numbers, the objects with what their
--- initialisers give, and whether `main` is defined; the names in scope, and what was noted.
+-- initialisers give, the functions whose bodies have no fault, and whether `main` is defined; the names in scope, and
+-- what was noted.
 use Rattle.std.specs.Prelude.{ℕ, Bool, true, false, if◌then◌else◌, List, [], ◌∷◌, ◌++◌, length, ◌==◌, Option, Some, None, bytes_eq, codes}
 use Rattle.c_tree.specs.declared.declarations.Storage.{Storage}
 use Rattle.c_tree.specs.declared.declarations.Storage.TheVariants as s
@@ -7,6 +8,9 @@ use Rattle.c_definitions.specs.declared.names.Definitions.{Definitions}
 use Rattle.c_type_faults.specs.declared.faults.Kind.TheVariants.{Redeclared}
 use Rattle.data_object.specs.declared.Cell.{Cell}
 use Rattle.c_typed_tree.specs.declared.types.CType.{CType}
+use Rattle.c_typed_tree.specs.declared.units.TypedFn.{TypedFn}
+use Rattle.c_typed_tree.specs.declared.expressions.Callee.{Callee}
+use Rattle.c_typed_tree.specs.declared.expressions.Callee.TheVariants as c
 use Rattle.c_globals.specs.declared.objects.UnitObject.{UnitObject}
 use Rattle.c_globals.specs.Globals.{set_cells}
 use Rattle.c_checks.specs.declared.meanings.Meaning.{Meaning}
@@ -38,7 +42,7 @@ with_notes n w = (w.0, (w.1.0, n))
 -- ---- names
 
 abbrev pub with_names : UnitNames → UnitSoFar → UnitSoFar
-with_names names u = record { names = names; objects = u.objects; has_main = u.has_main }
+with_names names u = record { names = names; objects = u.objects; functions = u.functions; has_main = u.has_main }
 
 -- a name that is declared, or whose declaration has a fault
 abbrev pub enter_names : UnitNames × State → Walk → Walk
@@ -63,7 +67,7 @@ main_checked storage at name n =
 -- ---- objects, in the order of their numbers
 
 abbrev pub with_objects : List UnitObject → UnitSoFar → UnitSoFar
-with_objects os u = record { names = u.names; objects = os; has_main = u.has_main }
+with_objects os u = record { names = u.names; objects = os; functions = u.functions; has_main = u.has_main }
 
 abbrev pub next_object : (is_next : Bool) → List ℕ → CType → UnitSoFar → UnitSoFar
 next_object false name ty u = u
@@ -106,3 +110,42 @@ keep_cells env name (Some cells) u = fill_numbered (object_at env name) cells u
 
 abbrev pub fill : List ℕ → UnitSoFar → Option (List Cell) × State → Walk
 fill name u r = (keep_cells r.1.0 name r.0 u, r.1)
+
+-- ---- functions, in the order of their bodies
+
+abbrev pub with_function : (number : ℕ) → TypedFn → UnitSoFar → UnitSoFar
+with_function number f u = record {
+  names = u.names;
+  objects = u.objects;
+  functions = u.functions ++ record { number = number; function = f } ∷ [];
+  has_main = u.has_main;
+}
+
+abbrev pub function_called : Callee → Option ℕ
+function_called (c.Function number) = Some number
+function_called (c.Builtin builtin) = None
+
+-- what a name means, if it is a function that the unit defines
+abbrev pub function_by : Option Meaning → Option ℕ
+function_by None = None
+function_by (Some m.Faulty) = None
+function_by (Some (m.Undefined number)) = None
+function_by (Some (m.Local number ty)) = None
+function_by (Some (m.Object number ty)) = None
+function_by (Some (m.Constant word)) = None
+function_by (Some (m.Function callee result parameters)) = function_called callee
+function_by (Some (m.Typedef ty)) = None
+
+abbrev pub function_at : Env → List ℕ → Option ℕ
+function_at env name = function_by (meaning_of env name)
+
+abbrev pub add_function : Option ℕ → TypedFn → UnitSoFar → UnitSoFar
+add_function None f u = u
+add_function (Some number) f u = with_function number f u
+
+abbrev pub keep_function : Env → List ℕ → Option TypedFn → UnitSoFar → UnitSoFar
+keep_function env name None u = u
+keep_function env name (Some f) u = add_function (function_at env name) f u
+
+abbrev pub body_kept : List ℕ → UnitSoFar → Option TypedFn × State → Walk
+body_kept name u r = (keep_function r.1.0 name r.0 u, r.1)

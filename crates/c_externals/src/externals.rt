@@ -1,6 +1,6 @@
 //! The walk over declarations.
 
-ghost use Rattle.std.specs.Prelude.{◌≡◌, OnOk};
+ghost use Rattle.std.specs.Prelude.{◌≡◌, OnOk, IfOk};
 ghost use Rattle.std.specs.Option.{option_map};
 ghost use Rattle.c_checks.specs.Checks.{Finds, each};
 ghost use Rattle.c_externals.specs.Externals as spec;
@@ -10,14 +10,16 @@ use crate::functions::{
     declare_function, defined_type, function_type, refuse_optional, refuse_value, see_main,
 };
 use crate::objects::{declare_array, declare_faulty, declare_value, judge_parts};
-use crate::walk::{UnitSoFar, declare};
+use crate::walk::{UnitSoFar, declare, keep_function};
 use c_checks::{Env, Notes};
 use c_declared_types::DeclaredType;
 use c_definitions::Definitions;
 use c_judgements::types::type_named;
 use c_scopes::Table;
+use c_statements::function;
 use c_tag_bodies::declared_type;
-use c_tree::{Declaration, External, FunctionEnd, Init, Storage, TypeNode};
+use c_tree::{Declaration, External, FunctionEnd, Init, Stmt, Storage, TypeNode};
+use c_typed_tree::CType;
 use c_unit_names::NameDeclaration;
 use std::alloc::{AllocError, Global};
 
@@ -169,37 +171,70 @@ fn type_of_definition(
     }
 }
 
-/// Declares a function that is defined here.
+/// The type of the result of a function.
+fn result_of(alloc: Global, ty: &Option<DeclaredType>) -> Result<Option<CType>, AllocError>
+    ensures { IfOk result (λ r. r ≡ spec.result_of ty.now) }
+{
+    match ty {
+        None => Ok(None),
+        Some(ty) => match ty {
+            DeclaredType::Value(_) => Ok(None),
+            DeclaredType::Unsized(_) => Ok(None),
+            DeclaredType::Function { result, .. } => Ok(Some(result.copy(alloc)?)),
+        },
+    }
+}
+
+/// Judges the body of a function, and keeps the function. `of` is the type of its result, where its declaration has no
+/// fault.
+fn judge_body<'a>(
+    alloc: Global,
+    unit: &mut UnitSoFar<'a>,
+    env: &mut Env<'a>,
+    notes: &mut Notes<'a>,
+    d: &'a Declaration,
+    of: Option<CType>,
+    list: &'a [Stmt],
+) -> Result<(), AllocError>
+    ensures { OnOk result ((unit.new, (env.new, notes.new))
+        ≡ spec.body_judged d.now of list.now (unit.old, (env.old, notes.old))) }
+{
+    let found = function(alloc, d, of, list, env, notes)?;
+    keep_function(unit, env, d.name.as_slice(), found)
+}
+
+/// Declares a function that is defined here, and judges its body.
 fn declare_definition<'a>(
     alloc: Global,
     definitions: &Definitions<'_>,
     unit: &mut UnitSoFar<'a>,
     env: &mut Env<'a>,
     notes: &mut Notes<'a>,
-    at: u32,
-    name: &'a [u8],
+    d: &'a Declaration,
     storage: Option<Storage>,
-    node: &TypeNode,
+    list: &'a [Stmt],
     ty: DeclaredType,
 ) -> Result<(), AllocError>
     ensures { OnOk result ((unit.new, (env.new, notes.new))
-        ≡ spec.definition definitions.now at name.now storage node.now ty (unit.old, (env.old, notes.old))) }
+        ≡ spec.definition definitions.now d.now storage list.now ty (unit.old, (env.old, notes.old))) }
 {
-    let ty = function_type(notes, at, ty)?;
-    see_definition(unit, name, &ty);
-    let ty = type_of_definition(notes, at, node, ty)?;
+    let ty = function_type(notes, d.at, ty)?;
+    see_definition(unit, d.name.as_slice(), &ty);
+    let ty = type_of_definition(notes, d.at, &d.ty, ty)?;
+    let of = result_of(alloc, &ty)?;
     declare_function(
         alloc,
         definitions,
         unit,
         env,
         notes,
-        at,
-        name,
+        d.at,
+        d.name.as_slice(),
         storage,
         true,
         ty,
-    )
+    )?;
+    judge_body(alloc, unit, env, notes, d, of, list)
 }
 
 fn function_with<'a>(
@@ -208,53 +243,76 @@ fn function_with<'a>(
     unit: &mut UnitSoFar<'a>,
     env: &mut Env<'a>,
     notes: &mut Notes<'a>,
-    at: u32,
-    name: &'a [u8],
+    d: &'a Declaration,
     storage: Option<Storage>,
-    node: &TypeNode,
     end: &'a FunctionEnd,
     ty: DeclaredType,
 ) -> Result<(), AllocError>
     ensures { OnOk result ((unit.new, (env.new, notes.new))
-        ≡ spec.function_with definitions.now at name.now storage node.now end.now ty (unit.old, (env.old, notes.old))) }
+        ≡ spec.function_with definitions.now d.now storage end.now ty (unit.old, (env.old, notes.old))) }
 {
+    let name = d.name.as_slice();
     match end {
         FunctionEnd::Nothing => {
-            declare_prototype(alloc, definitions, unit, env, notes, at, name, storage, ty)
+            declare_prototype(
+                alloc,
+                definitions,
+                unit,
+                env,
+                notes,
+                d.at,
+                name,
+                storage,
+                ty,
+            )
         }
         FunctionEnd::Init(init) => {
-            declare_prototype(alloc, definitions, unit, env, notes, at, name, storage, ty)?;
+            declare_prototype(
+                alloc,
+                definitions,
+                unit,
+                env,
+                notes,
+                d.at,
+                name,
+                storage,
+                ty,
+            )?;
             refuse_value(alloc, env, notes, init)
         }
-        FunctionEnd::Body(_) => {
+        FunctionEnd::Body(list) => {
             declare_definition(
                 alloc,
                 definitions,
                 unit,
                 env,
                 notes,
-                at,
-                name,
+                d,
                 storage,
-                node,
+                list.as_slice(),
                 ty,
             )
         }
     }
 }
 
+/// Judges what stands behind a declaration of a function that has a fault.
 fn judge_end<'a>(
     alloc: Global,
     env: &mut Env<'a>,
     notes: &mut Notes<'a>,
+    d: &'a Declaration,
     end: &'a FunctionEnd,
 ) -> Result<(), AllocError>
-    ensures { OnOk result ((env.new, notes.new) ≡ spec.end_judged end.now (env.old, notes.old)) }
+    ensures { OnOk result ((env.new, notes.new) ≡ spec.end_judged d.now end.now (env.old, notes.old)) }
 {
     match end {
         FunctionEnd::Nothing => Ok(()),
         FunctionEnd::Init(init) => judge_parts(alloc, env, notes, init),
-        FunctionEnd::Body(_) => Ok(()),
+        FunctionEnd::Body(list) => {
+            function(alloc, d, None, list.as_slice(), env, notes)?;
+            Ok(())
+        }
     }
 }
 
@@ -264,34 +322,29 @@ fn function_typed<'a>(
     unit: &mut UnitSoFar<'a>,
     env: &mut Env<'a>,
     notes: &mut Notes<'a>,
-    at: u32,
-    name: &'a [u8],
+    d: &'a Declaration,
     storage: Option<Storage>,
-    node: &TypeNode,
     end: &'a FunctionEnd,
     ty: Option<DeclaredType>,
 ) -> Result<(), AllocError>
     ensures { OnOk result ((unit.new, (env.new, notes.new))
-        ≡ spec.function_typed definitions.now at name.now storage node.now end.now ty (unit.old, (env.old, notes.old))) }
+        ≡ spec.function_typed definitions.now d.now storage end.now ty (unit.old, (env.old, notes.old))) }
 {
     match ty {
         None => {
-            declare(alloc, definitions, unit, env, notes, at, name, None)?;
-            judge_end(alloc, env, notes, end)
+            declare(
+                alloc,
+                definitions,
+                unit,
+                env,
+                notes,
+                d.at,
+                d.name.as_slice(),
+                None,
+            )?;
+            judge_end(alloc, env, notes, d, end)
         }
-        Some(ty) => function_with(
-            alloc,
-            definitions,
-            unit,
-            env,
-            notes,
-            at,
-            name,
-            storage,
-            node,
-            end,
-            ty,
-        ),
+        Some(ty) => { function_with(alloc, definitions, unit, env, notes, d, storage, end, ty) }
     }
 }
 
@@ -348,20 +401,7 @@ fn external<'a>(
             end,
         } => {
             let ty = declared_type(alloc, &d.ty, defined, env, notes, d.at)?;
-            let name = d.name.as_slice();
-            function_typed(
-                alloc,
-                definitions,
-                unit,
-                env,
-                notes,
-                d.at,
-                name,
-                *storage,
-                &d.ty,
-                end,
-                ty,
-            )
+            function_typed(alloc, definitions, unit, env, notes, d, *storage, end, ty)
         }
         External::Tags { ty, .. } => {
             declared_type(alloc, ty, defined, env, notes, 0)?;

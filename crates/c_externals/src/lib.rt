@@ -1,5 +1,5 @@
-//! What stands at file scope: each declaration with its type and its initialiser, and every fault that is in it (C99
-//! 6.7, 6.9). The bodies of functions are no part of it.
+//! What stands at file scope: each declaration with its type and its initialiser or body, and every fault that is in it
+//! (C99 6.7, 6.9).
 #![tactic(auto)]
 
 mod externals;
@@ -9,5 +9,5 @@ mod undefined;
 mod units;
 mod walk;
 
-pub use units::first_declaration_fault;
-pub use walk::UnitSoFar;
+pub use units::first_fault;
+pub use walk::{UnitFunction, UnitSoFar};

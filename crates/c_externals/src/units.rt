@@ -191,6 +191,7 @@ fn start<'a>(alloc: Global, definitions: &Definitions<'_>) -> Result<UnitState<'
         so_far: UnitSoFar {
             names,
             objects: Seq::new(alloc),
+            functions: Seq::new(alloc),
             has_main: false,
         },
         defined: Table::new(alloc),
@@ -222,13 +223,9 @@ fn judge_unit<'a>(
     end_unit(alloc, &mut state.notes, unit.length, state.so_far.has_main)
 }
 
-/// The first fault of a unit, but for those in the bodies of functions; `None` where there is none. It fails only where
-/// memory is short.
-pub fn first_declaration_fault(
-    alloc: Global,
-    unit: &TranslationUnit,
-) -> Result<Option<Fault>, AllocError>
-    ensures { IfOk result (λ r. r ≡ spec.first_declaration_fault unit.now) }
+/// The first fault of a unit; `None` where there is none. It fails only where memory is short.
+pub fn first_fault(alloc: Global, unit: &TranslationUnit) -> Result<Option<Fault>, AllocError>
+    ensures { IfOk result (λ r. r ≡ spec.first_fault unit.now) }
 {
     let definitions = find_definitions(alloc, unit.externals.as_slice())?;
     let mut state = start(alloc, &definitions)?;

@@ -9,10 +9,18 @@ use c_definitions::Definitions;
 use c_globals::{UnitObject, set_cells};
 use c_tree::{Name, Seq, Storage};
 use c_type_faults::Kind;
-use c_typed_tree::CType;
+use c_typed_tree::{CType, Callee, TypedFn};
 use c_unit_names::{NameDeclaration, UnitNames, declare_in_unit};
 use data_object::Cell;
 use std::alloc::{AllocError, Global};
+
+/// A function that the unit defines.
+#[derive(Drop)]
+pub struct UnitFunction {
+    /// Its number among the functions.
+    pub number: u32,
+    pub function: TypedFn,
+}
 
 /// What is known of a unit behind some of its declarations.
 #[derive(Drop)]
@@ -21,6 +29,8 @@ pub struct UnitSoFar<'a> {
     pub names: UnitNames<'a>,
     /// The objects that the unit defines, by their numbers.
     pub objects: Seq<UnitObject>,
+    /// The functions that the unit defines, in the order of their bodies, those that have no fault.
+    pub functions: Seq<UnitFunction>,
     /// Whether `main` is defined, as a function of type `int (void)`.
     pub has_main: bool,
 }
@@ -165,6 +175,58 @@ pub(crate) fn keep_cells(
         Some(cells) => match object_at(env, name) {
             None => {}
             Some(number) => set_cells(alloc, &mut unit.objects, number, cells),
+        },
+    }
+}
+
+fn function_called(callee: Callee) -> Option<u32>
+    ensures { result ≡ spec.function_called callee }
+{
+    match callee {
+        Callee::Function(number) => Some(number),
+        Callee::Builtin(_) => None,
+    }
+}
+
+/// The number of a function that the unit defines.
+fn function_by(meaning: Option<&Meaning>) -> Option<u32>
+    ensures { result ≡ spec.function_by (option_copied meaning.entry) }
+{
+    match meaning {
+        None => None,
+        Some(meaning) => match meaning {
+            Meaning::Faulty => None,
+            Meaning::Undefined(_) => None,
+            Meaning::Local { .. } => None,
+            Meaning::Object { .. } => None,
+            Meaning::Constant(_) => None,
+            Meaning::Function { callee, .. } => function_called(*callee),
+            Meaning::Typedef(_) => None,
+        },
+    }
+}
+
+/// The number of the function that a name means, if it is one that the unit defines.
+fn function_at(env: &Env<'_>, name: &[u8]) -> Option<u32>
+    ensures { result ≡ spec.function_at env.now name.now }
+{
+    function_by(meaning_of(env, name))
+}
+
+/// Keeps the function that a body makes, if it has no fault.
+pub(crate) fn keep_function(
+    unit: &mut UnitSoFar<'_>,
+    env: &Env<'_>,
+    name: &[u8],
+    found: Option<TypedFn>,
+) -> Result<(), AllocError>
+    ensures { OnOk result (unit.new ≡ spec.keep_function env.now name.now found unit.old) }
+{
+    match found {
+        None => Ok(()),
+        Some(function) => match function_at(env, name) {
+            None => Ok(()),
+            Some(number) => unit.functions.push(UnitFunction { number, function }),
         },
     }
 }

@@ -1,7 +1,7 @@
-//! Units with their first fault, but for those in the bodies of functions.
+//! Units with their first fault.
 
 use anyhow::{Result, bail, ensure};
-use c_externals::first_declaration_fault;
+use c_externals::first_fault;
 use c_lexer::TEXT_LIMIT;
 use c_parser::parse;
 use c_type_faults::Fault;
@@ -14,7 +14,7 @@ pub fn answer(alloc: Global, given: &str) -> Result<Vec<u8>> {
     ensure!(text.len() <= TEXT_LIMIT, "a text that is too long");
     let shown = match parse(alloc, text.as_slice()) {
         Err(_fault) => bail!("a text that has no tree"),
-        Ok(unit) => match first_declaration_fault(alloc, &unit)? {
+        Ok(unit) => match first_fault(alloc, &unit)? {
             None => "none\n".to_string(alloc)?,
             Some(Fault { at, kind }) => format!(in alloc; "{kind:?} {at}\n")?,
         },
