@@ -64,7 +64,7 @@ pointer_holds f m n target (Word k) w x h held rel is =
 pointer_holds f m n target (Address p) w x h held rel is = (memories_correspond f m n h).0.pointers p w is.0 rel ∙ ap Some (sym is.1)
 pointer_holds f m n target Unset w x h held rel is = absurd is
 
-holds_there : (f : Names) (m n : Memory) (ty : PlainType) (v w : Value) (x : Bool) → IsScalarType ty → IsMemoryOf f m n → IsHeld ty v → IsIn f ty v w → TestIs m v x → vm.value_holds n (register_type ty) w ≡ Some x
+pub holds_there : (f : Names) (m n : Memory) (ty : PlainType) (v w : Value) (x : Bool) → IsScalarType ty → IsMemoryOf f m n → IsHeld ty v → IsIn f ty v w → TestIs m v x → vm.value_holds n (register_type ty) w ≡ Some x
 holds_there f m n ty v w x (inl t) h held rel is =
     subst (λ z. vm.value_holds n (register_type z) w ≡ Some x) (sym t.1) (integer_holds f m n t.0 v w x h (subst (λ z. IsHeld z v) t.1 held) (subst (λ z. IsIn f z v w) t.1 rel) is)
 holds_there f m n ty v w x (inr t) h held rel is =

@@ -1,0 +1,8 @@
+//! Laws of the code of loops, each the contract of a function that does nothing.
+
+ghost use Rattle.lowering_loop_laws.specs.Laws.{LoopsMeet};
+
+/// The code of a `while` does what it does at each level, where that of its parts does at each level.
+pub fn loops_meet()
+    ensures { LoopsMeet }
+{}

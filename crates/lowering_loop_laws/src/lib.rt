@@ -1,0 +1,4 @@
+//! What the code of loops does, at each level, where the code of their parts does what they do.
+#![tactic(auto)]
+
+pub mod laws;
