@@ -1,19 +1,18 @@
 -- The code of a copy leaves the memory that the copy leaves.
-use Rattle.std.proofs.Common.{◌≡◌, ◌≢◌, ℕ, zero, suc, ◌+◌, ◌*◌, ◌/◌, ◌%◌, ◌<◌, ◌≤◌, ◌⊎◌, List, [], ◌∷◌, ◌++◌, length, Bool, true, false, ℤ, pos, negsuc, Option, Some, None, Ok, Err, refl, sym, ap, ◌∙◌, subst, arith, inl, inr, eq-eqb, lt-ltb, ltb-false, length-append}
+use Rattle.std.proofs.Common.{◌≡◌, ◌≢◌, ℕ, zero, suc, ◌+◌, ◌*◌, ◌/◌, ◌%◌, ◌<◌, ◌≤◌, ◌⊎◌, List, ◌∷◌, ◌++◌, length, Bool, true, false, ℤ, pos, negsuc, Some, Ok, Err, refl, sym, ap, ◌∙◌, subst, arith, inl, inr, eq-eqb, lt-ltb, ltb-false}
 use Rattle.std.specs.Prelude.{if◌then◌else◌, ◌==◌, ◌&&◌, ◌||◌, not, nat_lt, Result}
 use Rattle.std.proofs.lemmas.Bool.{eqb-true, cases_eq, cases_lt, ne_eqb}
-use Rattle.mem_model.specs.declared.value.Value.{Value}
 use Rattle.mem_model.specs.declared.value.Value.TheVariants.{Word, Address, Unset}
 use Rattle.mem_model.specs.declared.value.Ptr.{Ptr}
 use Rattle.mem_model.specs.declared.value.MemFault.{MemFault}
-use Rattle.mem_model.specs.Memory.{Memory, object_at, place_of, is_within, is_gone, is_outside, is_misaligned, is_read_only, overlaps, copy_at, row_at, put_row}
+use Rattle.mem_model.specs.Memory.{Memory, object_at, is_within, is_gone, is_outside, is_misaligned, overlaps, copy_at, row_at, put_row}
 use Rattle.mem_model.specs.World.{Outer, outer_with_memory}
 use Rattle.mem_model.proofs.Accesses.{put_row-nothing}
 use Rattle.mem_model.proofs.Changes.{copy_at-ok}
 use Rattle.suifvm_ir.specs.declared.types.Alignment.{Alignment}
 use Rattle.suifvm_ir.specs.declared.types.Alignment.TheVariants.{One, Two, Four, Eight}
 use Rattle.suifvm_ir.specs.Programs.{alignment_bytes}
-use Rattle.vm_meaning.specs.Operations.{ok_of, copied_memory}
+use Rattle.vm_meaning.specs.Operations.{ok_of}
 use Rattle.temp_ir.specs.declared.operation.AddressOp.TheVariants.{Lda}
 use Rattle.temp_ir.specs.declared.insn.Source.TheVariants as source
 use Rattle.temp_ir.specs.declared.insn.TempInsn.{TempInsn}
@@ -22,7 +21,7 @@ use Rattle.alloc_model.specs.Contents.{Content, Plain, content_of, extended_cont
 use Rattle.alloc_model.specs.Stores.{put, without}
 use Rattle.alloc_model.specs.Effect.{Temp, holder_eq, is_emptied, writes, changes}
 use Rattle.alloc_model.specs.Temporaries.{Temps}
-use Rattle.alpha_forms.specs.Straight.{Ran, After, goes_with, runs}
+use Rattle.alpha_forms.specs.Straight.{After, goes_with, runs}
 use Rattle.alpha_forms.specs.Registers.{IsOfRegister, HasBytes, PutsMemory, ComesToMemory}
 use Rattle.alpha_copies.specs.Copies.{part_load, part_store, part_items, moved_items, reach, parts_items, copy_items}
 use Rattle.alpha_copies.specs.Laws.{CopiesAreDone, CopiesAreShort}

@@ -1,5 +1,5 @@
 -- Rows behind rows.
-use Rattle.std.proofs.Common.{◌≡◌, ℕ, ◌+◌, ◌≤◌, ◌++◌, List, length, take, drop, refl, sym, ap, ◌∙◌, arith, length-append}
+use Rattle.std.proofs.Common.{◌≡◌, ℕ, ◌+◌, ◌≤◌, ◌++◌, List, length, take, drop, sym, ap, ◌∙◌, arith, length-append}
 use Rattle.std.proofs.lemmas.List.{append_assoc, take_at, drop_at, length-take-le, drop-drop}
 use Rattle.mem_model.specs.declared.value.Cell.{Cell}
 use Rattle.mem_model.specs.Cells.{with_row}

@@ -1,17 +1,17 @@
 -- One part of a copy: what was loaded is stored as it was, also where it is a pointer, a piece of one or unwritten cells.
-use Rattle.std.proofs.Common.{◌≡◌, ◌≢◌, ℕ, zero, suc, ◌+◌, ◌*◌, ◌/◌, ◌%◌, ◌^◌, ◌<◌, ◌≤◌, ◌⊎◌, List, [], ◌∷◌, ◌++◌, length, take, drop, Bool, true, false, ℤ, pos, negsuc, ◌+ℤ◌, Option, Some, None, Ok, Err, refl, sym, ap, ◌∙◌, subst, arith, inl, inr, eq-eqb, le-ltb, lt-ltb, take-add}
-use Rattle.std.specs.Prelude.{if◌then◌else◌, ◌==◌, ◌&&◌, not, nat_lt, slice_set, option_map, option_and_then}
+use Rattle.std.proofs.Common.{◌≡◌, ◌≢◌, ℕ, ◌+◌, ◌/◌, ◌%◌, ◌^◌, ◌≤◌, ◌⊎◌, List, [], ◌∷◌, ◌++◌, length, take, drop, Bool, true, false, pos, Option, Some, None, refl, sym, ap, ◌∙◌, arith, inl, inr, eq-eqb, le-ltb, take-add}
+use Rattle.std.specs.Prelude.{if◌then◌else◌, ◌&&◌, not, nat_lt, slice_set, option_map, option_and_then}
 use Rattle.std.specs.Int.{w32}
 use Rattle.std.proofs.lemmas.Option.{none-some, same_Some}
 use Rattle.std.proofs.lemmas.List.{drop-drop, set-set}
 use Rattle.mem_model.specs.declared.value.Value.{Value}
-use Rattle.mem_model.specs.declared.value.Value.TheVariants.{Word, Address, Unset}
+use Rattle.mem_model.specs.declared.value.Value.TheVariants.{Word, Address}
 use Rattle.mem_model.specs.declared.value.Ptr.{Ptr}
 use Rattle.mem_model.specs.declared.value.Cell.{Cell}
 use Rattle.mem_model.specs.declared.value.MemFault.TheVariants.{NoObject, Outside, Misaligned, ReadOnly}
-use Rattle.mem_model.specs.Memory.{Memory, Object, object_at, is_within, is_gone, is_outside, is_misaligned, is_read_only, first_fault, read_fault, write_fault, row_at, put_row}
+use Rattle.mem_model.specs.Memory.{Memory, Object, object_at, is_gone, is_outside, is_misaligned, is_read_only, first_fault, read_fault, row_at, put_row}
 use Rattle.mem_model.specs.Cells.{bytes_of, parts_of, number_of, pointer_of, first_pointer, cells_eq, with_row}
-use Rattle.mem_model.specs.Pointers.{is_live, is_offset, size_at, pointer_plus}
+use Rattle.mem_model.specs.Pointers.{is_offset, pointer_plus}
 use Rattle.mem_model.specs.Laws.{ChangesCells, Apart}
 use Rattle.mem_model.proofs.RowValues.{cells_eq-true, cell_eq-true}
 use Rattle.mem_model.proofs.RowLaws.{length-row}

@@ -30,7 +30,7 @@ use Rattle.suifvm_ir.specs.declared.insn.UnaryOp.TheVariants.{Move, Negate, Comp
 use Rattle.suifvm_ir.specs.declared.insn.BinaryOp.TheVariants.{Add, Subtract, Multiply, And, Or, ExclusiveOr}
 use Rattle.vm_meaning.specs.declared.answer.Answer as vm
 use Rattle.vm_meaning.specs.declared.answer.Answer.TheVariants as v
-use Rattle.vm_meaning.specs.Operations.{integer_of, on_number, on_numbers, outcome_answer, word_answer, value_answer, distance_answer, unary_answer, binary_answer}
+use Rattle.vm_meaning.specs.Operations.{on_number, on_numbers, outcome_answer, word_answer, value_answer, distance_answer, unary_answer, binary_answer}
 use Rattle.temp_ir.specs.declared.operation.Operation.TheVariants as o
 use Rattle.alloc_model.specs.Contents as contents
 use Rattle.alloc_model.specs.Contents.{Content, Plain, word, Answer, Gives, distance_word, content_answer, effect_answer, operate_answer}

@@ -1,5 +1,5 @@
 -- Constants, addresses and branches.
-use Rattle.std.proofs.Common.{◌≡◌, ℕ, zero, suc, ◌^◌, ◌<◌, List, [], ◌∷◌, Bool, true, false, Option, Some, None, refl, sym, ap, ◌∙◌}
+use Rattle.std.proofs.Common.{◌≡◌, ℕ, zero, suc, List, [], ◌∷◌, Bool, true, false, Option, Some, None, refl, ap, ◌∙◌}
 use Rattle.std.specs.Prelude.{◌==◌, not, option_map, if◌then◌else◌}
 use Rattle.std.proofs.lemmas.Option.{none-some, same_Some}
 use Rattle.mem_model.specs.declared.value.Value.{Value}
@@ -10,14 +10,13 @@ use Rattle.mem_model.specs.World.{Outer}
 use Rattle.c_arithmetic.specs.declared.integer_type.IntegerType.{IntegerType}
 use Rattle.c_arithmetic.specs.declared.integer_type.IntegerType.TheVariants.{Int, UnsignedInt, Long, UnsignedLong}
 use Rattle.c_arithmetic.specs.Words.{is_word}
-use Rattle.suifvm_ir.specs.declared.types.VmType.{VmType}
 use Rattle.suifvm_ir.specs.declared.types.VmType.TheVariants.{S32, U32, S64, U64, P64}
 use Rattle.suifvm_ir.specs.declared.insn.BranchOp.{BranchOp}
 use Rattle.suifvm_ir.specs.declared.insn.BranchOp.TheVariants.{IfTrue, IfFalse}
 use Rattle.suifvm_ir.specs.declared.insn.Place.{Place}
 use Rattle.suifvm_ir.specs.declared.insn.Place.TheVariants.{Global, Local}
 use Rattle.vm_meaning.specs.declared.answer.Answer.TheVariants as v
-use Rattle.vm_meaning.specs.Operations.{is_value_of, when_value, place_address, number_holds, value_holds}
+use Rattle.vm_meaning.specs.Operations.{is_value_of, place_address, number_holds}
 use Rattle.vm_meaning.specs.Effect.{is_taken}
 use Rattle.temp_ir.specs.declared.insn.TempInsn.{TempInsn}
 use Rattle.temp_ir.specs.declared.insn.TempInsn.TheVariants.{ObjectAddress}

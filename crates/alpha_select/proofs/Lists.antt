@@ -1,5 +1,5 @@
 -- Turns of the loop over functions.
-use Rattle.std.proofs.Common.{◌≡◌, ℕ, zero, suc, ◌+◌, ◌<◌, List, [], ◌∷◌, ◌++◌, length, take, get_or, All, refl, sym, ap, ◌∙◌, subst, arith}
+use Rattle.std.proofs.Common.{◌≡◌, ℕ, zero, suc, ◌+◌, ◌<◌, List, [], ◌∷◌, ◌++◌, length, take, get_or, All, sym, ap, ◌∙◌, subst, arith}
 use Rattle.suifvm_ir.specs.Programs.{VmFunction}
 use Rattle.temp_ir.specs.Programs.{TempFn}
 use Rattle.alpha_select.specs.Selection.{IsSelectedFunction, AreSelected}

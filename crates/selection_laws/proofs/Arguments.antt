@@ -1,13 +1,13 @@
 -- The arguments of a call are handed over, and the called function has them in its registers.
-use Rattle.std.proofs.Common.{◌≡◌, ◌≢◌, ℕ, zero, suc, ◌+◌, ◌-◌, ◌<◌, ◌≤◌, ◌⊎◌, inl, inr, List, [], ◌∷◌, ◌++◌, length, map, min, take, Bool, true, false, refl, sym, ap, ◌∙◌, subst, arith}
+use Rattle.std.proofs.Common.{◌≡◌, ℕ, zero, suc, ◌+◌, ◌-◌, ◌<◌, ◌≤◌, ◌⊎◌, inl, inr, List, [], ◌∷◌, ◌++◌, length, map, min, take, Bool, true, false, refl, sym, ap, ◌∙◌, subst, arith}
 use Rattle.std.specs.Prelude.{◌==◌, nat_lt, slice_index_or, if◌then◌else◌}
-use Rattle.std.specs.List.{range_with_len, list_all}
+use Rattle.std.specs.List.{range_with_len}
 use Rattle.std.proofs.Common.{eq-eqb, lt-ltb, le-ltb, ltb-true, ltb-false}
 use Rattle.std.proofs.lemmas.Bool.{ne_eqb}
 use Rattle.mem_model.specs.declared.value.Value.{Value}
 use Rattle.mem_model.specs.declared.value.Value.TheVariants.{Word, Address, Unset}
 use Rattle.mem_model.specs.World.{Outer}
-use Rattle.machine_model.specs.Code.{Act, Writes}
+use Rattle.machine_model.specs.Code.{Writes}
 use Rattle.vm_meaning.specs.Operations.{is_set}
 use Rattle.vm_meaning.specs.Behave.{registers_of}
 use Rattle.temp_ir.specs.declared.insn.TempInsn.{TempInsn}
@@ -18,7 +18,7 @@ use Rattle.alloc_model.specs.Contents.{Content, Plain, Gives, unset}
 use Rattle.alloc_model.specs.Stores.{without, put, put_all, empty}
 use Rattle.alloc_model.specs.Effect.{Holder, Temp, Fixed, Incoming, Outgoing, holder_eq, argument_places, entry_holders, argument_answer, writes, fails, holders_read, holders_written, is_call, is_emptied, does, takes_turn}
 use Rattle.alloc_model.specs.Temporaries.{Temps}
-use Rattle.alpha_forms.specs.Straight.{Ran, NotStraight, goes_with, runs}
+use Rattle.alpha_forms.specs.Straight.{NotStraight, goes_with, runs}
 use Rattle.alpha_forms.proofs.Runs.{without_plain}
 use Rattle.selection_code.specs.Instructions.{temp_of, argument_register, pass_item, pass_items, take_item, take_items}
 

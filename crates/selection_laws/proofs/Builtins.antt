@@ -1,13 +1,13 @@
 -- The steps of marks, jumps, branches and calls of built-in functions.
-use Rattle.std.proofs.Common.{◌≡◌, ℕ, zero, suc, ◌+◌, ◌%◌, ◌^◌, ◌<◌, List, [], ◌∷◌, ◌++◌, length, map, drop, Bool, true, false, Option, Some, None, refl, sym, ap, ◌∙◌, subst, arith, All}
+use Rattle.std.proofs.Common.{◌≡◌, ℕ, zero, suc, ◌%◌, ◌^◌, ◌<◌, List, [], ◌∷◌, ◌++◌, map, drop, Bool, true, false, Option, Some, None, refl, sym, ap, ◌∙◌, subst, arith, All}
 use Rattle.std.specs.Prelude.{slice_get, pos, if◌then◌else◌}
 use Rattle.std.specs.List.{list_all}
 use Rattle.mem_model.specs.declared.value.Value.{Value}
 use Rattle.mem_model.specs.declared.value.Value.TheVariants.{Word, Address, Unset}
-use Rattle.mem_model.specs.World.{Outer, Meter, World, Rooms, take_byte, put_byte, next_byte}
-use Rattle.mem_model.specs.Ending.{Ending, Done, Trap, Undefined, More}
+use Rattle.mem_model.specs.World.{Meter, World, Rooms, take_byte, put_byte, next_byte}
+use Rattle.mem_model.specs.Ending.{Ending, Done, Trap}
 use Rattle.machine_model.specs.Code.{Exits, Traps, HasNoMeaning, Act, Writes, Jumps, Stops}
-use Rattle.machine_model.specs.Machine.{Frame, Config, Next, Goes, Over, world_of, act_on, go_on, exec}
+use Rattle.machine_model.specs.Machine.{Frame, Over, world_of, act_on, go_on, exec}
 use Rattle.alpha_isa.specs.Step as isa
 use Rattle.suifvm_ir.specs.declared.types.VmType.{VmType}
 use Rattle.suifvm_ir.specs.declared.types.VmType.TheVariants.{S64}
@@ -21,7 +21,7 @@ use Rattle.suifvm_ir.specs.Insns.{named_register}
 use Rattle.suifvm_ir.specs.Programs.{VmFunction}
 use Rattle.vm_meaning.specs.Operations.{is_set, value_holds}
 use Rattle.vm_meaning.specs.Effect.{is_taken, branches, input_word, puts_char, exits, fails}
-use Rattle.vm_meaning.specs.Behave.{Registers, set_register, set_registers, code_of, insn_site, vm_code}
+use Rattle.vm_meaning.specs.Behave.{Registers, set_registers, code_of, insn_site, vm_code}
 use Rattle.temp_ir.specs.declared.operation.Service.TheVariants as service
 use Rattle.temp_ir.specs.declared.insn.FixedRegister.TheVariants as fixed
 use Rattle.temp_ir.specs.declared.insn.TempInsn.{TempInsn}
@@ -31,7 +31,7 @@ use Rattle.alloc_model.specs.Stores.{put, without}
 use Rattle.alloc_model.specs.Effect.{Temp, Fixed, holder_eq, holders_read, is_emptied, widest_call}
 use Rattle.alloc_model.specs.Effect as temps
 use Rattle.alloc_model.specs.Temporaries.{Temps, temp_site, temp_code}
-use Rattle.alpha_forms.specs.Straight.{After, runs}
+use Rattle.alpha_forms.specs.Straight.{runs}
 use Rattle.alpha_forms.specs.Registers.{IsHeld, PutsValue}
 use Rattle.alpha_forms.specs.Operations.{branch_op}
 use Rattle.alpha_forms.proofs.Done.{conversions_done}

@@ -1,15 +1,15 @@
 -- The steps of calls of functions and of returns.
-use Rattle.std.proofs.Common.{◌≡◌, ℕ, zero, suc, ◌+◌, ◌<◌, ◌≤◌, max, List, [], ◌∷◌, ◌++◌, length, map, Bool, true, false, Option, Some, None, refl, sym, ap, ◌∙◌, subst, arith}
+use Rattle.std.proofs.Common.{◌≡◌, ℕ, zero, suc, ◌+◌, ◌≤◌, max, List, [], ◌∷◌, ◌++◌, length, map, Bool, true, false, Option, Some, None, refl, sym, ap, ◌∙◌, subst, arith}
 use Rattle.std.specs.Prelude.{◌&&◌, ◌%◌, slice_get, option_map, if◌then◌else◌}
 use Rattle.std.specs.List.{list_all}
 use Rattle.std.proofs.lemmas.Option.{none-some, same_Some}
 use Rattle.std.proofs.lemmas.List.{append_assoc, length-map}
 use Rattle.mem_model.specs.declared.value.Value.{Value}
 use Rattle.mem_model.specs.declared.value.Value.TheVariants.{Word, Address, Unset}
-use Rattle.mem_model.specs.World.{Outer, Meter, World, Rooms, enter_call, leave_call}
-use Rattle.mem_model.specs.Ending.{Ending, Done, Trap, Undefined, More}
-use Rattle.machine_model.specs.Code.{HasNoMeaning, Act, Writes, Calls, Returns, Stops}
-use Rattle.machine_model.specs.Machine.{Frame, Config, Next, Goes, Over, world_of, begin_locals, end_locals, act_on, go_on, exec, resume, return_to, status_ending}
+use Rattle.mem_model.specs.World.{Meter, World, Rooms, enter_call, leave_call}
+use Rattle.mem_model.specs.Ending.{Ending, Done}
+use Rattle.machine_model.specs.Code.{Calls, Returns}
+use Rattle.machine_model.specs.Machine.{Frame, Over, world_of, begin_locals, end_locals, act_on, go_on, exec, resume, return_to, status_ending}
 use Rattle.suifvm_ir.specs.declared.insn.Callee.TheVariants as callee
 use Rattle.suifvm_ir.specs.declared.insn.TypedRegister.{TypedRegister}
 use Rattle.suifvm_ir.specs.declared.insn.VmInsn.{VmInsn}
@@ -25,7 +25,6 @@ use Rattle.alloc_model.specs.Contents.{Content, Plain}
 use Rattle.alloc_model.specs.Stores as stores
 use Rattle.alloc_model.specs.Stores.{put, put_all, without, empty}
 use Rattle.alloc_model.specs.Effect.{Temp, Fixed, Outgoing, holder_eq, holders_read, is_emptied, entry_holders, width_of, widest_in, widest_call}
-use Rattle.alloc_model.specs.Effect as temps
 use Rattle.alloc_model.specs.Temporaries.{Temps, temp_site, temp_code}
 use Rattle.alloc_model.specs.Temporaries as alloc
 use Rattle.alpha_forms.specs.Straight.{After, runs}
@@ -35,8 +34,8 @@ use Rattle.selection_code.specs.Functions.{insns_items, parameter_items, functio
 use Rattle.selection_laws.specs.Selected.{selected_code}
 use Rattle.selection_laws.specs.Laws.{IsDefined}
 use Rattle.selection_laws.proofs.Memories.{bytes_begins, bytes_ends}
-use Rattle.selection_laws.proofs.Machines.{Placed, next_place, Standing, next_standing, site_there, Comes, comes_then, CameBehind, Came, straight}
-use Rattle.selection_laws.proofs.Arguments.{holders_of, registers_and_places, out_order, never_out, fixed_out, out_temp, temp_out, Passed, passed, AllSet, Entered, enters}
+use Rattle.selection_laws.proofs.Machines.{next_place, Standing, next_standing, site_there, comes_then, Came, straight}
+use Rattle.selection_laws.proofs.Arguments.{registers_and_places, out_order, never_out, fixed_out, out_temp, temp_out, Passed, passed, AllSet, Entered, enters}
 use Rattle.selection_laws.proofs.Steps.{first_block, IsOrdinary, vm_conf, temp_conf, Here, Waits, none, more, Simulates, Reaches, NextReaches, is_over, never_undefined, same_ending, vm_number, temp_number, vm_site, lost, result_tail, vm_acts, turn_step, last_step}
 
 -- ---- lists

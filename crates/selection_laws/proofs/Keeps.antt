@@ -1,14 +1,13 @@
 -- Selection keeps the meaning.
 use Rattle.std.proofs.Common.{◌≡◌, ℕ, zero, suc, ◌+◌, ◌<◌, List, [], ◌∷◌, ◌++◌, length, map, Bool, true, false, Option, Some, None, refl, sym, ap, ◌∙◌, subst, arith, All, cond, not, lt-ltb}
-use Rattle.std.specs.Prelude.{nat_lt, IsTrue, ◌==◌, slice_get, option_map, position, unwrap_or, count_by, bytes_eq, codes}
+use Rattle.std.specs.Prelude.{nat_lt, IsTrue, slice_get, option_map, position, unwrap_or, bytes_eq, codes}
 use Rattle.std.specs.List.{position_or_len}
 use Rattle.std.proofs.lemmas.Bool.{eqb-true}
 use Rattle.std.proofs.lemmas.List.{length-map}
 use Rattle.std.proofs.lemmas.List.Sums.{sum_by-cons}
-use Rattle.std.proofs.lemmas.Option.{none-some, same_Some, slice_get-map}
+use Rattle.std.proofs.lemmas.Option.{same_Some, slice_get-map}
 use Rattle.mem_model.specs.declared.value.Value.{Value}
-use Rattle.mem_model.specs.Memory.{Memory}
-use Rattle.mem_model.specs.World.{Outer, World, Rooms, enter_call}
+use Rattle.mem_model.specs.World.{World, Rooms, enter_call}
 use Rattle.mem_model.specs.Ending.{Ending}
 use Rattle.machine_model.specs.Machine.{Frame, Over, world_of, begin_locals, exec, start}
 use Rattle.machine_model.proofs.Runs.{one_ending}
@@ -17,26 +16,23 @@ use Rattle.suifvm_ir.specs.declared.insn.Callee.{Callee}
 use Rattle.suifvm_ir.specs.declared.insn.Callee.TheVariants as callee
 use Rattle.suifvm_ir.specs.declared.insn.VmInsn.{VmInsn}
 use Rattle.suifvm_ir.specs.declared.insn.VmInsn.TheVariants as x
-use Rattle.suifvm_ir.specs.declared.program.VmProgram.{VmProgram}
 use Rattle.suifvm_ir.specs.Insns.{targets_of}
 use Rattle.suifvm_ir.specs.Functions.{AllInsns, GoesToBlocks}
 use Rattle.suifvm_ir.specs.Programs.{VmFunction, is_main, main_count, function_takes, callee_takes, names_what_is_there, IsLawfulFunction}
 use Rattle.data_object.specs.declared.DataObject.{DataObject}
-use Rattle.vm_meaning.specs.Behave.{Registers, registers_of, FunctionCode, code_of, sizes_in, site_in_function, vm_code, vm_run, start_world, main_of, behave_vm}
-use Rattle.temp_ir.specs.declared.program.TempProgram.{TempProgram}
+use Rattle.vm_meaning.specs.Behave.{Registers, registers_of, code_of, sizes_in, site_in_function, vm_code, vm_run, start_world, main_of}
 use Rattle.temp_ir.specs.Programs as temps
 use Rattle.alloc_model.specs.Effect.{holder_eq, entry_holders}
 use Rattle.alloc_model.specs.Stores.{put_all, empty}
-use Rattle.alloc_model.specs.Contents.{Content, Plain}
+use Rattle.alloc_model.specs.Contents.{Content}
 use Rattle.alloc_model.specs.Temporaries.{Temps, TempsEnd, temp_run}
 use Rattle.alloc_model.specs.Temporaries as alloc
-use Rattle.alpha_forms.specs.Registers.{HasBytes}
 use Rattle.selection_code.specs.Fields.{HasFields}
-use Rattle.selection_laws.specs.Selected.{selected_code, IsSelected}
-use Rattle.selection_laws.specs.Laws.{IsDefined, EndsSo, SelectionKeeps, SelectedPrograms}
+use Rattle.selection_laws.specs.Selected.{selected_code}
+use Rattle.selection_laws.specs.Laws.{IsDefined, SelectedPrograms}
 use Rattle.selection_laws.proofs.Memories.{bytes_begins, start_has_bytes}
-use Rattle.selection_laws.proofs.Machines.{all_get, read_behind, Placed, Comes}
-use Rattle.selection_laws.proofs.Steps.{IsOrdinary, vm_conf, temp_conf, Here, Waits, none, Simulates, Reaches, vm_number, temp_number, lost, behind_block}
+use Rattle.selection_laws.proofs.Machines.{all_get, read_behind, Placed}
+use Rattle.selection_laws.proofs.Steps.{IsOrdinary, vm_conf, temp_conf, Here, Waits, none, Simulates, Reaches, lost, behind_block}
 use Rattle.selection_laws.proofs.Operations.{constant_step, address_step, load_step, store_step, copy_step, unary_step, binary_step, shift_step, convert_step, compare_step}
 use Rattle.selection_laws.proofs.Builtins.{nop_step, mark_step, jump_step, branch_step, put_char_step, get_char_step, abort_step, exit_step}
 use Rattle.selection_laws.proofs.Calls.{same_sizes, enter_function, function_step, return_step}

@@ -1,5 +1,5 @@
 -- How many instructions the code has.
-use Rattle.std.proofs.Common.{◌≡◌, ℕ, zero, suc, ◌+◌, ◌*◌, ◌≤◌, List, [], ◌∷◌, ◌++◌, length, map, sum_by, Bool, true, false, ℤ, pos, Option, Some, None, refl, sym, ap, ◌∙◌, subst, arith, length-append}
+use Rattle.std.proofs.Common.{◌≡◌, ℕ, zero, suc, ◌+◌, ◌*◌, ◌≤◌, List, [], ◌∷◌, ◌++◌, length, map, sum_by, Bool, true, false, ℤ, pos, Option, Some, None, refl, ap, ◌∙◌, arith, length-append}
 use Rattle.std.specs.Prelude.{if◌then◌else◌}
 use Rattle.std.proofs.lemmas.List.{length-map}
 use Rattle.std.proofs.lemmas.List.Sums.{sum_by-cons}
@@ -22,7 +22,7 @@ use Rattle.suifvm_ir.specs.declared.insn.TypedRegister.{TypedRegister}
 use Rattle.suifvm_ir.specs.declared.insn.VmInsn.{VmInsn}
 use Rattle.suifvm_ir.specs.declared.insn.VmInsn.TheVariants as x
 use Rattle.suifvm_ir.specs.Functions.{count_of}
-use Rattle.suifvm_ir.specs.Programs.{VmFunction, weight_of, function_size, program_size}
+use Rattle.suifvm_ir.specs.Programs.{weight_of}
 use Rattle.temp_ir.specs.declared.operation.Operation.TheVariants.{Addq}
 use Rattle.temp_ir.specs.declared.insn.Source.TheVariants as source
 use Rattle.temp_ir.specs.declared.insn.Operand.TheVariants as operand

@@ -1,25 +1,23 @@
 -- Where both machines stand, and what straight code over temporaries makes the one of them do.
-use Rattle.std.proofs.Common.{◌≡◌, ℕ, zero, suc, ◌+◌, ◌<◌, List, [], ◌∷◌, ◌++◌, length, map, Bool, true, false, Option, Some, None, refl, sym, ap, ◌∙◌, subst, arith, length-append, All}
-use Rattle.std.specs.Prelude.{◌&&◌, ◌==◌, slice_get, slice_index_or, option_map, if◌then◌else◌}
+use Rattle.std.proofs.Common.{◌≡◌, ℕ, zero, suc, ◌+◌, List, [], ◌∷◌, ◌++◌, length, map, Bool, true, false, Option, Some, None, refl, sym, ap, ◌∙◌, subst, arith, length-append, All}
+use Rattle.std.specs.Prelude.{◌&&◌, ◌==◌, slice_get, if◌then◌else◌}
 use Rattle.std.specs.List.{list_all}
 use Rattle.std.proofs.Common.{eq-eqb}
 use Rattle.std.proofs.lemmas.Bool.{and_from}
-use Rattle.std.proofs.lemmas.Option.{none-some, same_Some, slice_get_within, slice_get_past, get_or_from_slice_get}
+use Rattle.std.proofs.lemmas.Option.{none-some, same_Some, slice_get_within, get_or_from_slice_get}
 use Rattle.std.proofs.lemmas.List.{append_assoc}
 use Rattle.std.proofs.lemmas.List.Folds.{list_all-append}
 use Rattle.mem_model.specs.World.{Outer, Meter, World, Rooms}
-use Rattle.mem_model.specs.Ending.{Ending, Done, Trap, Undefined, More}
-use Rattle.machine_model.specs.Code.{Stop, Exits, Traps, HasNoMeaning, Act, Writes, Jumps, Calls, Returns, Stops, Site, Point, Code}
+use Rattle.machine_model.specs.Code.{Stop, Act, Writes, Jumps, Calls, Returns, Stops, Code}
 use Rattle.machine_model.specs.Machine.{Frame, Config, Next, Goes, Over, world_of, turn_if, stop_ending, act_on, step_with, step_at, step, go_on, exec}
 use Rattle.machine_model.proofs.Runs.{steps_add_up}
 use Rattle.suifvm_ir.specs.Functions.{last_of}
-use Rattle.suifvm_ir.specs.declared.insn.VmInsn.{VmInsn}
 use Rattle.temp_ir.specs.declared.insn.TempInsn.{TempInsn}
 use Rattle.temp_ir.specs.declared.insn.TempInsn.TheVariants as i
 use Rattle.temp_ir.specs.Insns.{flows_on_of}
 use Rattle.alloc_model.specs.Contents.{Content}
 use Rattle.alloc_model.specs.Stores.{without, put_all}
-use Rattle.alloc_model.specs.Effect.{Holder, holder_eq, holders_read, holders_written, is_emptied, widest_call, does, takes_turn}
+use Rattle.alloc_model.specs.Effect.{holder_eq, holders_read, holders_written, is_emptied, widest_call, does, takes_turn}
 use Rattle.alloc_model.specs.Temporaries.{FunctionCode, Temps, blocks_in, temp_site, next_site, flows_out, goes_on, is_left_at, next_if, site_or_next, site_in, temp_site_at, temp_code}
 use Rattle.alpha_forms.specs.Straight.{Ran, After, Halted, NotStraight, goes_with, runs}
 

@@ -1,8 +1,7 @@
 -- The bytes of a memory stay below 256.
-use Rattle.std.proofs.Common.{◌≡◌, ◌≢◌, ℕ, zero, suc, ◌+◌, ◌<◌, ◌≤◌, List, [], ◌∷◌, ◌++◌, length, replicate, map, Bool, true, false, ℤ, Option, Some, None, Result, Ok, Err, refl, sym, ap, ◌∙◌, subst, arith, inl, inr, length-append, length-set, All}
-use Rattle.std.specs.Prelude.{slice_get, slice_set, slice_index_or, ◌||◌, ◌-◌, if◌then◌else◌}
+use Rattle.std.proofs.Common.{◌≡◌, ℕ, zero, suc, ◌+◌, List, [], ◌∷◌, ◌++◌, length, replicate, map, true, ℤ, Option, Some, None, Result, Ok, Err, refl, sym, ◌∙◌, subst, arith, inl, inr, length-append, length-set, All}
+use Rattle.std.specs.Prelude.{slice_get, ◌-◌}
 use Rattle.std.proofs.lemmas.Bool.{cases_eq, cases_lt}
-use Rattle.std.proofs.lemmas.Option.{none-some, same_Some}
 use Rattle.std.proofs.lemmas.List.{get_or-set_other, get_or-set_same, get_or_push, get_or_append_left, get_or_past}
 use Rattle.mem_model.specs.declared.value.Value.{Value}
 use Rattle.mem_model.specs.declared.value.Value.TheVariants.{Word, Address, Unset}
@@ -14,7 +13,7 @@ use mathlib.Core.HLevel.{Π_prop, ×_prop}
 use native.Mathlib.Bridge.{le_prop}
 use Rattle.mem_model.specs.declared.value.MemFault.{MemFault}
 use Rattle.mem_model.specs.Cells.{cells_of}
-use Rattle.mem_model.specs.Memory.{Memory, Object, object_at, no_object, fresh_object, begin_object, begin_objects, end_object, end_objects, is_gone, is_outside, store_at, copy_at, put_row, row_at, IsStorable}
+use Rattle.mem_model.specs.Memory.{Memory, Object, object_at, no_object, fresh_object, begin_object, begin_objects, end_object, end_objects, store_at, copy_at, row_at, IsStorable}
 use Rattle.mem_model.proofs.Changes.{store_at-ok, copy_is, outside-stands, length-bytes_of}
 use Rattle.mem_model.proofs.RowValues.{length-parts_of}
 use Rattle.data_object.specs.declared.DataObject.{DataObject}
@@ -23,9 +22,8 @@ use Rattle.data_object.specs.declared.Cell.TheVariants.{Byte, AddressPart}
 use Rattle.data_object.specs.Globals.{IsLawfulCell, IsLawfulObject, AreLawful}
 use Rattle.data_object.specs.Start.{memory_cell, start_object, start_memory}
 use Rattle.c_arithmetic.specs.declared.integer_type.IntegerType.{IntegerType}
-use Rattle.c_arithmetic.specs.declared.integer_type.IntegerType.TheVariants.{Char, UnsignedChar, Short, UnsignedShort, Int, UnsignedInt, Long, UnsignedLong}
 use Rattle.suifvm_ir.specs.declared.types.MemoryType.{MemoryType}
-use Rattle.vm_meaning.specs.Operations.{ok_of, access_bytes, is_storable, store_through, stored_memory, copied_memory, memory_integer}
+use Rattle.vm_meaning.specs.Operations.{ok_of, access_bytes, store_through, stored_memory, copied_memory, memory_integer}
 use Rattle.alpha_forms.specs.Registers.{IsCell, AreCells, HasBytes}
 use Rattle.alpha_copies.proofs.Bytes.{are_append, are_cells_of, are_empty, are_row, bytes_with_row}
 

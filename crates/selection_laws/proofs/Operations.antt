@@ -1,11 +1,11 @@
 -- The steps of all instructions that write a register or the memory.
-use Rattle.std.proofs.Common.{◌≡◌, ℕ, suc, ◌+◌, ◌%◌, ◌<◌, ◌^◌, List, [], ◌∷◌, Bool, true, false, ℤ, refl, sym, ap, ◌∙◌, subst, arith, map}
-use Rattle.std.specs.Prelude.{IsTrue, ◌==◌, FitsSigned}
+use Rattle.std.proofs.Common.{◌≡◌, ℕ, suc, ◌%◌, ◌<◌, ◌^◌, List, ◌∷◌, true, ℤ, refl, map}
+use Rattle.std.specs.Prelude.{◌==◌, FitsSigned}
 use Rattle.std.specs.Int.{w64}
 use Rattle.std.proofs.lemmas.Bool.{eqb-true}
 use Rattle.mem_model.specs.declared.value.Value.{Value}
-use Rattle.mem_model.specs.declared.value.Value.TheVariants.{Word, Address, Unset}
-use Rattle.mem_model.specs.World.{Outer, World, Rooms}
+use Rattle.mem_model.specs.declared.value.Value.TheVariants.{Word}
+use Rattle.mem_model.specs.World.{World, Rooms}
 use Rattle.mem_model.specs.Ending.{Ending}
 use Rattle.machine_model.specs.Machine.{Frame, Over, exec}
 use Rattle.suifvm_ir.specs.declared.types.VmType.{VmType}
@@ -23,7 +23,6 @@ use Rattle.suifvm_ir.specs.declared.insn.CompareOp.{CompareOp}
 use Rattle.suifvm_ir.specs.declared.insn.CompareOp.TheVariants.{Equal, NotEqual, Less, LessOrEqual}
 use Rattle.suifvm_ir.specs.declared.insn.VmInsn.{VmInsn}
 use Rattle.suifvm_ir.specs.declared.insn.VmInsn.TheVariants as x
-use Rattle.suifvm_ir.specs.Insns.{writes_of}
 use Rattle.suifvm_ir.specs.Programs.{VmFunction, alignment_bytes}
 use Rattle.vm_meaning.specs.declared.answer.Answer.TheVariants.{Gives}
 use Rattle.vm_meaning.specs.Operations.{when_value, place_address, loaded_answer, stored_memory, copied_memory, unary_answer, convert_answer, binary_answer, shift_answer, compare_answer}
@@ -41,9 +40,8 @@ use Rattle.alpha_forms.proofs.Others.{constants_loaded, addresses_loaded}
 use Rattle.alpha_copies.proofs.Copying.{copies_done}
 use Rattle.selection_code.specs.Instructions.{temp_of}
 use Rattle.selection_code.specs.Functions.{function_blocks}
-use Rattle.selection_code.specs.Fields.{HasFields}
 use Rattle.selection_laws.specs.Laws.{IsDefined}
-use Rattle.selection_laws.proofs.Values.{AnswerIsHeld, value_held, unary_held, convert_held, binary_held, shift_held, compare_held, load_held}
+use Rattle.selection_laws.proofs.Values.{value_held, unary_held, convert_held, binary_held, shift_held, compare_held, load_held}
 use Rattle.selection_laws.proofs.Memories.{stored_bytes, copied_bytes}
 use Rattle.selection_laws.proofs.Steps.{of_register, IsOrdinary, vm_conf, temp_conf, Here, Waits, Simulates, Reaches, value_step, memory_step}
 

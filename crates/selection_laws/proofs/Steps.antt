@@ -1,16 +1,15 @@
 -- One step over virtual registers, and what the selected code makes of it: where both machines stand, and the steps that
 -- write a register or the memory.
-use Rattle.std.proofs.Common.{◌≡◌, ℕ, zero, suc, ◌+◌, ◌<◌, ◌≤◌, ◌^◌, List, [], ◌∷◌, ◌++◌, length, map, Bool, true, false, Option, Some, None, refl, sym, ap, ◌∙◌, subst, arith, All, eq-eqb}
+use Rattle.std.proofs.Common.{◌≡◌, ℕ, zero, suc, ◌<◌, List, [], ◌∷◌, ◌++◌, length, map, Bool, true, false, Option, Some, None, refl, sym, ap, ◌∙◌, subst, arith, All}
 use Rattle.std.specs.Prelude.{◌==◌, slice_get, option_map, if◌then◌else◌}
 use Rattle.std.proofs.lemmas.Bool.{eqb-true, eqb-false, ne_eqb}
-use Rattle.std.proofs.lemmas.Option.{none-some, same_Some, slice_get-map}
+use Rattle.std.proofs.lemmas.Option.{slice_get-map}
 use Rattle.mem_model.specs.declared.value.Value.{Value}
-use Rattle.mem_model.specs.declared.value.Value.TheVariants.{Word, Address, Unset}
 use Rattle.mem_model.specs.Memory.{Memory}
 use Rattle.mem_model.specs.World.{Outer, Meter, World, Rooms, outer_with_memory, take_turn}
-use Rattle.mem_model.specs.Ending.{Ending, Done, Trap, Undefined, More}
-use Rattle.machine_model.specs.Code.{Stop, Exits, Traps, HasNoMeaning, Act, Writes, Jumps, Calls, Returns, Stops, Site, Point, Code}
-use Rattle.machine_model.specs.Machine.{Frame, Config, Next, Goes, Over, world_of, turn_if, stop_ending, act_on, step_with, step_at, step, go_on, exec}
+use Rattle.mem_model.specs.Ending.{Ending, Trap, Undefined, More}
+use Rattle.machine_model.specs.Code.{Traps, HasNoMeaning, Act, Writes, Stops}
+use Rattle.machine_model.specs.Machine.{Frame, Config, Next, Goes, Over, turn_if, act_on, step_with, step_at, step, go_on, exec}
 use Rattle.suifvm_ir.specs.declared.insn.Callee.TheVariants as callee
 use Rattle.suifvm_ir.specs.declared.insn.VmInsn.{VmInsn}
 use Rattle.suifvm_ir.specs.declared.insn.VmInsn.TheVariants as x
@@ -19,27 +18,25 @@ use Rattle.suifvm_ir.specs.Programs.{VmFunction}
 use Rattle.vm_meaning.specs.declared.answer.Answer.{Answer}
 use Rattle.vm_meaning.specs.declared.answer.Answer.TheVariants.{Gives, TrapsWith, Fails}
 use Rattle.vm_meaning.specs.Effect.{does, takes_turn, writes, changes}
-use Rattle.vm_meaning.specs.Behave.{Registers, first_or_unset, set_register, set_registers, FunctionCode, code_of, insn_site, next_site, site_or_next, site_in_block, site_in_function, vm_code}
+use Rattle.vm_meaning.specs.Behave.{Registers, first_or_unset, set_register, set_registers, code_of, insn_site, next_site, site_or_next, site_in_block, site_in_function, vm_code}
 use Rattle.temp_ir.specs.declared.insn.TempInsn.{TempInsn}
 use Rattle.temp_ir.specs.declared.insn.TempInsn.TheVariants as i
-use Rattle.temp_ir.specs.Insns.{flows_on_of}
 use Rattle.alloc_model.specs.Contents.{Content, Plain}
 use Rattle.temp_ir.specs.declared.insn.FixedRegister.TheVariants as FixedRegister
 use Rattle.alloc_model.specs.Stores.{put, without}
 use Rattle.alloc_model.specs.Effect.{Temp, Fixed, holder_eq, holders_read, is_emptied, widest_call}
 use Rattle.alloc_model.specs.Effect as temps
 use Rattle.alloc_model.specs.Temporaries.{Temps, temp_site, temp_code}
-use Rattle.alloc_model.specs.Temporaries as alloc
 use Rattle.alpha_forms.specs.Straight.{Ran, After, Halted, runs}
 use Rattle.alpha_forms.proofs.Runs.{put_here, put_beside}
-use Rattle.alpha_forms.specs.Registers.{IsOfRegister, IsHeld, HasBytes, PutsValue, PutsMemory, ComesTo, ComesToMemory}
+use Rattle.alpha_forms.specs.Registers.{IsOfRegister, IsHeld, HasBytes, PutsValue, ComesTo, ComesToMemory}
 use Rattle.selection_code.specs.Instructions.{temp_of, insn_items, result_items}
-use Rattle.selection_code.specs.Functions.{insns_items, parameter_items, in_front, function_blocks}
+use Rattle.selection_code.specs.Functions.{insns_items, parameter_items, function_blocks}
 use Rattle.selection_laws.specs.Selected.{selected_code}
 use Rattle.selection_laws.specs.Laws.{IsDefined}
 use Rattle.selection_laws.proofs.Values.{AnswerIsHeld}
 use Rattle.selection_laws.proofs.Memories.{MemoryHasBytes}
-use Rattle.selection_laws.proofs.Machines.{Placed, next_place, insn_there, read_end, Standing, next_standing, site_there, site_behind, Comes, comes_here, comes_then, comes_by, CameBehind, Stopped, Came, straight}
+use Rattle.selection_laws.proofs.Machines.{Placed, next_place, insn_there, read_end, Standing, site_there, site_behind, Comes, comes_then, comes_by, CameBehind, Came, straight}
 
 -- ---- numbers of temporaries
 

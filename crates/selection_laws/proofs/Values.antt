@@ -1,5 +1,5 @@
 -- What instructions put into registers are words below 2^64.
-use Rattle.std.proofs.Common.{◌≡◌, ℕ, ◌%◌, ◌^◌, ◌<◌, Bool, true, false, Option, Some, None, Result, Ok, Err, ℤ, List, refl, sym, ap, ◌∙◌, subst, arith}
+use Rattle.std.proofs.Common.{◌≡◌, ℕ, ◌^◌, ◌<◌, Bool, true, false, Option, Some, None, Result, Ok, Err, ℤ, List, refl, ap, ◌∙◌, subst, arith}
 use Rattle.std.specs.Prelude.{◌+ℤ◌, ◌&&◌, if◌then◌else◌}
 use Rattle.std.proofs.lemmas.Bool.{eqb-true}
 use Rattle.std.proofs.lemmas.Option.{none-some, same_Some}
@@ -9,13 +9,12 @@ use Rattle.mem_model.specs.declared.value.Ptr.{Ptr}
 use Rattle.mem_model.specs.declared.value.MemFault.{MemFault}
 use Rattle.mem_model.specs.declared.value.MemFault.TheVariants.{Never, PartPointer}
 use Rattle.mem_model.specs.Memory.{Memory, load_at}
-use Rattle.mem_model.specs.Pointers.{pointer_plus, pointer_minus, is_live, is_offset, size_at, when, ptr_plus}
+use Rattle.mem_model.specs.Pointers.{pointer_plus, pointer_minus, is_live, is_offset, size_at, ptr_plus}
 use Rattle.c_arithmetic.specs.declared.integer_type.IntegerType.{IntegerType}
 use Rattle.c_arithmetic.specs.declared.integer_type.IntegerType.TheVariants.{Int, UnsignedInt, Long, UnsignedLong}
 use Rattle.c_arithmetic.specs.declared.outcome.ArithmeticOutcome.{ArithmeticOutcome}
 use Rattle.c_arithmetic.specs.declared.outcome.ArithmeticOutcome.TheVariants as o
 use Rattle.c_arithmetic.specs.Words.{extension, is_word, residue}
-use Rattle.c_arithmetic.specs.Words as words
 use Rattle.c_arithmetic.specs.Operations as c
 use Rattle.c_arithmetic.specs.Outcomes.{IsWordOf}
 use Rattle.c_arithmetic.proofs.LowBits.{extension-below}
@@ -23,7 +22,6 @@ use Rattle.c_arithmetic.proofs.Results.{sum-word, difference-word, product-word,
 use Rattle.suifvm_ir.specs.declared.types.VmType.{VmType}
 use Rattle.suifvm_ir.specs.declared.types.VmType.TheVariants.{S32, U32, S64, U64, P64}
 use Rattle.suifvm_ir.specs.declared.types.MemoryType.{MemoryType}
-use Rattle.suifvm_ir.specs.declared.types.MemoryType.TheVariants as m
 use Rattle.suifvm_ir.specs.declared.insn.UnaryOp.{UnaryOp}
 use Rattle.suifvm_ir.specs.declared.insn.UnaryOp.TheVariants.{Move, Negate, Complement}
 use Rattle.suifvm_ir.specs.declared.insn.BinaryOp.{BinaryOp}
@@ -33,7 +31,7 @@ use Rattle.suifvm_ir.specs.declared.insn.ShiftOp.TheVariants.{ArithmeticRight, L
 use Rattle.suifvm_ir.specs.declared.insn.CompareOp.{CompareOp}
 use Rattle.vm_meaning.specs.declared.answer.Answer.{Answer}
 use Rattle.vm_meaning.specs.declared.answer.Answer.TheVariants.{Gives, TrapsWith, Fails}
-use Rattle.vm_meaning.specs.Operations.{is_set, is_value_of, when_value, outcome_answer, value_answer, distance_answer, test_answer, on_number, on_numbers, unary_number, unary_answer, unary_pointer, conversion_answer, convert_answer, memory_integer, integer_of, binary_number, pointer_answer, binary_answer, with_sign, without_sign, shift_number, shift_by, shift_answer, comparison_answer, compare_answer, compare_number, extended_value, load_answer, load_through, loaded_answer, access_bytes, is_pointer_access}
+use Rattle.vm_meaning.specs.Operations.{is_value_of, when_value, outcome_answer, value_answer, distance_answer, test_answer, on_number, on_numbers, unary_number, unary_answer, unary_pointer, conversion_answer, convert_answer, memory_integer, integer_of, binary_number, pointer_answer, binary_answer, with_sign, without_sign, shift_number, shift_by, shift_answer, comparison_answer, compare_answer, compare_number, extended_value, load_answer, load_through, loaded_answer, access_bytes}
 use Rattle.alpha_forms.specs.Registers.{IsHeld}
 use Rattle.mem_model.specs.Cells.{pointer_of, first_pointer, cells_eq, bytes_of, parts_of, is_empty, value_of, value_or_fault}
 use Rattle.mem_model.specs.Memory.{read_fault, unless, row_at}

@@ -1,7 +1,7 @@
 -- Selection keeps the meaning.
 use Rattle.std.specs.Prelude.{◌≡◌, ℕ, ◌+◌, ◌*◌, ◌<◌, ◌≤◌, List, length, All}
 use Rattle.mem_model.specs.World.{Rooms}
-use Rattle.mem_model.specs.Ending.{Ending, Done, Trap, Undefined, More}
+use Rattle.mem_model.specs.Ending.{Ending, Undefined}
 use Rattle.suifvm_ir.specs.declared.program.VmProgram.{VmProgram}
 use Rattle.suifvm_ir.specs.Functions.{count_of}
 use Rattle.suifvm_ir.specs.Programs.{VmFunction, function_size}

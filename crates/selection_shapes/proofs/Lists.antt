@@ -1,5 +1,5 @@
 -- What holds of all elements.
-use Rattle.std.proofs.Common.{◌≡◌, ℕ, zero, suc, ◌<◌, List, [], ◌∷◌, ◌++◌, Bool, true, false, All, refl, arith}
+use Rattle.std.proofs.Common.{◌≡◌, zero, suc, List, [], ◌∷◌, ◌++◌, Bool, true, false, All, refl, arith}
 use Rattle.std.specs.Prelude.{◌&&◌}
 
 pub all_nil : {A : Type 0} (P : A → Type 0) → All P []

@@ -1,14 +1,9 @@
 -- A jump of the code back goes to a mark.
-use Rattle.std.proofs.Common.{◌≡◌, ℕ, zero, suc, ◌+◌, ◌<◌, List, [], ◌∷◌, ◌++◌, length, map, Bool, true, false, Option, Some, None, All, refl, sym, ap, ◌∙◌, subst, arith}
-use Rattle.std.specs.Prelude.{◌&&◌, ◌||◌, ◌==◌, nat_lt, IsTrue, slice_get, option_map}
+use Rattle.std.proofs.Common.{◌≡◌, ℕ, zero, suc, ◌<◌, List, [], ◌∷◌, ◌++◌, length, Bool, true, false, Option, Some, None, All, refl, sym, ap, ◌∙◌, subst, arith}
+use Rattle.std.specs.Prelude.{◌||◌, nat_lt, IsTrue, slice_get, option_map}
 use Rattle.std.specs.List.{list_all}
 use Rattle.std.proofs.lemmas.Bool.{and_from}
 use Rattle.std.proofs.lemmas.Option.{none-some, same_Some, slice_get-map, slice_get_within, get_or_from_slice_get}
-use Rattle.std.proofs.lemmas.List.Folds.{list_all-append}
-use Rattle.data_object.specs.declared.DataObject.{DataObject}
-use Rattle.suifvm_ir.specs.declared.function.Object.{Object}
-use Rattle.suifvm_ir.specs.declared.insn.Callee.{Callee}
-use Rattle.suifvm_ir.specs.declared.insn.Callee.TheVariants as callee
 use Rattle.suifvm_ir.specs.declared.insn.VmInsn.{VmInsn}
 use Rattle.suifvm_ir.specs.declared.insn.VmInsn.TheVariants as x
 use Rattle.suifvm_ir.specs.Programs as vm
@@ -21,7 +16,7 @@ use Rattle.temp_ir.specs.Insns.{targets_of}
 use Rattle.temp_ir.specs.Programs.{begins_with_mark, first_is_mark, goes_back_to_marks}
 use Rattle.alpha_forms.specs.Operations.{branch_op}
 use Rattle.selection_code.specs.Instructions.{temp_of, insn_items}
-use Rattle.selection_code.specs.Functions.{insns_items, parameter_items, in_front, function_blocks}
+use Rattle.selection_code.specs.Functions.{insns_items, parameter_items, function_blocks}
 use Rattle.selection_shapes.specs.Shapes.{MarksAreKept}
 use Rattle.selection_shapes.proofs.Lists.{both, all_nil, all_more, all_first, all_rest, all_append}
 use Rattle.selection_shapes.proofs.Plain.{is_plain, are_plain, takes_plain}

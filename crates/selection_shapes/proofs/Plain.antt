@@ -1,5 +1,5 @@
 -- The code of instructions that are followed by the next one alone consists of such instructions.
-use Rattle.std.proofs.Common.{◌≡◌, ℕ, zero, suc, ◌+◌, ◌-◌, ◌<◌, List, [], ◌∷◌, ◌++◌, length, Bool, true, false, ℤ, pos, Option, Some, None, refl, sym, ap, ◌∙◌, arith}
+use Rattle.std.proofs.Common.{◌≡◌, ℕ, zero, suc, ◌+◌, ◌-◌, List, [], ◌∷◌, ◌++◌, length, Bool, true, false, ℤ, pos, Option, Some, None, refl, ◌∙◌}
 use Rattle.std.specs.Prelude.{◌&&◌, ◌==◌, nat_lt, if◌then◌else◌}
 use Rattle.std.specs.List.{list_all}
 use Rattle.std.specs.Int.{w16}
@@ -13,7 +13,6 @@ use Rattle.alpha_constants.specs.Recipes.{low_part, high_part, is_zero, recipe_o
 use Rattle.suifvm_ir.specs.declared.types.VmType.{VmType}
 use Rattle.suifvm_ir.specs.declared.types.MemoryType.{MemoryType}
 use Rattle.suifvm_ir.specs.declared.types.MemoryType.TheVariants as m
-use Rattle.suifvm_ir.specs.declared.types.VmType.TheVariants.{S32, U32, S64, U64, P64}
 use Rattle.suifvm_ir.specs.declared.types.Alignment.{Alignment}
 use Rattle.suifvm_ir.specs.declared.insn.BinaryOp.{BinaryOp}
 use Rattle.suifvm_ir.specs.declared.insn.BinaryOp.TheVariants.{Add, Subtract, Multiply, Divide, Remainder, And, Or, ExclusiveOr}
@@ -34,10 +33,10 @@ use Rattle.temp_ir.specs.Insns.{targets_of, flows_on_of}
 use Rattle.temp_ir.specs.Fixed.{fixed_reads_of}
 use Rattle.alpha_forms.specs.Constants.{unless_zero, near_items, lower_items, finish_items, recipe_items, constant_items}
 use Rattle.alpha_forms.specs.Accesses.{near_load, near_store, far_items, load_by, load_items, store_by, store_items}
-use Rattle.alpha_forms.specs.Operations.{unary_items, binary_items, left_items, logical_right_items, shift_items, compare_items, convert_items, convert_item, is_narrow, from_unsigned_item, from_wide_item}
-use Rattle.alpha_copies.specs.Copies.{part_items, moved_items, reach, parts_items, copy_items}
+use Rattle.alpha_forms.specs.Operations.{binary_items, left_items, logical_right_items, shift_items, compare_items, convert_items, convert_item, is_narrow, from_unsigned_item, from_wide_item}
+use Rattle.alpha_copies.specs.Copies.{part_items, moved_items, reach, parts_items}
 use Rattle.selection_shapes.proofs.Lists.{both}
-use Rattle.selection_code.specs.Instructions.{temp_of, pass_item, pass_items, take_item, take_items, result_items, byte_items, put_char_items, get_char_items, abort_items, exit_items, builtin_items, call_items, argument_register}
+use Rattle.selection_code.specs.Instructions.{temp_of, pass_item, pass_items, take_item, take_items, result_items, byte_items, put_char_items, exit_items, builtin_items, call_items, argument_register}
 
 -- an instruction without targets that is followed by the next one
 abbrev pub is_plain : TempInsn → Bool

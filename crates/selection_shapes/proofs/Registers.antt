@@ -1,24 +1,21 @@
 -- The temporaries that the code of a function names.
-use Rattle.std.proofs.Common.{◌≡◌, ℕ, zero, suc, ◌+◌, ◌-◌, ◌<◌, ◌≤◌, List, [], ◌∷◌, ◌++◌, length, map, Bool, true, false, ℤ, pos, Option, Some, None, All, refl, sym, ap, ◌∙◌, subst, arith}
+use Rattle.std.proofs.Common.{◌≡◌, ℕ, zero, suc, ◌+◌, ◌-◌, ◌<◌, ◌≤◌, List, [], ◌∷◌, ◌++◌, length, map, Bool, true, false, ℤ, pos, Option, Some, None, All, refl, sym, subst, arith}
 use Rattle.std.specs.Prelude.{◌==◌, nat_lt, if◌then◌else◌}
 use Rattle.std.specs.Int.{w16}
 use Rattle.alpha_isa.specs.Arithmetic.{fits, word_from}
 use Rattle.alpha_constants.specs.declared.recipe.Finish.{Finish}
 use Rattle.alpha_constants.specs.declared.recipe.Finish.TheVariants.{Nothing, ShiftLeft, ShiftRight, LowHalf, AddLower}
-use Rattle.alpha_constants.specs.declared.recipe.Recipe.{Recipe}
 use Rattle.alpha_constants.specs.Recipes.{low_part, high_part, is_zero, recipe_of}
 use Rattle.suifvm_ir.specs.declared.types.VmType.{VmType}
 use Rattle.suifvm_ir.specs.declared.types.MemoryType.{MemoryType}
 use Rattle.suifvm_ir.specs.declared.types.MemoryType.TheVariants as m
 use Rattle.suifvm_ir.specs.declared.types.Alignment.{Alignment}
-use Rattle.suifvm_ir.specs.declared.insn.UnaryOp.{UnaryOp}
 use Rattle.suifvm_ir.specs.declared.insn.BinaryOp.{BinaryOp}
 use Rattle.suifvm_ir.specs.declared.insn.BinaryOp.TheVariants.{Add, Subtract, Multiply, Divide, Remainder, And, Or, ExclusiveOr}
 use Rattle.suifvm_ir.specs.declared.insn.ShiftOp.{ShiftOp}
 use Rattle.suifvm_ir.specs.declared.insn.ShiftOp.TheVariants.{ArithmeticRight, Left, LogicalRight}
 use Rattle.suifvm_ir.specs.declared.insn.CompareOp.{CompareOp}
 use Rattle.suifvm_ir.specs.declared.insn.CompareOp.TheVariants.{Equal, NotEqual, Less, LessOrEqual}
-use Rattle.suifvm_ir.specs.declared.insn.Builtin.{Builtin}
 use Rattle.suifvm_ir.specs.declared.insn.Builtin.TheVariants.{PutChar, GetChar, Abort, Exit}
 use Rattle.suifvm_ir.specs.declared.insn.Callee.{Callee}
 use Rattle.suifvm_ir.specs.declared.insn.Callee.TheVariants as callee
@@ -38,9 +35,9 @@ use Rattle.temp_ir.specs.declared.insn.TempInsn.TheVariants as i
 use Rattle.temp_ir.specs.Insns.{reads_of, writes_of}
 use Rattle.alpha_forms.specs.Constants.{unless_zero, near_items, lower_items, finish_items, recipe_items, constant_items}
 use Rattle.alpha_forms.specs.Accesses.{near_load, near_store, far_items, load_by, load_items, store_by, store_items}
-use Rattle.alpha_forms.specs.Operations.{unary_items, binary_items, division_items, left_items, logical_right_items, shift_items, compare_items, convert_items, convert_item, is_narrow, from_unsigned_item, from_wide_item}
+use Rattle.alpha_forms.specs.Operations.{binary_items, division_items, left_items, logical_right_items, shift_items, compare_items, convert_item, is_narrow, from_unsigned_item, from_wide_item}
 use Rattle.alpha_copies.specs.Copies.{part_items, moved_items, reach, parts_items}
-use Rattle.selection_code.specs.Instructions.{temp_of, pass_item, pass_items, take_item, take_items, result_items, byte_items, put_char_items, exit_items, builtin_items, call_items, return_items, insn_items, argument_register}
+use Rattle.selection_code.specs.Instructions.{temp_of, pass_item, pass_items, take_item, take_items, result_items, byte_items, put_char_items, exit_items, call_items, return_items, insn_items, argument_register}
 use Rattle.selection_code.specs.Functions.{insns_items, parameter_items, function_blocks}
 use Rattle.selection_shapes.specs.Shapes.{RegistersAreUsed}
 use Rattle.selection_shapes.proofs.Lists.{all_nil, all_more, all_first, all_rest, all_append}

@@ -1,6 +1,6 @@
 -- Each fixed register that the code reads as fixed was written in its block before.
-use Rattle.std.proofs.Common.{◌≡◌, ℕ, zero, suc, ◌+◌, ◌-◌, ◌<◌, ◌≤◌, min, List, [], ◌∷◌, ◌++◌, length, map, take, Bool, true, false, ℤ, pos, Option, Some, None, All, refl, sym, ap, ◌∙◌, subst, arith, le-ltb}
-use Rattle.std.specs.Prelude.{◌&&◌, ◌==◌, nat_lt, filter, not, IsTrue, if◌then◌else◌}
+use Rattle.std.proofs.Common.{◌≡◌, ℕ, zero, suc, ◌-◌, ◌≤◌, min, List, [], ◌∷◌, ◌++◌, length, map, take, true, false, Option, Some, None, refl, ap, ◌∙◌, arith, le-ltb}
+use Rattle.std.specs.Prelude.{◌==◌, nat_lt, if◌then◌else◌}
 use Rattle.std.specs.List.{list_all}
 use Rattle.std.proofs.lemmas.Bool.{and_from, eqb-true}
 use Rattle.std.proofs.lemmas.List.{append_assoc}
@@ -13,15 +13,14 @@ use Rattle.suifvm_ir.specs.declared.insn.Callee.TheVariants as callee
 use Rattle.suifvm_ir.specs.declared.insn.TypedRegister.{TypedRegister}
 use Rattle.suifvm_ir.specs.declared.insn.VmInsn.{VmInsn}
 use Rattle.suifvm_ir.specs.declared.insn.VmInsn.TheVariants as x
-use Rattle.suifvm_ir.specs.Programs.{VmFunction}
 use Rattle.temp_ir.specs.declared.operation.Routine.{Routine}
 use Rattle.temp_ir.specs.declared.insn.TempInsn.{TempInsn}
 use Rattle.temp_ir.specs.declared.insn.TempInsn.TheVariants as i
 use Rattle.temp_ir.specs.Fixed.{argument_registers, fixed_reads_of, has_number, written_behind, is_settled_block, is_settled}
 use Rattle.alpha_forms.specs.Operations.{quotient_routine, remainder_routine, division_items, binary_items}
 use Rattle.selection_shapes.proofs.Lists.{both}
-use Rattle.selection_code.specs.Instructions.{temp_of, argument_register, pass_item, pass_items, take_item, take_items, result_items, byte_items, put_char_items, exit_items, call_items, return_items, insn_items}
-use Rattle.selection_code.specs.Functions.{insns_items, parameter_items, in_front, function_blocks}
+use Rattle.selection_code.specs.Instructions.{temp_of, argument_register, pass_items, take_items, result_items, put_char_items, exit_items, call_items, return_items, insn_items}
+use Rattle.selection_code.specs.Functions.{insns_items, parameter_items, function_blocks}
 use Rattle.selection_shapes.specs.Shapes.{FunctionsAreSettled}
 use Rattle.selection_shapes.proofs.Plain.{is_simple, are_simple, constant_simple, load_simple, store_simple, parts_simple, shift_simple, compare_simple, convert_simple}
 

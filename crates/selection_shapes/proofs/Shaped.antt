@@ -1,21 +1,19 @@
 -- The blocks of a selected function are shaped as those of the function.
-use Rattle.std.proofs.Common.{◌≡◌, ℕ, zero, suc, ◌+◌, ◌-◌, ◌<◌, List, [], ◌∷◌, ◌++◌, length, take, map, get_or, Bool, true, false, Option, Some, None, All, refl, sym, ap, ◌∙◌, subst, arith, length-append}
-use Rattle.std.specs.Prelude.{◌&&◌, ◌==◌, IsTrue, slice_get, slice_index_or, if◌then◌else◌, option_map}
-use Rattle.std.specs.List.{list_all}
+use Rattle.std.proofs.Common.{◌≡◌, ℕ, suc, ◌-◌, ◌<◌, List, [], ◌∷◌, ◌++◌, length, take, map, Bool, true, false, Option, Some, None, All, refl, sym, ap, ◌∙◌, subst, arith}
+use Rattle.std.specs.Prelude.{◌&&◌, ◌==◌, slice_get, slice_index_or, if◌then◌else◌}
 use Rattle.std.proofs.lemmas.Bool.{and_from, eqb-true}
-use Rattle.std.proofs.lemmas.Option.{none-some, same_Some, slice_get-map}
+use Rattle.std.proofs.lemmas.Option.{none-some, same_Some}
 use Rattle.std.proofs.lemmas.List.{append_assoc, length-map}
 use Rattle.suifvm_ir.specs.declared.insn.VmInsn.{VmInsn}
 use Rattle.suifvm_ir.specs.declared.insn.VmInsn.TheVariants as x
 use Rattle.suifvm_ir.specs.Insns as vm
 use Rattle.suifvm_ir.specs.Functions.{last_of, front_of, AllInsns, GoesToBlocks, IsStraight, EndsLate, insn_stops, block_stops, stops}
-use Rattle.suifvm_ir.specs.Programs.{VmFunction}
 use Rattle.temp_ir.specs.declared.insn.TempInsn.{TempInsn}
 use Rattle.temp_ir.specs.declared.insn.TempInsn.TheVariants as i
 use Rattle.temp_ir.specs.Insns.{targets_of, flows_on_of}
 use Rattle.selection_code.specs.Instructions.{temp_of, insn_items}
-use Rattle.selection_code.specs.Functions.{insns_items, parameter_items, in_front, function_blocks}
-use Rattle.selection_shapes.specs.Shapes.{IsShaped, BlocksAreShaped}
+use Rattle.selection_code.specs.Functions.{insns_items, parameter_items, function_blocks}
+use Rattle.selection_shapes.specs.Shapes.{BlocksAreShaped}
 use Rattle.selection_shapes.proofs.Lists.{both, all_nil, all_more, all_first, all_rest, all_append}
 use Rattle.selection_shapes.proofs.Plain.{is_plain, are_plain, simple_plain, constant_simple, load_simple, store_simple, parts_simple, binary_plain, shift_simple, compare_simple, convert_simple, call_plain, takes_plain}
 
