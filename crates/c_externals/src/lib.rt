@@ -9,5 +9,5 @@ mod undefined;
 mod units;
 mod walk;
 
-pub use units::first_fault;
+pub use units::{UnitState, first_fault, judge};
 pub use walk::{UnitFunction, UnitSoFar};

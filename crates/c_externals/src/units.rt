@@ -168,12 +168,12 @@ fn end_unit(
 
 /// What is known of a unit behind some of its declarations, the names and tags in scope, and what was noted.
 #[derive(Drop)]
-struct UnitState<'a> {
-    so_far: UnitSoFar<'a>,
+pub struct UnitState<'a> {
+    pub so_far: UnitSoFar<'a>,
     /// The tags that have a body.
-    defined: Table<'a, ()>,
-    env: Env<'a>,
-    notes: Notes<'a>,
+    pub defined: Table<'a, ()>,
+    pub env: Env<'a>,
+    pub notes: Notes<'a>,
 }
 
 /// Before the first declaration.
@@ -221,6 +221,16 @@ fn judge_unit<'a>(
         unit.externals.as_slice(),
     )?;
     end_unit(alloc, &mut state.notes, unit.length, state.so_far.has_main)
+}
+
+/// What is known of a whole unit, and what was noted. It fails only where memory is short.
+pub fn judge<'a>(alloc: Global, unit: &'a TranslationUnit) -> Result<UnitState<'a>, AllocError>
+    ensures { IfOk result (λ s. (s.so_far, (s.defined, (s.env, s.notes))) ≡ spec.whole_unit unit.now) }
+{
+    let definitions = find_definitions(alloc, unit.externals.as_slice())?;
+    let mut state = start(alloc, &definitions)?;
+    judge_unit(alloc, &definitions, unit, &mut state)?;
+    Ok(state)
 }
 
 /// The first fault of a unit; `None` where there is none. It fails only where memory is short.

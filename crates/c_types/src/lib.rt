@@ -1,0 +1,8 @@
+//! The typing of whole units (C99 6.5 to 6.9): the first fault of a unit, or its typed tree.
+#![tactic(auto)]
+
+mod faults;
+mod units;
+
+pub use faults::TypeFault;
+pub use units::check;

@@ -1,0 +1,121 @@
+//! Whole units.
+
+ghost use Rattle.std.specs.Prelude.{◌≡◌, IfOk, IfErr, Some, None, [], replicate, slice_set};
+ghost use Rattle.c_types.specs.Units as spec;
+
+use crate::faults::TypeFault;
+use c_checks::{Notes, append_part};
+use c_externals::{UnitFunction, UnitSoFar, UnitState, judge};
+use c_globals::{UnitObject, lay_out_globals};
+use c_tree::{Seq, TranslationUnit};
+use c_type_faults::{Fault, least};
+use c_typed_tree::{StructDef, TypedFn, TypedUnit};
+use std::alloc::{AllocError, Global};
+
+/// A place for each function, without a tree.
+fn no_trees(alloc: Global, count: u32) -> Result<Vec<Option<TypedFn>>, AllocError>
+    ensures { IfOk result (λ r. r.items ≡ replicate count None) }
+{
+    let mut places = Vec::new(alloc);
+    for _place in 0..count {
+        places.push(None)?;
+    }
+    Ok(places)
+}
+
+/// Puts a tree at the place of its function, if there is one.
+fn put_tree(places: &mut Vec<Option<TypedFn>>, number: usize, function: TypedFn)
+    ensures { places.new.items ≡ slice_set places.old.items number (Some function) }
+{
+    if number < places.len() {
+        places[number] = Some(function);
+    }
+}
+
+fn put_trees(places: &mut Vec<Option<TypedFn>>, functions: Seq<UnitFunction>)
+    ensures { places.new.items ≡ spec.with_trees functions places.old.items }
+{
+    let mut rest = Seq::into_vec(functions).into_iter();
+    while let Some(one) = rest.next() {
+        let UnitFunction { number, function } = one;
+        put_tree(places, number as usize, function);
+    }
+}
+
+/// The functions, if each has its tree.
+fn whole_functions(
+    alloc: Global,
+    places: Vec<Option<TypedFn>>,
+) -> Result<Option<Seq<TypedFn>>, AllocError>
+    ensures { IfOk result (λ r. r ≡ spec.append_functions (Some []) places.items) }
+{
+    let mut found = Some(Seq::new(alloc));
+    let mut rest = places.into_iter();
+    while let Some(part) = rest.next() {
+        found = append_part(found, part)?;
+    }
+    Ok(found)
+}
+
+/// The functions in the order of their numbers, if each has its tree.
+fn functions_in(
+    alloc: Global,
+    count: u32,
+    functions: Seq<UnitFunction>,
+) -> Result<Option<Seq<TypedFn>>, AllocError>
+    ensures { IfOk result (λ r. r ≡ spec.append_functions (Some []) (spec.functions_in count functions)) }
+{
+    let mut places = no_trees(alloc, count)?;
+    put_trees(&mut places, functions);
+    whole_functions(alloc, places)
+}
+
+/// The typed unit. A function without a tree is refused as want of memory.
+fn make_unit(
+    alloc: Global,
+    structs: Seq<StructDef>,
+    objects: Seq<UnitObject>,
+    texts: Seq<Seq<u8>>,
+    count: u32,
+    functions: Seq<UnitFunction>,
+) -> Result<TypedUnit, AllocError>
+    ensures { IfOk result (λ r. spec.unit_with structs objects texts count functions ≡ Some r) }
+{
+    match functions_in(alloc, count, functions)? {
+        None => Err(AllocError),
+        Some(functions) => {
+            let globals = lay_out_globals(alloc, structs.as_slice(), objects, texts.as_slice())?;
+            Ok(TypedUnit {
+                structs,
+                globals,
+                functions,
+            })
+        }
+    }
+}
+
+/// The typed tree of a unit.
+///
+/// # Errors
+///
+/// [`TypeFault::Typing`] exactly where the unit has faults, with the first of them: by its place, and at one place by the
+/// number of its kind; and [`TypeFault::NoMemory`].
+pub fn check(alloc: Global, unit: &TranslationUnit) -> Result<TypedUnit, TypeFault>
+    ensures typed { IfOk result (spec.IsTyped unit.now) }
+    ensures fault { IfErr result (spec.IsFaulty unit.now) }
+{
+    let UnitState { so_far, notes, .. } = judge(alloc, unit)?;
+    match least(notes.faults.as_slice()) {
+        Some(Fault { at, kind }) => Err(TypeFault::Typing { at, kind }),
+        None => {
+            let UnitSoFar {
+                names,
+                objects,
+                functions,
+                ..
+            } = so_far;
+            let Notes { structs, texts, .. } = notes;
+            Ok(make_unit(alloc, structs, objects, texts, names.functions, functions)?)
+        }
+    }
+}
