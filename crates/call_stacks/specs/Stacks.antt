@@ -55,7 +55,8 @@ pub record Start : Type 0 where
   pub end : ℕ
   pub top : ℕ
 
--- calls wait above the frame of another one, the last one first; the view is that of the registers before that was called
+-- calls wait above the frame of another one, the last one first; the view is that of the registers before that one was
+-- called
 abbrev pub CallersAre : Program → Labels → Start → Extents → Owners → Bytes → (view : ℕ → ℕ) → (sp : ℕ) → Shape →
     List Waiting → Type 0
 CallersAre p there start xs owner m view sp s [] =

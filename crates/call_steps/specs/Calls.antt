@@ -39,7 +39,8 @@ CallsAreDone =
     (a : Plan) (f : Setting) (behind : List AsmItem) (last : ℕ) → FunctionStands p there a f function behind last →
     (insns : List TempInsn) → slice_get a.function.blocks 0 ≡ Some insns → top_transfers a 0 ≡ [] → HasRoom p c f.shape →
     StandsFor p there
-    (items_of_transfers c.shape transfers (insn_items g registers (i.Call function arguments) ++ rest)) end c o.memory usable store s →
+    (items_of_transfers c.shape transfers (insn_items g registers (i.Call function arguments) ++ rest)) end c o.memory
+    usable store s →
     EntryIs p there start (first_items a f insns behind) last c (called c f.shape (length o.memory)) gs o
     (do_all transfers store)
     (entry_places ((placed_site widest transfers registers (i.Call function arguments)).fetch store)) rest end s
@@ -54,7 +55,8 @@ ReturnsAreDone =
     (widest function arguments number : ℕ) (with_value : Bool) (registers : List ℕ) → registers ≡ [] →
     (a : Plan) (behind : List AsmItem) (last : ℕ) → FunctionStands p there a g number behind last →
     StandsFor p there
-    (items_of_transfers c.shape transfers (insn_items g registers (i.Return with_value) ++ rest)) end c o.memory usable store s →
+    (items_of_transfers c.shape transfers (insn_items g registers (i.Return with_value) ++ rest)) end c o.memory
+    usable store s →
     ExitIs p there start w gs (caller_of c (length gs) w) (end_locals o c.own (length c.shape.sizes))
     (resumed function arguments w ((placed_site widest transfers registers (i.Return with_value)).fetch store)) s
 
@@ -69,5 +71,6 @@ LastReturnsAreDone =
     (a : Plan) (behind : List AsmItem) (last : ℕ) → FunctionStands p there a g number behind last →
     status_of ((placed_site widest transfers registers (i.Return with_value)).fetch store) ≡ Some status →
     StandsFor p there
-    (items_of_transfers c.shape transfers (insn_items g registers (i.Return with_value) ++ rest)) end c o.memory usable store s →
+    (items_of_transfers c.shape transfers (insn_items g registers (i.Return with_value) ++ rest)) end c o.memory
+    usable store s →
     IsOver p (end_locals o c.own (length c.shape.sizes)) (Done status) s

@@ -37,7 +37,8 @@ JumpsAreDone =
     (transfers edge : List Transfer) → AllMayTransfer c.shape transfers → CanTransferAll c.shape usable edge →
     (l widest block : ℕ) (registers : List ℕ) → registers ≡ [] →
     StandsFor p there
-    (items_of_transfers c.shape transfers (items_of_transfers c.shape edge (Branch Br 31 l ∷ rest))) end c o.memory usable store s →
+    (items_of_transfers c.shape transfers (items_of_transfers c.shape edge (Branch Br 31 l ∷ rest))) end c o.memory usable
+    store s →
     PointIsLeft p there start l c gs o
     (do_all edge ((placed_site widest transfers registers (i.Jump block)).put [] store)) s
 

@@ -31,7 +31,8 @@ pub record FrameIs (xs : Extents) (owner : Owners) (m : Bytes) (sp depth own : �
 pub record KeepsFrames (owner : Owners) (m k : Bytes) : Type 0 where
   pub same : (y : ℕ) → ((o : ℕ) → owner y ≢ OfObject o) → k y ≡ m y
 
--- the instructions of a call write bytes of objects, of its slots and of its argument places; what is nobody's may change
+-- the instructions of a call write bytes of objects, of its slots and of its argument places, and what is nobody's may
+-- change
 abbrev pub is_written_piece : Piece → Bool
 is_written_piece (SlotPiece t) = true
 is_written_piece (ArgumentPiece k) = true

@@ -19,7 +19,8 @@ pub record FunctionStands (p : Program) (there : Labels) (a : Plan) (g : Setting
       (entry_part g.shape g.shape.saves (blocks_items a g 0 a.function.blocks (exit_items g rest))) end
   pub blocks : (block : ℕ) (insns : List TempInsn) → slice_get a.function.blocks block ≡ Some insns →
       ItemsAt p there (there (g.block_label block))
-      (block_items a g block insns (blocks_items a g (suc block) (drop (suc block) a.function.blocks) (exit_items g rest)))
+      (block_items a g block insns
+      (blocks_items a g (suc block) (drop (suc block) a.function.blocks) (exit_items g rest)))
       end
   pub exit : ItemsAt p there (there g.exit_label) (exit_part g.shape g.shape.saves rest) end
 

@@ -60,8 +60,10 @@ plain insn = Plain insn ∷ []
 
 abbrev pub insn_items : Setting → (registers : List ℕ) → TempInsn → List AsmItem
 insn_items g rs (i.Address op destination base plus) =
-    plain (fields.Memory (address_op op) (written_register (i.Address op destination base plus) rs) (source_register base rs) plus)
-insn_items g rs (i.ObjectAddress destination (Global k) plus) = DataAddress (slice_index rs 0) (g.global_at k + plus) ∷ []
+    plain (fields.Memory (address_op op) (written_register (i.Address op destination base plus) rs)
+    (source_register base rs) plus)
+insn_items g rs (i.ObjectAddress destination (Global k) plus) =
+    DataAddress (slice_index rs 0) (g.global_at k + plus) ∷ []
 insn_items g rs (i.ObjectAddress destination (Local k) plus) =
     frame_address (slice_index rs 0) (object_at g.shape k + plus)
 insn_items g rs (i.Load op destination pointer plus) =
@@ -72,7 +74,8 @@ insn_items g rs (i.Operate op destination left right) =
     plain (fields.Operate (operate_op op) (source_register left rs) (operand_at right rs (behind left))
     (written_register (i.Operate op destination left right) rs))
 insn_items g rs (i.Extend op destination source) =
-    plain (fields.Operate (extend_op op) 31 (operand_at source rs 0) (written_register (i.Extend op destination source) rs))
+    plain (fields.Operate (extend_op op) 31 (operand_at source rs 0)
+    (written_register (i.Extend op destination source) rs))
 insn_items g rs (i.ToFixed register source) = register_move (slice_index rs 0) (register_number register)
 insn_items g rs (i.FromFixed destination register) = register_move (register_number register) (slice_index rs 0)
 insn_items g rs (i.SetFixed register number) = plain (fields.Memory Lda (register_number register) 31 number)

@@ -136,7 +136,8 @@ abbrev pub ActIsDone : Program → Labels → Setting → (rest : List AsmItem) 
     (written : List Content → Places) → TempInsn → State → Act Content → Type 0
 ActIsDone p there g rest end c written x s (Writes cs o) = IsBehind p there rest end c o (written cs) s
 ActIsDone p there g rest end c written x s (Jumps target o) =
-    (block : ℕ) → slice_get (targets_of x) target ≡ Some block → IsAtLabel p there (g.block_label block) c o (written []) s
+    (block : ℕ) → slice_get (targets_of x) target ≡ Some block →
+    IsAtLabel p there (g.block_label block) c o (written []) s
 ActIsDone p there g rest end c written x s (Calls function cs o) = Unit {0}
 ActIsDone p there g rest end c written x s (Returns cs o) = Unit {0}
 ActIsDone p there g rest end c written x s (Stops (Exits status) o) = IsOver p o (step.Done status) s
@@ -158,7 +159,8 @@ store_behind registers x store cs =
 abbrev pub InstructionsAreDone : Type 0
 InstructionsAreDone =
     (p : Program) (there : Labels) (g : Setting) (rest : List AsmItem) (end : ℕ) (c : Call) (o : Outer)
-    (store : Places) (s : State) → IsCall c → g.shape ≡ c.shape → ArgumentsAre c store (memory_bytes p s) → HasOuter o s →
+    (store : Places) (s : State) → IsCall c → g.shape ≡ c.shape → ArgumentsAre c store (memory_bytes p s) →
+    HasOuter o s →
     (widest : ℕ) → widest ≤ c.shape.outgoing + 6 →
     (registers : List ℕ) (x : TempInsn) → is_no_call x ≡ true → IsStated c.shape registers x → IsThere p g c x →
     StandsFor p there (insn_items g registers x ++ rest) end c o.memory usable store s →

@@ -82,6 +82,7 @@ PointsAreDone =
     (widest : ℕ) → widest ≤ c.shape.outgoing + 6 →
     (transfers : List Transfer) (registers : List ℕ) (x : TempInsn) → AllMayTransfer c.shape transfers →
     is_local x ≡ true → IsStated c.shape registers x → IsThere p g c x →
-    StandsFor p there (items_of_transfers c.shape transfers (insn_items g registers x ++ rest)) end c o.memory usable store s →
+    StandsFor p there (items_of_transfers c.shape transfers (insn_items g registers x ++ rest)) end c o.memory usable
+    store s →
     PointIsDone p there start g rest end c gs (λ cs. (placed_site widest transfers registers x).put cs store) x s
     ((placed_site widest transfers registers x).does c.own ((placed_site widest transfers registers x).fetch store) o)
