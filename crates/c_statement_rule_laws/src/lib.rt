@@ -1,0 +1,4 @@
+//! The parts of statements are well typed.
+#![tactic(auto)]
+
+pub mod laws;
