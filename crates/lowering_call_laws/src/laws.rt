@@ -1,0 +1,9 @@
+//! Laws of the code of calls, each the contract of a function that does nothing.
+
+ghost use Rattle.lowering_call_laws.specs.Laws.{CallsMeet};
+
+/// The code of a call of a function with a scalar result does what the call does, with its turn, its room and its
+/// objects, where that of the arguments and of the function does.
+pub fn calls_meet()
+    ensures { CallsMeet }
+{}
