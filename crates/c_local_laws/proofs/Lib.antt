@@ -1,0 +1,4 @@
+pub mod Numbers
+pub mod Locals
+pub mod Statements
+pub mod Functions
