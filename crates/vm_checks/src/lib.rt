@@ -5,3 +5,4 @@ mod globals;
 mod marks;
 mod names;
 pub mod program;
+pub mod size;

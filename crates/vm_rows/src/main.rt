@@ -1,19 +1,23 @@
-//! Checks the table of the folder `data/`: each row is a program over virtual registers, and says how it runs.
+//! Checks the tables of the folder `data/`: each row is a program over virtual registers, and says how it runs or what
+//! is selected for it.
 //!
-//! The form of the file is described in `docs/rows.md`, and that of its rows at its head.
+//! The form of the files is described in `docs/rows.md`, and that of each kind of row at the head of its file.
 #![tactic(auto)]
 
 mod insns;
+mod kind;
 mod line;
 mod reader;
 mod runs;
+mod selected;
 mod words;
 
-use crate::runs::RunTable;
+use crate::kind::Kind;
 use anyhow::Result;
 use row_sheets::check_tables;
 
-/// Checks the file that the words name, or the one in this folder where there are no words.
+/// Checks the files that the words name, or all of them in this folder where there are no words.
 fn main(rt: HostRuntime) -> Result<()> {
-    check_tables(&rt, &mut [RunTable])
+    let mut kinds = [Kind::Runs, Kind::Selected];
+    check_tables(&rt, &mut kinds)
 }

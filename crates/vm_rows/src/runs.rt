@@ -3,7 +3,6 @@
 use crate::reader::Reader;
 use anyhow::{Result, ensure};
 use bk_io::memory::{MemSink, MemSource};
-use row_sheets::Table;
 use row_sheets::escape::unescape;
 use row_sheets::number::{number, numbers};
 use std::alloc::Global;
@@ -12,10 +11,6 @@ use suifvm_run::run_vm;
 
 /// The most bytes that a run may write.
 const ROOM: u64 = 65_536;
-
-/// The table of runs.
-#[derive(Drop)]
-pub struct RunTable;
 
 /// What a row says of a run besides its program.
 #[derive(Drop)]
@@ -41,7 +36,7 @@ impl Outside {
 }
 
 /// The names of the functions of a program.
-fn names_of(alloc: Global, given: &str) -> Result<Vec<String>> {
+pub(crate) fn names_of(alloc: Global, given: &str) -> Result<Vec<String>> {
     let mut names = Vec::new(alloc);
     for line in given.lines() {
         if let Some(name) = line.strip_prefix("func ") {
@@ -69,40 +64,35 @@ fn lines_of_text(alloc: Global, given: &str) -> Result<Vec<u8>> {
     Ok(text)
 }
 
-impl Table for RunTable {
-    fn file(&self) -> &'static str {
-        "vm_runs.rows"
-    }
-
-    fn answer(&mut self, alloc: Global, given: &str) -> Result<Vec<u8>> {
-        let mut outside = Outside {
-            input: Vec::new(alloc),
-            failing_inputs: Vec::new(alloc),
-            failing_puts: Vec::new(alloc),
-            turns: 1000,
-        };
-        let mut reader = Reader::new(alloc, names_of(alloc, given)?);
-        for line in given.lines() {
-            let (word, rest) = line.split_once(' ').unwrap_or((line, ""));
-            if !outside.take(alloc, word, rest)? {
-                reader.take(line)?;
-            }
+/// How the program of a row runs.
+pub fn answer(alloc: Global, given: &str) -> Result<Vec<u8>> {
+    let mut outside = Outside {
+        input: Vec::new(alloc),
+        failing_inputs: Vec::new(alloc),
+        failing_puts: Vec::new(alloc),
+        turns: 1000,
+    };
+    let mut reader = Reader::new(alloc, names_of(alloc, given)?);
+    for line in given.lines() {
+        let (word, rest) = line.split_once(' ').unwrap_or((line, ""));
+        if !outside.take(alloc, word, rest)? {
+            reader.take(line)?;
         }
-        let program = reader.program()?;
-        let text = vm_text(alloc, &program)?;
-        ensure!(
-            text.as_slice() == lines_of_text(alloc, given)?.as_slice(),
-            "the program's text is another one"
-        );
-        let mut input = MemSource::new(outside.input, outside.failing_inputs);
-        let mut out = MemSink::new(alloc, ROOM, outside.failing_puts)?;
-        let ending = run_vm(alloc, &program, &mut input, &mut out, outside.turns);
-        let mut shown = format!(in alloc; "{ending:?}\n")?.into_bytes();
-        if !out.taken().is_empty() {
-            shown.extend_from_slice(b"out ")?;
-            shown.extend_from_slice(out.taken())?;
-            shown.push(b'\n')?;
-        }
-        Ok(shown)
     }
+    let program = reader.program()?;
+    let text = vm_text(alloc, &program)?;
+    ensure!(
+        text.as_slice() == lines_of_text(alloc, given)?.as_slice(),
+        "the program's text is another one"
+    );
+    let mut input = MemSource::new(outside.input, outside.failing_inputs);
+    let mut out = MemSink::new(alloc, ROOM, outside.failing_puts)?;
+    let ending = run_vm(alloc, &program, &mut input, &mut out, outside.turns);
+    let mut shown = format!(in alloc; "{ending:?}\n")?.into_bytes();
+    if !out.taken().is_empty() {
+        shown.extend_from_slice(b"out ")?;
+        shown.extend_from_slice(out.taken())?;
+        shown.push(b'\n')?;
+    }
+    Ok(shown)
 }

@@ -1,0 +1,23 @@
+//! Programs over temporaries that are selected.
+
+use crate::reader::Reader;
+use crate::runs::names_of;
+use alpha_select::select;
+use anyhow::{Result, ensure};
+use std::alloc::Global;
+use temp_ir::temp_text;
+use vm_checks::size::is_small;
+
+/// The text of the program that is selected for that of a row.
+pub fn answer(alloc: Global, given: &str) -> Result<Vec<u8>> {
+    let mut reader = Reader::new(alloc, names_of(alloc, given)?);
+    for line in given.lines() {
+        if line != "select" {
+            reader.take(line)?;
+        }
+    }
+    let program = reader.program()?;
+    ensure!(is_small(&program), "the program is too large");
+    let selected = select(alloc, &program)?;
+    Ok(temp_text(alloc, &selected)?)
+}
