@@ -4,7 +4,7 @@
 -- there are turns.
 use Rattle.std.specs.Prelude.{◌≡◌, ℕ, suc, slice_get, Some}
 use Rattle.c_typed_tree.specs.Expressions.{Expr, type_of}
-use Rattle.c_typed_tree.specs.Statements.{Stmt, While}
+use Rattle.c_typed_tree.specs.Statements.{Stmt, While, Do}
 use Rattle.c_semantics.specs.Runs.{Run}
 use Rattle.c_semantics.specs.Objects.{Scope}
 use Rattle.c_semantics.specs.Evaluates.{Functions}
@@ -33,3 +33,10 @@ LoopsMeet =
     (x : Expr) (body : Stmt) → IsScalarType (type_of x) → ((k : ℕ) → ExprMeets (at_level c levels k) x) →
     ((k : ℕ) → StmtMeets (at_level c levels k) (levels.statements k) body) → (k : ℕ) →
     StmtMeets (at_level c levels k) (levels.statements k) (While x body)
+
+abbrev pub DoLoopsMeet : Type 0
+DoLoopsMeet =
+    (c : Setting) (levels : Levels) → slice_get c.functions c.number ≡ Some c.code → AreLevels c levels →
+    (x : Expr) (body : Stmt) → IsScalarType (type_of x) → ((k : ℕ) → ExprMeets (at_level c levels k) x) →
+    ((k : ℕ) → StmtMeets (at_level c levels k) (levels.statements k) body) → (k : ℕ) →
+    StmtMeets (at_level c levels k) (levels.statements k) (Do body x)
