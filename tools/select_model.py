@@ -1,14 +1,10 @@
 """Selects programs by a model apart from the compiler's.
 
 usage: tools/select_model.py < FILE
-       tools/select_model.py --runs < RUNS > FILE
 
 FILE is `crates/vm_rows/data/selected.rows`. It is printed again with what the model says is due of each row, so that
 nothing has changed where the rows are right. The model is the table of `docs/selection.md`. Constants that one
 instruction makes it makes so; others it makes too, but not in the shortest way, so no row of that file has any.
-
-With `--runs` it takes `crates/vm_rows/data/vm_runs.rows`, and prints `crates/temp_rows/data/selected_runs.rows`: the
-programs that are selected for those that have no object, with the endings of the rows.
 """
 import re
 import sys
@@ -196,73 +192,5 @@ def main():
             given, is_due = [], True
 
 
-HEAD = """\
-# Runs of programs over temporaries that are selected for those of `crates/vm_rows/data/vm_runs.rows`, where these have
-# no object. The code is that of the model of selection (tools/select_model.py), and the endings are those of the rows
-# that it is selected for (tools/vm_model.py). The form is that of `temp_runs.rows`.
-"""
-
-
-def rows_of(lines):
-    """The comment, the given lines and what is due of each row."""
-    comment, given, due = [], [], None
-    for line in lines + [""]:
-        if due is not None and line.startswith("  "):
-            due.append(line[2:])
-            continue
-        if due is not None:
-            yield comment, given, due
-            comment, given, due = [], [], None
-        if not given and (not line or line.startswith("#")):
-            comment = comment + [line] if line else []
-            continue
-        given.append(line.removesuffix(" =>"))
-        if line.endswith(" =>"):
-            due = []
-
-
-def main_first(given):
-    """The functions, with `main` in front, and the lines that say how the program runs."""
-    functions, outside = [], []
-    for line in given:
-        if line.startswith("func "):
-            functions.append([])
-        (outside if line.startswith(("input", "turns")) else functions[-1]).append(line)
-    return sum(sorted(functions, key=lambda lines: lines[0] != "func main"), []), outside
-
-
-def ending(due):
-    number = re.search(r"\d+", due[0])[0]
-    word = due[0].split(" ")[0]
-    shown = {"Ended": f"Done({number})", "Trapped": f"Trap({number})", "Budget": "More"}[word]
-    return shown + (f" {due[1]}" if len(due) > 1 else "")
-
-
-def run_row(comment, given, due):
-    functions, outside = main_first(given)
-    params = [line for line in functions if line.startswith("params ")]
-    registers = [int(line.split(" ")[1]) for line in functions if line.startswith("registers ")]
-    shown = []
-    for line in selected(functions):
-        shown.append(line)
-        if line.startswith("func "):
-            shown += [params.pop(0), f"temps {registers.pop(0) + 4}"]
-    lines = shown + outside[:-1] + [outside[-1] + " =>"]
-    return comment, lines, [f"  {name} {ending(due)}" for name in ("temporaries", "slots")]
-
-
-def runs():
-    print(HEAD, end="")
-    seen = []
-    for comment, given, due in rows_of(sys.stdin.read().splitlines()):
-        text = "\n".join(given)
-        if re.search(r"^(global|object|failing|\d+ (lda|lod|str|mcpy))", text, re.M) or due[0].startswith("Undefined"):
-            continue
-        comment, lines, ends = run_row(comment, given, due)
-        if lines not in seen:
-            seen.append(lines)
-            print("\n".join([""] + comment + lines + ends))
-
-
 if __name__ == "__main__":
-    runs() if sys.argv[1:] == ["--runs"] else main()
+    main()
