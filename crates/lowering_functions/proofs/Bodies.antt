@@ -1,5 +1,5 @@
 -- The code of statements is good where that behind it is.
-use Rattle.std.proofs.Common.{◌≡◌, ◌≤◌, ◌<◌, ℕ, suc, ◌+◌, ◌*◌, max, Bool, true, false, List, [], ◌∷◌, Option, Some, None, length, slice_get, take, if◌then◌else◌, refl, ◌∙◌, arith}
+use Rattle.std.proofs.Common.{◌≡◌, ◌≤◌, ◌<◌, ◌-◌, ◌^◌, subst, sym, ap, ℕ, suc, ◌+◌, ◌*◌, max, Bool, true, false, List, [], ◌∷◌, Option, Some, None, length, slice_get, take, if◌then◌else◌, refl, ◌∙◌, arith}
 use Rattle.std.proofs.lemmas.Option.{slice_get_within}
 use Rattle.std.proofs.lemmas.List.{length-take}
 use Rattle.c_typed_tree.specs.declared.types.StructDef.{StructDef}
@@ -303,3 +303,12 @@ function_emits most ds g few h =
     (m.joins most (2 * length (take g.params g.locals)) (16 * stmt_parts (stmt_view g.body)) [] _ _
     (parameters_emits most (length g.locals) ds g.locals refl 0 (take g.params g.locals) _ (omega (arith, n, few)) (omega (arith, h)))
     (stmt_emits most (length g.locals) ds g.locals refl 0 0 (stmt_view g.body) [] (omega arith) (omega arith) h))
+
+-- what laying out asks of the code of a function
+pub good_items : (ds : List StructDef) (g : TypedFn) (is : List Item) → is ≡ f.items_of ds g → g.params ≤ length g.locals
+    → length g.locals + 5 * max 5 (stmt_levels (stmt_view g.body)) < 2 ^ 32 - 1 → IsGood (2 ^ 32 - 1) 0 is
+good_items ds g is e few h = subst (IsGood (2 ^ 32 - 1) 0) (sym e) ((function_emits (2 ^ 32 - 1) ds g few (omega (arith, h))).good 0 refl)
+
+pub few_items : (ds : List StructDef) (g : TypedFn) (is : List Item) → is ≡ f.items_of ds g → g.params ≤ length g.locals
+    → length g.locals + 5 * max 5 (stmt_levels (stmt_view g.body)) < 2 ^ 32 - 1 → 2 * (2 * g.params + 16 * stmt_parts (stmt_view g.body)) + 3 < 2 ^ 30 → 2 * length is + 3 < 2 ^ 30
+few_items ds g is e few h size = omega (arith, ap (λ x. length x) e, (function_emits (2 ^ 32 - 1) ds g few (omega (arith, h))).size, size)

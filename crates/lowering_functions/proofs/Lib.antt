@@ -1,3 +1,4 @@
 pub mod Emits
 pub mod Forms
 pub mod Bodies
+pub mod Objects

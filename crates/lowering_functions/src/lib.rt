@@ -1,4 +1,8 @@
-//! The code of functions over virtual registers: that it is good.
+//! The code of functions over virtual registers, as blocks, and that such code is good.
 #![tactic(auto)]
 
 pub mod laws;
+pub mod lower;
+pub mod memory;
+
+pub use lower::lower_function;

@@ -1,0 +1,48 @@
+//! The objects of a function: its memory locals, in order.
+
+ghost use Rattle.std.specs.Prelude.{◌≡◌, [], ◌∷◌, ◌++◌, All, OnOk, IfOk};
+ghost use Rattle.lowering_code.specs.Functions.{object_for, objects_of};
+ghost use Rattle.lowering_functions.specs.Scopes.{HasSize};
+
+use c_tree::Seq;
+use c_typed_tree::layout::{align_of, size_of};
+use c_typed_tree::{Local, StructDef};
+use std::alloc::{AllocError, Global};
+use suifvm_ir::function::Object;
+
+fn object(structs: &[StructDef], local: &Local) -> Object
+    requires { HasSize structs.now local.now }
+    ensures { result ≡ object_for structs.now local.now }
+{
+    Object {
+        size: size_of(structs, &local.ty),
+        align: align_of(structs, &local.ty) as u32,
+    }
+}
+
+fn add(objects: &mut Seq<Object>, structs: &[StructDef], local: &Local) -> Result<(), AllocError>
+    requires { HasSize structs.now local.now }
+    ensures { OnOk result (objects.new ≡ objects.old ++ objects_of structs.now (local.now ∷ [])) }
+{
+    if !local.in_memory {
+        return Ok(());
+    }
+    objects.push(object(structs, local))
+}
+
+/// The objects of the locals. It fails only where memory is short.
+#[tactic(auto, using(crate::proofs::Objects::objects_more))]
+pub fn objects(
+    alloc: Global,
+    structs: &[StructDef],
+    locals: &[Local],
+) -> Result<Seq<Object>, AllocError>
+    requires { All (HasSize structs.now) locals.now }
+    ensures { IfOk result (λ o. o ≡ objects_of structs.now locals.now) }
+{
+    let mut objects = Seq::new(alloc);
+    for local in locals {
+        add(&mut objects, structs, local)?;
+    }
+    Ok(objects)
+}
