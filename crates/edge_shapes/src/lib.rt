@@ -1,0 +1,4 @@
+//! That the transfers of the edges between blocks fit the frame of their function.
+#![tactic(auto)]
+
+pub mod laws;
