@@ -183,7 +183,7 @@ module _ (c : Context) where
 record StmtIn (unit : TypedUnit) (n : ℕ) (j : Jumps) (s t : Stmt) : Type 0 where
   typed : IsTypedAt unit n j s
   declares : declared_by s ≡ declared_by t
-  declarations : (number : ℕ) → declarations number s ≤ declarations number t
+  declarations : (number : ℕ) → declarations number s ≡ declarations number t
   named : (a : Referent) → IsTrue (stmt_names a s) → IsTrue (stmt_names a t)
   weight : stmt_weight unit.structs s ≤ stmt_weight unit.structs t
 
@@ -196,20 +196,20 @@ module _ (unit : TypedUnit) (n : ℕ) where
 
   record ElseIn (j : Jumps) (s t : Else) : Type 0 where
     typed : IsTrue (is_typed_else here gives j s)
-    declarations : (number : ℕ) → else_declarations number s ≤ else_declarations number t
+    declarations : (number : ℕ) → else_declarations number s ≡ else_declarations number t
     named : (a : Referent) → IsTrue (else_names a s) → IsTrue (else_names a t)
     weight : else_weight unit.structs s ≤ else_weight unit.structs t
 
   record StmtsIn (j : Jumps) (s t : Stmts) : Type 0 where
     typed : IsTrue (are_typed_stmts here gives j s)
     declares : declared_in s ≡ declared_in t
-    declarations : (number : ℕ) → stmts_declarations number s ≤ stmts_declarations number t
+    declarations : (number : ℕ) → stmts_declarations number s ≡ stmts_declarations number t
     named : (a : Referent) → IsTrue (stmts_names a s) → IsTrue (stmts_names a t)
     weight : stmts_weight unit.structs s ≤ stmts_weight unit.structs t
 
   record SectionsIn (j : Jumps) (s t : Sections) : Type 0 where
     typed : IsTrue (are_typed_sections here gives j s)
-    declarations : (number : ℕ) → sections_declarations number s ≤ sections_declarations number t
+    declarations : (number : ℕ) → sections_declarations number s ≡ sections_declarations number t
     named : (a : Referent) → IsTrue (sections_names a s) → IsTrue (sections_names a t)
     weight : sections_weight unit.structs s ≤ sections_weight unit.structs t
 

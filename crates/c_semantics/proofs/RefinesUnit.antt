@@ -25,7 +25,7 @@ use Rattle.c_semantics.specs.Executes.{Flow, Goes, Breaks, Continues, Returns, w
 use Rattle.c_semantics.specs.Behaves.{world_of, status_of, ended_by, ending_of, run_of, place_of_main, main_of, run}
 use Rattle.c_semantics.specs.Refines as r
 use Rattle.c_semantics.specs.Refines.{with_peak, lower_peak, GivesBelow, IsBelow, context_at, result_at, IsTypedAt, FnRefines, FnsRefine, EndingRefines, with_functions, WeighNoMore, UnitRefines, UnitsRefine}
-use Rattle.c_typed_tree.specs.Declarations.{declarations, most_declarations}
+use Rattle.c_typed_tree.specs.Declarations.{declarations, due_declarations}
 use Rattle.c_semantics.proofs.Facts.{no_true, along}
 use Rattle.c_semantics.proofs.Forms as forms
 use Rattle.c_semantics.proofs.Below.{below_on, refines_below, onto, BelowOf, kept, no_turn_below}
@@ -180,8 +180,9 @@ typed_fn unit fs n h {f = f} {g = g} e k t p =
           (subst (λ ls. body_by unit (map signature_of unit.functions) ls (type_view f.result) (stmt_view f.body)) (sym k.locals)
           (subst (λ x. body_by unit (map signature_of unit.functions) g.locals (type_view x) (stmt_view f.body)) (sym k.result) body));
       declares = λ number.
-          subst (λ params. declarations number (stmt_view f.body) ≤ most_declarations params number) (sym k.params)
-          (let l = (k.body unit n no_jumps p).declarations number in omega (arith, l, t.declares number));
+          subst (λ params. declarations number (stmt_view f.body) ≡ due_declarations params (length f.locals) number) (sym k.params)
+          (subst (λ ls. declarations number (stmt_view f.body) ≡ due_declarations g.params (length ls) number) (sym k.locals)
+          ((k.body unit n no_jumps p).declarations number ∙ t.declares number));
     }
 
 typed_by : (unit : TypedUnit) (fs : List TypedFn) (n : ℕ) → FnsRefine fs unit.functions → (a b : Option TypedFn) → Related unit n a b → slice_get unit.functions n ≡ b

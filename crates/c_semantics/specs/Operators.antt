@@ -59,10 +59,11 @@ compare_by reason test v w = on_memory (λ m. or_undefined (unless_dead m v w re
 abbrev pub pure_truth : Bool → Run Value
 pure_truth b = pure (Word (truth b))
 
--- a distance in whole elements (C99 6.5.6)
+-- a distance in whole elements (C99 6.5.6); elements without bytes, which no text has, have none
 abbrev pub elements : (bytes : ℤ) → (size : ℕ) → Run Value
 elements bytes size =
-    if int_eq (int_rem bytes (pos size)) (pos 0) then pure (Word (word i.Long (int_div bytes (pos size))))
+    if size == 0 then undefined ComparesApart
+    else if int_eq (int_rem bytes (pos size)) (pos 0) then pure (Word (word i.Long (int_div bytes (pos size))))
     else undefined ComparesApart
 
 abbrev pub distance : List StructDef → (element : PlainType) → Value → Value → Run Value

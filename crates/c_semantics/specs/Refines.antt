@@ -111,12 +111,12 @@ abbrev pub IsTypedAt : TypedUnit → (function : ℕ) → Jumps → Stmt → Typ
 IsTypedAt unit n j s =
     IsTrue (is_typed_stmt (context_at unit (slice_get unit.functions n)) (result_at (slice_get unit.functions n)) j s)
 
--- a statement refines another one that declares the same locals directly, and each local within it at most as often,
--- at every level
+-- a statement refines another one that declares the same locals directly, and each local within it as often, at every
+-- level
 pub record StmtRefinesIn (unit : TypedUnit) (n : ℕ) (j : Jumps) (s t : Stmt) : Type 0 where
   pub typed : IsTypedAt unit n j s
   pub declares : declared_by s ≡ declared_by t
-  pub declarations : (number : ℕ) → declarations number s ≤ declarations number t
+  pub declarations : (number : ℕ) → declarations number s ≡ declarations number t
   pub named : (a : Referent) → IsTrue (stmt_names a s) → IsTrue (stmt_names a t)
   pub weight : stmt_weight unit.structs s ≤ stmt_weight unit.structs t
   pub does : (rooms : Rooms) (m : ℕ) (scope : Scope) →

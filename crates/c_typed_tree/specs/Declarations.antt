@@ -1,6 +1,6 @@
 -- How often a statement declares the local with a number (C99 6.7): the declarations that stand in it, whether a run
 -- comes to them or not.
-use Rattle.std.specs.Prelude.{ℕ, ◌+◌, ◌<◌, ◌==◌, cond, nat_lt, sum_by}
+use Rattle.std.specs.Prelude.{ℕ, ◌+◌, ◌<◌, ◌==◌, ◌&&◌, cond, nat_le, nat_lt, sum_by}
 use Rattle.c_typed_tree.specs.Statements.{LocalDeclaration, First, Nothing, Value, Locals, Stmt, Block, If, While, Do, For, Switch, Break, Continue, Return, Expression, Empty, Declare, Else, no_else, else_stmt, Stmts, no_stmts, more_stmts, Sections, no_sections, more_sections}
 
 abbrev pub declarations_here : (number : ℕ) → LocalDeclaration → ℕ
@@ -39,6 +39,6 @@ abbrev mutual
   sections_declarations number (more_sections label ss rest) =
       stmts_declarations number ss + sections_declarations number rest
 
--- a body declares no parameter, and each other local at most once
-abbrev pub most_declarations : (params number : ℕ) → ℕ
-most_declarations params number = cond (nat_lt number params) 0 1
+-- a body declares no parameter, and each other local of its function once
+abbrev pub due_declarations : (params locals number : ℕ) → ℕ
+due_declarations params locals number = cond (nat_le params number && nat_lt number locals) 1 0

@@ -15,7 +15,7 @@ use Rattle.c_typed_tree.specs.Layout.{is_object, IsLaidOut}
 use Rattle.c_typed_tree.specs.Typing.{is_same_type, int, is_void, is_scalar, is_type, depth_of, most_depth, Signature, Context}
 use Rattle.c_typed_tree.specs.TypingStatements.{no_jumps, is_typed_stmt}
 use Rattle.c_typed_tree.specs.Counts.{function_nodes}
-use Rattle.c_typed_tree.specs.Declarations.{declarations, most_declarations}
+use Rattle.c_typed_tree.specs.Declarations.{declarations, due_declarations}
 
 -- ---- types that are declared
 
@@ -30,13 +30,13 @@ greatest_depth ds [] = 0
 greatest_depth ds (m ∷ ms) = max (depth_of ds (type_view m.ty)) (greatest_depth ds ms)
 
 -- the members of a complete struct are objects, and what they say of it is written down. It is deeper than each of
--- its members, so none holds itself (C99 6.7.2.1)
+-- its members, so none holds itself, and it may be one deeper than what is declared with it (C99 6.7.2.1)
 pub record IsCompleteStruct (ds : List StructDef) (d : StructDef) : Type 0 where
   pub types : IsTrue (list_all (λ m. is_object_type ds (type_view m.ty)) d.members)
   pub layout : IsLaidOut ds d
   pub size : d.size ≤ MOST_DATA
   pub depth : d.depth ≡ 1 + greatest_depth ds d.members
-  pub bound : d.depth ≤ most_depth
+  pub bound : d.depth ≤ 1 + most_depth
 
 -- of one that is not complete nothing is known
 pub record IsIncompleteStruct (d : StructDef) : Type 0 where
@@ -91,7 +91,8 @@ abbrev pub is_identifier : List ℕ → Bool
 is_identifier [] = false
 is_identifier (b ∷ bytes) = is_letter b && list_all is_letter_or_digit bytes
 
--- a function of a unit: its parameters are its first locals, its body is well typed and declares no local twice
+-- a function of a unit: its parameters are its first locals, its body is well typed and declares each other
+-- local once
 pub record IsTypedFn (u : TypedUnit) (f : TypedFn) : Type 0 where
   pub name : IsTrue (is_identifier f.name)
   pub result : IsTrue (is_result u.structs (type_view f.result))
@@ -100,7 +101,7 @@ pub record IsTypedFn (u : TypedUnit) (f : TypedFn) : Type 0 where
   pub count : length f.locals < 2 ^ 32
   pub locals : IsTrue (list_all (is_lawful_local u.structs) f.locals)
   pub body : IsTrue (is_typed_stmt (context_of u f) (type_view f.result) no_jumps (stmt_view f.body))
-  pub declares : (number : ℕ) → declarations number (stmt_view f.body) ≤ most_declarations f.params number
+  pub declares : (number : ℕ) → declarations number (stmt_view f.body) ≡ due_declarations f.params (length f.locals) number
 
 -- ---- units
 

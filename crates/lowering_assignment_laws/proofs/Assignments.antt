@@ -37,7 +37,7 @@ use Rattle.suifvm_ir.specs.declared.insn.VmInsn.TheVariants as n
 use Rattle.vm_meaning.specs.Operations as vm
 use Rattle.vm_meaning.specs.Effect.{writes, changes}
 use Rattle.vm_meaning.specs.Behave.{Registers, set_register}
-use Rattle.lowering_code.specs.declared.item.Item.{Item}
+use Rattle.lowering_code.specs.declared.item.CodeItem.{CodeItem}
 use Rattle.lowering_code.specs.Registers.{register_type, memory_type, value_register, address_register}
 use Rattle.lowering_code.specs.Expressions.{plain_of, move_code, set_scalar_code, register_of, assign_code, plus_of, expr_code, place_code}
 use Rattle.lowering_states.specs.Places.{Place, next_place}
@@ -172,7 +172,7 @@ module _ (c : Setting) (found : slice_get c.functions c.number ≡ Some c.code) 
   -- ---- to memory
 
   -- the store, and the value into its register, behind both parts
-  module _ (ty : PlainType) (d left : ℕ) (rest : List Item) (heads : List ℕ) (f : Names) (scope : Scope) (r : Registers) (s : State) (m : Memory) (K : Value → State → Observation) (next : Follows c d ty heads rest f scope r s m K)
+  module _ (ty : PlainType) (d left : ℕ) (rest : List CodeItem) (heads : List ℕ) (f : Names) (scope : Scope) (r : Registers) (s : State) (m : Memory) (K : Value → State → Observation) (next : Follows c d ty heads rest f scope r s m K)
       (scalar : IsScalarType ty) (q : Place) (base at v : Value) (g : Names) (t : State) (q1 : Registers) (m1 : Memory) (aft : Aft c f s m g t m1) (fit : Fit c g scope q1 t m1) (kept : KeepsLower L d r q1) (held : IsHeld ty v)
       (rel : IsValueOf g v (q1 (value_register L (suc d) ty))) (base_rel : IsValueOf g base (q1 (address_register L d))) (moved : IsMoved t.world.outer.memory base left at) (set : vm.is_set v ≡ true)
       (stands : Stands c heads q (set_scalar_code L d left ty rest)) where
@@ -287,7 +287,7 @@ module _ (c : Setting) (found : slice_get c.functions c.number ≡ Some c.code) 
   unset_write ty at Unset t K (inr x) e = ap (λ z. finish (and_then (write_at c.structs z at Unset t) (λ _. pure Unset)) K) x.1
 
   -- a scalar that is put, by its type and by whether it is set
-  put_scalar : (ty : PlainType) (d left : ℕ) (rest : List Item) (heads : List ℕ) (f : Names) (scope : Scope) (r : Registers) (s : State) (m : Memory) (K : Value → State → Observation) → Follows c d ty heads rest f scope r s m K
+  put_scalar : (ty : PlainType) (d left : ℕ) (rest : List CodeItem) (heads : List ℕ) (f : Names) (scope : Scope) (r : Registers) (s : State) (m : Memory) (K : Value → State → Observation) → Follows c d ty heads rest f scope r s m K
       → IsScalarType ty → (q : Place) (base at v : Value) (g : Names) (t : State) (q1 : Registers) (m1 : Memory) → Aft c f s m g t m1 → Fit c g scope q1 t m1 → KeepsLower L d r q1 → IsHeld ty v
       → IsValueOf g v (q1 (value_register L (suc d) ty)) → IsValueOf g base (q1 (address_register L d)) → IsMoved t.world.outer.memory base left at → Stands c heads q (set_scalar_code L d left ty rest)
       → EndsSo c (finish (and_then (write_at c.structs ty at v t) (λ _. pure v)) K) q q1 t.world m1
@@ -303,7 +303,7 @@ module _ (c : Setting) (found : slice_get c.functions c.number ≡ Some c.code) 
           (pointer_store ty d left rest heads f scope r s m K next scalar q base at v g t q1 m1 aft fit kept held rel base_rel moved e stands x.0 at refl x.1)
 
   -- the code, and the value, of an assignment of a scalar to memory
-  scalar_code : (ty right : PlainType) (d left : ℕ) (place : List Item → List Item) (value : ℕ → List Item → List Item) (rest : List Item) → IsScalarType ty
+  scalar_code : (ty right : PlainType) (d left : ℕ) (place : List CodeItem → List CodeItem) (value : ℕ → List CodeItem → List CodeItem) (rest : List CodeItem) → IsScalarType ty
       → assign_code L c.structs c.locals d None ty right left None place value rest ≡ place (value (suc d) (set_scalar_code L d left ty rest))
   scalar_code ty right d left place value rest (inl x) =
       subst (λ z. assign_code L c.structs c.locals d None z right left None place value rest ≡ place (value (suc d) (set_scalar_code L d left z rest))) (sym x.1) refl

@@ -24,7 +24,7 @@ use Rattle.suifvm_ir.specs.declared.insn.VmInsn.TheVariants as n
 use Rattle.vm_meaning.specs.Operations as vm
 use Rattle.vm_meaning.specs.Effect.{input_word, callee_act, fails}
 use Rattle.vm_meaning.specs.Behave.{set_register}
-use Rattle.lowering_code.specs.declared.item.Item.TheVariants.{Plain}
+use Rattle.lowering_code.specs.declared.item.CodeItem.TheVariants.{Plain}
 use Rattle.lowering_code.specs.Registers.{register_type, value_register}
 use Rattle.lowering_code.specs.Expressions.{plain_of}
 use Rattle.lowering_states.specs.Places.{next_place}

@@ -24,8 +24,8 @@ use Rattle.suifvm_ir.specs.declared.insn.VmInsn.{VmInsn}
 use Rattle.suifvm_ir.specs.declared.insn.VmInsn.TheVariants as n
 use Rattle.vm_meaning.specs.Operations as vm
 use Rattle.vm_meaning.specs.Behave.{Registers, set_register, first_or_unset}
-use Rattle.lowering_code.specs.declared.item.Item.{Item}
-use Rattle.lowering_code.specs.declared.item.Item.TheVariants.{Plain}
+use Rattle.lowering_code.specs.declared.item.CodeItem.{CodeItem}
+use Rattle.lowering_code.specs.declared.item.CodeItem.TheVariants.{Plain}
 use Rattle.lowering_code.specs.Registers.{register_type, value_register}
 use Rattle.lowering_code.specs.Expressions.{plain_of, destination_of, argument_registers, exprs_code}
 use Rattle.lowering_states.specs.Places.{Place, next_place}
@@ -82,12 +82,12 @@ module _ (c : Setting) (found : slice_get c.functions c.number ≡ Some c.code) 
 
   -- ---- arguments
 
-  abbrev ArgumentsFollow : (d : ℕ) → Exprs → (heads : List ℕ) → (rest : List Item) → Names → Scope → Registers → State → Memory → (List Value → State → Observation) → Type 0
+  abbrev ArgumentsFollow : (d : ℕ) → Exprs → (heads : List ℕ) → (rest : List CodeItem) → Names → Scope → Registers → State → Memory → (List Value → State → Observation) → Type 0
   ArgumentsFollow d xs heads rest f scope r s m K =
       (q : Place) (vs : List Value) (g : Names) (t : State) (q1 : Registers) (m1 : Memory) → Stands c heads q rest → Aft c f s m g t m1 → Fit c g scope q1 t m1 → KeepsLower L d r q1
       → AreArguments g vs (map q1 (argument_registers L c.structs c.locals d xs)) → EndsSo c (K vs t) q q1 t.world m1
 
-  arguments : (xs : Exprs) → ArgumentsMeet c xs → (d : ℕ) (rest : List Item) (heads : List ℕ) (p : Place) (f : Names) (scope : Scope) (r : Registers) (s : State) (m : Memory) (K : List Value → State → Observation)
+  arguments : (xs : Exprs) → ArgumentsMeet c xs → (d : ℕ) (rest : List CodeItem) (heads : List ℕ) (p : Place) (f : Names) (scope : Scope) (r : Registers) (s : State) (m : Memory) (K : List Value → State → Observation)
       → Stands c heads p (exprs_code L c.structs c.locals d xs rest) → Fit c f scope r s m → s.world.meter.turns ≤ c.level → ArgumentsFollow d xs heads rest f scope r s m K
       → EndsSo c (finish (evals c.structs c.locals c.calls scope xs s) K) p r s.world m
   unfolding opens
@@ -111,7 +111,7 @@ module _ (c : Setting) (found : slice_get c.functions c.number ≡ Some c.code) 
 
   module _ (ty : PlainType) (k : ℕ) (xs : Exprs) (scalar : IsScalarType ty) (callee : FunctionMeets c k ty) where
     -- once the arguments stand in registers
-    call_leads : (d : ℕ) (rest : List Item) (heads : List ℕ) (f : Names) (scope : Scope) (r : Registers) (s : State) (m : Memory) (K : Value → State → Observation) → Follows c d ty heads rest f scope r s m K
+    call_leads : (d : ℕ) (rest : List CodeItem) (heads : List ℕ) (f : Names) (scope : Scope) (r : Registers) (s : State) (m : Memory) (K : Value → State → Observation) → Follows c d ty heads rest f scope r s m K
         → (q : Place) (vs : List Value) (g : Names) (t : State) (q1 : Registers) (m1 : Memory) → Stands c heads q (Plain (n.Call (Some (value_register L d ty)) (vk.Function k) (argument_registers L c.structs c.locals d xs)) ∷ rest)
         → Aft c f s m g t m1 → Fit c g scope q1 t m1 → KeepsLower L d r q1 → AreArguments g vs (map q1 (argument_registers L c.structs c.locals d xs)) → t.world.meter.turns ≤ c.level
         → EndsSo c (finish (c.calls k vs t) (λ v u. finish (call_result ty v u) K)) q q1 t.world m1

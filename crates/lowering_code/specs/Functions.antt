@@ -12,7 +12,7 @@ use Rattle.suifvm_ir.specs.declared.insn.Place.TheVariants as p
 use Rattle.suifvm_ir.specs.declared.insn.VmInsn as vm
 use Rattle.suifvm_ir.specs.declared.insn.VmInsn.TheVariants as n
 use Rattle.suifvm_ir.specs.declared.function.Object.{Object}
-use Rattle.lowering_code.specs.declared.item.Item.{Item}
+use Rattle.lowering_code.specs.declared.item.CodeItem.{CodeItem}
 use Rattle.lowering_code.specs.Registers.{temporary, address_register, object_of}
 use Rattle.lowering_code.specs.Expressions.{constant_code, store_code, address_code}
 use Rattle.lowering_code.specs.Statements.{stmt_code}
@@ -27,14 +27,14 @@ objects_of ds ls = map (object_for ds) (filter (λ l. l.in_memory) ls)
 
 module _ (locals : ℕ) (ds : List StructDef) (ls : List Local) where
   -- an argument comes in the first registers; one of a parameter in memory is stored
-  abbrev pub parameter_code : (number : ℕ) → Local → List Item → List Item
+  abbrev pub parameter_code : (number : ℕ) → Local → List CodeItem → List CodeItem
   parameter_code k l rest =
       if l.in_memory
       then address_code locals 0 (p.Local (object_of ls k)) 0
       (store_code (type_view l.ty) (address_register locals 0) 0 k rest)
       else rest
 
-  abbrev pub parameters_code : (number : ℕ) → List Local → List Item → List Item
+  abbrev pub parameters_code : (number : ℕ) → List Local → List CodeItem → List CodeItem
   parameters_code k [] rest = rest
   parameters_code k (l ∷ more) rest = parameter_code k l (parameters_code (suc k) more rest)
 
@@ -47,7 +47,7 @@ end_of locals main =
     ∷ []
     else n.Return None ∷ []
 
-abbrev pub items_of : List StructDef → TypedFn → List Item
+abbrev pub items_of : List StructDef → TypedFn → List CodeItem
 items_of ds f =
     parameters_code (length f.locals) ds f.locals 0 (take f.params f.locals)
     (stmt_code (length f.locals) ds f.locals 0 0 (stmt_view f.body) [])

@@ -1,10 +1,10 @@
 -- Names of blocks.
 use Rattle.std.specs.Prelude.{ℕ, suc, List, [], ◌∷◌}
-use Rattle.lowering_code.specs.declared.item.Item.{Item}
-use Rattle.lowering_code.specs.declared.item.Item.TheVariants.{Start, Plain, Jump, Branch, Loop, Enter, Again, Repeat, Return}
+use Rattle.lowering_code.specs.declared.item.CodeItem.{CodeItem}
+use Rattle.lowering_code.specs.declared.item.CodeItem.TheVariants.{Start, Plain, Jump, Branch, Loop, Enter, Again, Repeat, Return}
 
 -- how many blocks begin in the code: this is the name of the block that begins with it
-abbrev pub count : List Item → ℕ
+abbrev pub count : List CodeItem → ℕ
 count [] = 0
 count (Start ∷ is) = suc (count is)
 count (Plain insn ∷ is) = count is

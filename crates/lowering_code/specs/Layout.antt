@@ -5,8 +5,8 @@ use Rattle.std.specs.Prelude.{ℕ, suc, ◌-◌, List, [], ◌∷◌, ◌++◌, 
 use Rattle.suifvm_ir.specs.declared.insn.BranchOp.TheVariants.{IfTrue}
 use Rattle.suifvm_ir.specs.declared.insn.VmInsn as vm
 use Rattle.suifvm_ir.specs.declared.insn.VmInsn.TheVariants as n
-use Rattle.lowering_code.specs.declared.item.Item.{Item}
-use Rattle.lowering_code.specs.declared.item.Item.TheVariants.{Start, Plain, Jump, Branch, Loop, Enter, Again, Repeat, Return}
+use Rattle.lowering_code.specs.declared.item.CodeItem.{CodeItem}
+use Rattle.lowering_code.specs.declared.item.CodeItem.TheVariants.{Start, Plain, Jump, Branch, Loop, Enter, Again, Repeat, Return}
 use Rattle.lowering_code.specs.Items.{count}
 
 -- how far the layout has come: the number of the last block, which has the name 0; the blocks that are whole, the
@@ -46,7 +46,7 @@ close_loop l = record l { heads = outer_heads l.heads }
 abbrev pub block_with : (name : ℕ) → Layout → ℕ
 block_with name l = l.last - name
 
-abbrev pub with_item : Item → Layout → Layout
+abbrev pub with_item : CodeItem → Layout → Layout
 with_item Start l = end_block l
 with_item (Plain insn) l = with_insn insn l
 with_item (Jump name) l = end_with (n.Jump (block_with name l)) l
@@ -57,7 +57,7 @@ with_item (Again ty source) l = close_loop (end_with (n.Branch IfTrue ty source 
 with_item Repeat l = close_loop (end_with (n.Jump (head_of l.heads)) l)
 with_item (Return value) l = end_with (n.Return value) l
 
-abbrev pub with_items : List Item → Layout → Layout
+abbrev pub with_items : List CodeItem → Layout → Layout
 with_items [] l = l
 with_items (i ∷ is) l = with_items is (with_item i l)
 
@@ -65,7 +65,7 @@ abbrev pub no_block : (last : ℕ) → Layout
 no_block last = record { last = last; blocks = []; insns = []; heads = [] }
 
 -- the blocks of the code of a function, of which the last one ends with these instructions
-abbrev pub blocks_of : (end : List vm.VmInsn) → List Item → List (List vm.VmInsn)
+abbrev pub blocks_of : (end : List vm.VmInsn) → List CodeItem → List (List vm.VmInsn)
 blocks_of end is =
     let l = with_items is (no_block (count is)) in
     l.blocks ++ (l.insns ++ end) ∷ []

@@ -17,8 +17,8 @@ use Rattle.suifvm_ir.specs.declared.insn.BranchOp.TheVariants.{IfTrue, IfFalse}
 use Rattle.suifvm_ir.specs.declared.insn.CompareOp.TheVariants.{Equal}
 use Rattle.suifvm_ir.specs.declared.insn.Place.TheVariants as p
 use Rattle.suifvm_ir.specs.declared.insn.VmInsn.TheVariants as n
-use Rattle.lowering_code.specs.declared.item.Item.{Item}
-use Rattle.lowering_code.specs.declared.item.Item.TheVariants.{Start, Plain, Jump, Loop, Enter, Again, Repeat, Return}
+use Rattle.lowering_code.specs.declared.item.CodeItem.{CodeItem}
+use Rattle.lowering_code.specs.declared.item.CodeItem.TheVariants.{Start, Plain, Jump, Loop, Enter, Again, Repeat, Return}
 use Rattle.lowering_code.specs.Registers.{register_type, temporary, value_register, address_register, object_of}
 use Rattle.lowering_code.specs.Items.{count}
 use Rattle.lowering_code.specs.Expressions.{constant_code, move_code, store_code, branch_code, address_code, copy_code, expr_code}
@@ -40,11 +40,11 @@ default_name otherwise (t ∷ targets) = name_if_default t.label t.name (default
 module _ (locals : ℕ) (ds : List StructDef) (ls : List Local) where
   -- ---- values of statements
 
-  abbrev pub value_code : Expr → List Item → List Item
+  abbrev pub value_code : Expr → List CodeItem → List CodeItem
   value_code x rest = expr_code locals ds ls 0 x rest
 
   -- a value that was converted comes into a local: a struct is copied
-  abbrev pub put_code : PlainType → (local : ℕ) → List Item → List Item
+  abbrev pub put_code : PlainType → (local : ℕ) → List CodeItem → List CodeItem
   put_code (Struct number) k rest =
       address_code locals 1 (p.Local (object_of ls k)) 0
       (copy_code ds (address_register locals 1) (address_register locals 0) (Struct number) rest)
@@ -52,45 +52,45 @@ module _ (locals : ℕ) (ds : List StructDef) (ls : List Local) where
       address_code locals 1 (p.Local (object_of ls k)) 0
       (store_code ty (address_register locals 1) 0 (value_register locals 0 ty) rest)
 
-  abbrev pub put_local_code : (local : ℕ) → Option Local → List Item → List Item
+  abbrev pub put_local_code : (local : ℕ) → Option Local → List CodeItem → List CodeItem
   put_local_code k None rest = rest
   put_local_code k (Some l) rest =
       if l.in_memory then put_code (type_view l.ty) k rest
       else move_code (type_view l.ty) k (value_register locals 0 (type_view l.ty)) rest
 
-  abbrev pub initialise_code : (local : ℕ) → Option Expr → List Item → List Item
+  abbrev pub initialise_code : (local : ℕ) → Option Expr → List CodeItem → List CodeItem
   initialise_code k None rest = rest
   initialise_code k (Some x) rest = value_code x (put_local_code k (slice_get ls k) rest)
 
-  abbrev pub declare_code : LocalDeclaration → List Item → List Item
+  abbrev pub declare_code : LocalDeclaration → List CodeItem → List CodeItem
   declare_code d rest = initialise_code d.number d.init rest
 
-  abbrev pub declares_code : List LocalDeclaration → List Item → List Item
+  abbrev pub declares_code : List LocalDeclaration → List CodeItem → List CodeItem
   declares_code [] rest = rest
   declares_code (d ∷ more) rest = declare_code d (declares_code more rest)
 
-  abbrev pub first_code : First → List Item → List Item
+  abbrev pub first_code : First → List CodeItem → List CodeItem
   first_code q.Nothing rest = rest
   first_code (q.Value x) rest = value_code x rest
   first_code (q.Locals more) rest = declares_code more rest
 
   -- ---- tests of loops, at their ends
 
-  abbrev pub again_code : Expr → List Item → List Item
+  abbrev pub again_code : Expr → List CodeItem → List CodeItem
   again_code x rest = value_code x (Again (register_type (type_of x)) (value_register locals 0 (type_of x)) ∷ rest)
 
-  abbrev pub test_code : Option Expr → List Item → List Item
+  abbrev pub test_code : Option Expr → List CodeItem → List CodeItem
   test_code None rest = Repeat ∷ rest
   test_code (Some x) rest = again_code x rest
 
   -- the step of a `for` in front of its test
-  abbrev pub after_code : Option Expr → List Item → List Item
+  abbrev pub after_code : Option Expr → List CodeItem → List CodeItem
   after_code None test = test
   after_code (Some x) test = value_code x (Start ∷ test)
 
   -- ---- `switch`: the value is compared with each label
 
-  abbrev pub label_code : PlainType → TLabel → (name : ℕ) → List Item → List Item
+  abbrev pub label_code : PlainType → TLabel → (name : ℕ) → List CodeItem → List CodeItem
   label_code ty Default name rest = rest
   label_code ty (Case word) name rest =
       constant_code locals 1 ty word
@@ -98,13 +98,13 @@ module _ (locals : ℕ) (ds : List StructDef) (ls : List Local) where
       (value_register locals 1 ty))
       ∷ branch_code locals IfTrue 1 (Int 4 true) name rest)
 
-  abbrev pub labels_code : PlainType → List Target → List Item → List Item
+  abbrev pub labels_code : PlainType → List Target → List CodeItem → List CodeItem
   labels_code ty [] rest = rest
   labels_code ty (t ∷ targets) rest = label_code ty t.label t.name (labels_code ty targets rest)
 
   -- ---- the value of a call
 
-  abbrev pub return_code : Option Expr → List Item → List Item
+  abbrev pub return_code : Option Expr → List CodeItem → List CodeItem
   return_code None rest = Return None ∷ rest
   return_code (Some x) rest =
       value_code x (Return (Some (record {
@@ -115,7 +115,7 @@ module _ (locals : ℕ) (ds : List StructDef) (ls : List Local) where
   -- ---- statements; a `break` goes to the block with the one name, a `continue` to that with the other one
 
   abbrev mutual
-    pub stmt_code : (break_to continue_to : ℕ) → Stmt → List Item → List Item
+    pub stmt_code : (break_to continue_to : ℕ) → Stmt → List CodeItem → List CodeItem
     stmt_code brk con (q.Block ss) rest = stmts_code brk con ss rest
     stmt_code brk con (q.If x s no_else) rest =
         value_code x (branch_code locals IfFalse 0 (type_of x) (count rest) (stmt_code brk con s (Start ∷ rest)))
@@ -144,18 +144,18 @@ module _ (locals : ℕ) (ds : List StructDef) (ls : List Local) where
     stmt_code brk con q.Empty rest = rest
     stmt_code brk con (q.Declare d) rest = declare_code d rest
 
-    pub stmts_code : (break_to continue_to : ℕ) → Stmts → List Item → List Item
+    pub stmts_code : (break_to continue_to : ℕ) → Stmts → List CodeItem → List CodeItem
     stmts_code brk con no_stmts rest = rest
     stmts_code brk con (more_stmts s ss) rest = stmt_code brk con s (stmts_code brk con ss rest)
 
     -- the sections of a `switch`, at each of which a block begins
-    pub sections_code : (break_to continue_to : ℕ) → Sections → List Item → List Item
+    pub sections_code : (break_to continue_to : ℕ) → Sections → List CodeItem → List CodeItem
     sections_code brk con no_sections rest = rest
     sections_code brk con (more_sections label ss sections) rest =
         Start ∷ stmts_code brk con ss (sections_code brk con sections rest)
 
     -- their labels with the names of these blocks
-    pub targets_of : (break_to continue_to : ℕ) → Sections → List Item → List Target
+    pub targets_of : (break_to continue_to : ℕ) → Sections → List CodeItem → List Target
     targets_of brk con no_sections rest = []
     targets_of brk con (more_sections label ss sections) rest =
         record { label = label; name = count (stmts_code brk con ss (sections_code brk con sections rest)) }

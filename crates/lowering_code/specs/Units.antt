@@ -25,7 +25,7 @@ behaviour_so_far (Goes k) = More k.world.outer.output
 behaviour_so_far (Over e) = behaviour_of e
 
 -- so many steps of the code of a unit
-abbrev pub lowered : TypedUnit → (input : List ℕ) → (turns steps : ℕ) → Behaviour
-lowered unit input turns steps =
+abbrev pub unit_behaviour : TypedUnit → (input : List ℕ) → (turns steps : ℕ) → Behaviour
+unit_behaviour unit input turns steps =
     behaviour_so_far
     (vm_run (rooms_of unit) (unit_code unit) (main_of unit) (start_world unit.globals input turns) steps)

@@ -6,7 +6,7 @@ use suifvm_ir::types::VmType;
 /// A piece of the code of a function. Code is emitted in front of what follows it, so the name of a block is the
 /// number of blocks that begin behind it, and every forward target is there before its jump.
 #[derive(Drop)]
-pub enum Item {
+pub enum CodeItem {
     /// A block begins, and the code in front of it goes on into it.
     Start,
     /// An instruction that the next one follows.

@@ -8,5 +8,5 @@ pub mod examples;
 pub mod item;
 pub mod operation;
 
-pub use item::Item;
-pub use operation::Operation;
+pub use item::CodeItem;
+pub use operation::RegisterOperation;

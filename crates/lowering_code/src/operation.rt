@@ -4,7 +4,7 @@ use suifvm_ir::insn::{BinaryOp, CompareOp, ShiftOp};
 
 /// What is done with two registers of one type.
 #[derive(Clone, Copy, Debug, PartialEq, Eq)]
-pub enum Operation {
+pub enum RegisterOperation {
     Calculates(BinaryOp),
     Shifts(ShiftOp),
     Compares(CompareOp),

@@ -22,7 +22,7 @@ use Rattle.suifvm_ir.specs.declared.insn.UnaryOp.TheVariants.{Move}
 use Rattle.suifvm_ir.specs.declared.insn.VmInsn.TheVariants as n
 use Rattle.vm_meaning.specs.Effect.{writes}
 use Rattle.vm_meaning.specs.Behave.{Registers, set_register}
-use Rattle.lowering_code.specs.declared.item.Item.{Item}
+use Rattle.lowering_code.specs.declared.item.CodeItem.{CodeItem}
 use Rattle.lowering_code.specs.Registers.{register_type, value_register}
 use Rattle.lowering_code.specs.Expressions.{move_code, expr_code}
 use Rattle.lowering_code.specs.Statements.{put_code, put_local_code}
@@ -85,7 +85,7 @@ module _ (c : Setting) (found : slice_get c.functions c.number ≡ Some c.code) 
         let ty : PlainType = type_view l.ty in
         let reg = value_register L 0 ty in
         let code_e : put_local_code L c.structs c.locals k (slice_get c.locals k) rest ≡ move_code ty k reg rest =
-        ap (λ z. put_local_code L c.structs c.locals k z rest) here.found ∙ ap (λ z. if◌then◌else◌ {A = List Item} z (put_code L c.structs c.locals ty k rest) (move_code ty k reg rest)) here.register in
+        ap (λ z. put_local_code L c.structs c.locals k z rest) here.found ∙ ap (λ z. if◌then◌else◌ {A = List CodeItem} z (put_code L c.structs c.locals ty k rest) (move_code ty k reg rest)) here.register in
         let place_e : local_place scope k (Some l) ≡ pure (obj.Register k) = ap (λ z. if◌then◌else◌ {A = Run obj.Place} z (λ t. and_then (or_undefined UsesDeadObject (scope k) t) (λ o. pure (obj.At (start_of o)))) (pure (obj.Register k))) here.register in
         let put : Value → Run (Unit {0}) = λ v t. and_then (local_place scope k (Some l) t) (λ z. write c.structs ty z v) in
         meets_same c.rooms c.functions (ap (λ z. finish (and_then (initialise c.structs c.locals c.calls scope k z (Some x) s) (λ _. pure Goes)) K) here.found)

@@ -1,10 +1,10 @@
 -- No more blocks begin in code than it has items.
 use Rattle.std.proofs.Common.{◌≤◌, ℕ, List, [], ◌∷◌, length, arith}
-use Rattle.lowering_code.specs.declared.item.Item.{Item}
-use Rattle.lowering_code.specs.declared.item.Item.TheVariants.{Start, Plain, Jump, Branch, Loop, Enter, Again, Repeat, Return}
+use Rattle.lowering_code.specs.declared.item.CodeItem.{CodeItem}
+use Rattle.lowering_code.specs.declared.item.CodeItem.TheVariants.{Start, Plain, Jump, Branch, Loop, Enter, Again, Repeat, Return}
 use Rattle.lowering_code.specs.Items.{count}
 
-pub count_le : (is : List Item) → count is ≤ length is
+pub count_le : (is : List CodeItem) → count is ≤ length is
 count_le [] = omega arith
 count_le (Start ∷ is) = omega (arith, count_le is)
 count_le (Plain insn ∷ is) = omega (arith, count_le is)

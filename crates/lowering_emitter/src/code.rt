@@ -3,7 +3,7 @@
 ghost use Rattle.std.specs.Prelude.{◌≡◌, [], ◌∷◌, reverse, OnOk};
 ghost use Rattle.lowering_code.specs.Items.{count};
 
-use lowering_code::Item;
+use lowering_code::CodeItem;
 use std::alloc::{AllocError, Global};
 use std::marker::Model;
 use suifvm_ir::insn::{BranchOp, TypedRegister, VmInsn};
@@ -13,17 +13,17 @@ use suifvm_ir::types::VmType;
 #[derive(Drop)]
 pub struct Code {
     /// From the last one on.
-    items: Vec<Item>,
+    items: Vec<CodeItem>,
     /// How many blocks begin in it.
     blocks: usize,
 }
 
 impl Model for Code {
     ghost use Rattle.std.specs.Prelude.{◌≡◌, List, reverse};
-    ghost use Rattle.lowering_code.specs.declared.item.Item.{Item};
+    ghost use Rattle.lowering_code.specs.declared.item.CodeItem.{CodeItem};
     ghost use Rattle.lowering_code.specs.Items.{count};
 
-    ghost Value = { List Item };
+    ghost Value = { List CodeItem };
 
     ghost view = { λ c. reverse c.items.items };
 
@@ -50,14 +50,14 @@ impl Code {
 
     /// An instruction that the next one follows.
     pub fn plain(&mut self, insn: VmInsn) -> Result<(), AllocError>
-        ensures { OnOk result (self.new ≡ Item.Plain insn ∷ self.old) }
+        ensures { OnOk result (self.new ≡ CodeItem.Plain insn ∷ self.old) }
     {
-        self.items.push(Item::Plain(insn))?;
+        self.items.push(CodeItem::Plain(insn))?;
         Ok(())
     }
 
     /// An item behind which, or with which, a block begins.
-    fn begin(&mut self, item: Item) -> Result<(), AllocError>
+    fn begin(&mut self, item: CodeItem) -> Result<(), AllocError>
         requires { count (item ∷ []) ≡ 1 }
         ensures { OnOk result (self.new ≡ item ∷ self.old) }
     {
@@ -68,16 +68,16 @@ impl Code {
 
     /// A block begins.
     pub fn start(&mut self) -> Result<(), AllocError>
-        ensures { OnOk result (self.new ≡ Item.Start ∷ self.old) }
+        ensures { OnOk result (self.new ≡ CodeItem.Start ∷ self.old) }
     {
-        self.begin(Item::Start)
+        self.begin(CodeItem::Start)
     }
 
     /// A jump to the block with a name.
     pub fn jump(&mut self, name: usize) -> Result<(), AllocError>
-        ensures { OnOk result (self.new ≡ Item.Jump name ∷ self.old) }
+        ensures { OnOk result (self.new ≡ CodeItem.Jump name ∷ self.old) }
     {
-        self.begin(Item::Jump(name))
+        self.begin(CodeItem::Jump(name))
     }
 
     /// A branch to the block with a name.
@@ -88,9 +88,9 @@ impl Code {
         source: u32,
         name: usize,
     ) -> Result<(), AllocError>
-        ensures { OnOk result (self.new ≡ Item.Branch op ty source name ∷ self.old) }
+        ensures { OnOk result (self.new ≡ CodeItem.Branch op ty source name ∷ self.old) }
     {
-        self.begin(Item::Branch {
+        self.begin(CodeItem::Branch {
             op,
             ty,
             source,
@@ -100,41 +100,41 @@ impl Code {
 
     /// A loop begins with a jump to its test.
     pub fn begin_loop(&mut self, test: usize) -> Result<(), AllocError>
-        ensures { OnOk result (self.new ≡ Item.Loop test ∷ self.old) }
+        ensures { OnOk result (self.new ≡ CodeItem.Loop test ∷ self.old) }
     {
-        self.begin(Item::Loop(test))
+        self.begin(CodeItem::Loop(test))
     }
 
     /// A loop begins with its body.
     pub fn enter(&mut self) -> Result<(), AllocError>
-        ensures { OnOk result (self.new ≡ Item.Enter ∷ self.old) }
+        ensures { OnOk result (self.new ≡ CodeItem.Enter ∷ self.old) }
     {
-        self.begin(Item::Enter)
+        self.begin(CodeItem::Enter)
     }
 
     /// The loop goes on where the register is neither zero nor null.
     pub fn again(&mut self, ty: VmType, source: u32) -> Result<(), AllocError>
-        ensures { OnOk result (self.new ≡ Item.Again ty source ∷ self.old) }
+        ensures { OnOk result (self.new ≡ CodeItem.Again ty source ∷ self.old) }
     {
-        self.begin(Item::Again { ty, source })
+        self.begin(CodeItem::Again { ty, source })
     }
 
     /// The loop goes on.
     pub fn repeat(&mut self) -> Result<(), AllocError>
-        ensures { OnOk result (self.new ≡ Item.Repeat ∷ self.old) }
+        ensures { OnOk result (self.new ≡ CodeItem.Repeat ∷ self.old) }
     {
-        self.begin(Item::Repeat)
+        self.begin(CodeItem::Repeat)
     }
 
     /// The call ends.
     pub fn give(&mut self, value: Option<TypedRegister>) -> Result<(), AllocError>
-        ensures { OnOk result (self.new ≡ Item.Return value ∷ self.old) }
+        ensures { OnOk result (self.new ≡ CodeItem.Return value ∷ self.old) }
     {
-        self.begin(Item::Return(value))
+        self.begin(CodeItem::Return(value))
     }
 
     /// The items, the last one first.
-    pub fn into_items(self) -> Vec<Item>
+    pub fn into_items(self) -> Vec<CodeItem>
         ensures { reverse result.items ≡ self }
     {
         let Code { items, .. } = self;

@@ -9,31 +9,31 @@ ghost use Rattle.lowering_code.specs.Expressions.{operation_of, right_shift, ope
 use c_arithmetic::integer_type::IntegerType;
 use c_tree::{AssignOp, BinaryOp, StepOp};
 use c_typed_tree::CType;
-use lowering_code::Operation;
+use lowering_code::RegisterOperation;
 use suifvm_ir::insn::{BinaryOp as Calculation, CompareOp, ShiftOp, VmInsn};
 use suifvm_ir::types::{Alignment, VmType};
 
 /// What an operator between integers, or a comparison of pointers, becomes.
-pub fn operation_of(op: BinaryOp, signed: bool) -> Operation
+pub fn operation_of(op: BinaryOp, signed: bool) -> RegisterOperation
     ensures { result ≡ operation_of op signed }
 {
     match op {
-        BinaryOp::LogicalOr | BinaryOp::Or => Operation::Calculates(Calculation::Or),
-        BinaryOp::LogicalAnd | BinaryOp::And => Operation::Calculates(Calculation::And),
-        BinaryOp::Xor => Operation::Calculates(Calculation::ExclusiveOr),
-        BinaryOp::Equal => Operation::Compares(CompareOp::Equal),
-        BinaryOp::NotEqual => Operation::Compares(CompareOp::NotEqual),
-        BinaryOp::Less => Operation::Compares(CompareOp::Less),
-        BinaryOp::Greater => Operation::ComparesBack(CompareOp::Less),
-        BinaryOp::LessEqual => Operation::Compares(CompareOp::LessOrEqual),
-        BinaryOp::GreaterEqual => Operation::ComparesBack(CompareOp::LessOrEqual),
-        BinaryOp::ShiftLeft => Operation::Shifts(ShiftOp::Left),
-        BinaryOp::ShiftRight => Operation::Shifts(right_shift(signed)),
-        BinaryOp::Add => Operation::Calculates(Calculation::Add),
-        BinaryOp::Subtract => Operation::Calculates(Calculation::Subtract),
-        BinaryOp::Multiply => Operation::Calculates(Calculation::Multiply),
-        BinaryOp::Divide => Operation::Calculates(Calculation::Divide),
-        BinaryOp::Remainder => Operation::Calculates(Calculation::Remainder),
+        BinaryOp::LogicalOr | BinaryOp::Or => RegisterOperation::Calculates(Calculation::Or),
+        BinaryOp::LogicalAnd | BinaryOp::And => RegisterOperation::Calculates(Calculation::And),
+        BinaryOp::Xor => RegisterOperation::Calculates(Calculation::ExclusiveOr),
+        BinaryOp::Equal => RegisterOperation::Compares(CompareOp::Equal),
+        BinaryOp::NotEqual => RegisterOperation::Compares(CompareOp::NotEqual),
+        BinaryOp::Less => RegisterOperation::Compares(CompareOp::Less),
+        BinaryOp::Greater => RegisterOperation::ComparesBack(CompareOp::Less),
+        BinaryOp::LessEqual => RegisterOperation::Compares(CompareOp::LessOrEqual),
+        BinaryOp::GreaterEqual => RegisterOperation::ComparesBack(CompareOp::LessOrEqual),
+        BinaryOp::ShiftLeft => RegisterOperation::Shifts(ShiftOp::Left),
+        BinaryOp::ShiftRight => RegisterOperation::Shifts(right_shift(signed)),
+        BinaryOp::Add => RegisterOperation::Calculates(Calculation::Add),
+        BinaryOp::Subtract => RegisterOperation::Calculates(Calculation::Subtract),
+        BinaryOp::Multiply => RegisterOperation::Calculates(Calculation::Multiply),
+        BinaryOp::Divide => RegisterOperation::Calculates(Calculation::Divide),
+        BinaryOp::Remainder => RegisterOperation::Calculates(Calculation::Remainder),
     }
 }
 
@@ -49,7 +49,7 @@ fn right_shift(signed: bool) -> ShiftOp
 
 /// The instruction of an operation in registers of a type.
 pub fn operation_insn(
-    operation: Operation,
+    operation: RegisterOperation,
     ty: VmType,
     destination: u32,
     left: u32,
@@ -58,28 +58,28 @@ pub fn operation_insn(
     ensures { result ≡ operation_insn operation ty destination left right }
 {
     match operation {
-        Operation::Calculates(op) => VmInsn::Binary {
+        RegisterOperation::Calculates(op) => VmInsn::Binary {
             op,
             ty,
             destination,
             left,
             right,
         },
-        Operation::Shifts(op) => VmInsn::Shift {
+        RegisterOperation::Shifts(op) => VmInsn::Shift {
             op,
             ty,
             destination,
             source: left,
             count: right,
         },
-        Operation::Compares(op) => VmInsn::Compare {
+        RegisterOperation::Compares(op) => VmInsn::Compare {
             op,
             ty,
             destination,
             left,
             right,
         },
-        Operation::ComparesBack(op) => VmInsn::Compare {
+        RegisterOperation::ComparesBack(op) => VmInsn::Compare {
             op,
             ty,
             destination,

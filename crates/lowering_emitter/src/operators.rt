@@ -269,7 +269,7 @@ impl Code {
 
     /// A value becomes one of another type.
     #[tactic(auto, unfolding(c_typed_tree::specs::model::View::opens))]
-    pub fn converted(
+    pub fn convert_value(
         &mut self,
         r: Registers,
         depth: u32,

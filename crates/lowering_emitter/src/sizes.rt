@@ -3,7 +3,7 @@
 ghost use Rattle.std.specs.Prelude.{◌≡◌, ◌-◌, ◌^◌, min};
 ghost use Rattle.c_typed_tree.specs.View.{type_view};
 ghost use Rattle.c_typed_tree.specs.Layout.{size_of};
-ghost use Rattle.lowering_code.specs.Expressions.{capped, stride, member_plus};
+ghost use Rattle.lowering_code.specs.Expressions.{cap_offset, stride, member_plus};
 
 use c_typed_tree::layout::{offset_of, struct_size};
 use c_typed_tree::{CType, StructDef};
@@ -22,8 +22,8 @@ fn size_or_greatest(structs: &[StructDef], ty: &CType) -> u64
     }
 }
 
-fn capped(number: u64) -> u64
-    ensures { result ≡ capped number }
+fn cap_offset(number: u64) -> u64
+    ensures { result ≡ cap_offset number }
 {
     number.min(i64::MAX as u64)
 }
@@ -32,7 +32,7 @@ fn capped(number: u64) -> u64
 pub fn stride(structs: &[StructDef], element: &CType) -> u64
     ensures { result ≡ stride structs.now (type_view element.now) }
 {
-    capped(size_or_greatest(structs, element))
+    cap_offset(size_or_greatest(structs, element))
 }
 
 /// The bytes to a member of a struct type, and so many more.
@@ -41,10 +41,10 @@ pub fn member_plus(structs: &[StructDef], ty: &CType, member: u32, plus: u64) ->
     ensures { result ≡ member_plus structs.now (type_view ty.now) member plus }
 {
     match ty {
-        CType::Struct(number) => capped(offset_of(structs, *number, member).saturating_add(plus)),
-        CType::Void => capped(plus),
-        CType::Int { .. } => capped(plus),
-        CType::Pointer(_) => capped(plus),
-        CType::Array(_, _) => capped(plus),
+        CType::Struct(number) => cap_offset(offset_of(structs, *number, member).saturating_add(plus)),
+        CType::Void => cap_offset(plus),
+        CType::Int { .. } => cap_offset(plus),
+        CType::Pointer(_) => cap_offset(plus),
+        CType::Array(_, _) => cap_offset(plus),
     }
 }

@@ -28,8 +28,8 @@ use Rattle.vm_meaning.specs.declared.answer.Answer.TheVariants.{Gives, Fails}
 use Rattle.vm_meaning.specs.Operations as vm
 use Rattle.vm_meaning.specs.Effect.{writes, is_taken}
 use Rattle.vm_meaning.specs.Behave.{Registers, set_register}
-use Rattle.lowering_code.specs.declared.item.Item.{Item}
-use Rattle.lowering_code.specs.declared.item.Item.TheVariants.{Start, Jump}
+use Rattle.lowering_code.specs.declared.item.CodeItem.{CodeItem}
+use Rattle.lowering_code.specs.declared.item.CodeItem.TheVariants.{Start, Jump}
 use Rattle.lowering_code.specs.Items as items
 use Rattle.lowering_code.specs.Registers.{register_type, value_register}
 use Rattle.lowering_code.specs.Expressions.{plain_of, constant_code, branch_code, expr_code}
@@ -101,14 +101,14 @@ module _ (c : Setting) (found : slice_get c.functions c.number ≡ Some c.code) 
   at_block {o = o} r w m x y e h = subst (λ z. EndsSo c o (start_of_block z) r w m) e h
 
   -- a truth value comes into the register of `int` at the depth
-  constant_on : {o : Observation} (d : ℕ) (x : Bool) (rest : List Item) (heads : List ℕ) (q : Place) (r : Registers) (w : World) (m : Memory) → Stands c heads q (constant_code L d T (truth x) rest)
+  constant_on : {o : Observation} (d : ℕ) (x : Bool) (rest : List CodeItem) (heads : List ℕ) (q : Place) (r : Registers) (w : World) (m : Memory) → Stands c heads q (constant_code L d T (truth x) rest)
       → EndsSo c o (next_place q) (set_register (value_register L d T) (Word (truth x)) r) w m → EndsSo c o q r w m
   constant_on d x rest heads q r w m at next =
       insn_on c found (n.LoadConstant (register_type T) (value_register L d T) (truth x)) q r w m (Word (truth x) ∷ []) at.has.0 refl
       (ap (λ z. writes (if z then Gives (Word (truth x)) else Fails) (outer_with_memory w.outer m)) (value_of_word i.Int (truth x) (truth_word x))) next
 
   -- a branch by a value that was tested
-  module _ (op : BranchOp) (d : ℕ) (ty : PlainType) (scalar : IsScalarType ty) (name : ℕ) (rest : List Item) (heads : List ℕ) (q : Place) (f : Names) (scope : Scope) (r : Registers) (s : State) (m : Memory) (v : Value) (x : Bool)
+  module _ (op : BranchOp) (d : ℕ) (ty : PlainType) (scalar : IsScalarType ty) (name : ℕ) (rest : List CodeItem) (heads : List ℕ) (q : Place) (f : Names) (scope : Scope) (r : Registers) (s : State) (m : Memory) (v : Value) (x : Bool)
       (at : Stands c heads q (branch_code L op d ty name rest)) (fit : Fit c f scope r s m) (held : IsHeld ty v) (stands : IsIn f ty v (r (value_register L d ty))) (is : TestIs s.world.outer.memory v x) where
     holds : vm.value_holds m (register_type ty) (r (value_register L d ty)) ≡ Some x
     holds = holds_there f s.world.outer.memory m ty v (r (value_register L d ty)) x scalar fit.memory held stands is
@@ -122,11 +122,11 @@ module _ (c : Setting) (found : slice_get c.functions c.number ≡ Some c.code) 
     passes passed next = branch_passed c.rooms c.functions c.number c.code found c.own c.waiting op (register_type ty) (value_register L d ty) (c.last - name) x q r s.world m at.has.0 holds passed at.has.1 next
 
   module _ (op : BranchOp) (stop : Bool) (taken : is_taken op stop ≡ true) (passed : is_taken op (not stop) ≡ false) (x y : Expr) (sx : IsScalarType (type_of x)) (sy : IsScalarType (type_of y)) (hx : ExprMeets c x) (hy : ExprMeets c y) where
-    module _ (d : ℕ) (rest : List Item) (heads : List ℕ) where
-      abbrev stops : List Item
+    module _ (d : ℕ) (rest : List CodeItem) (heads : List ℕ) where
+      abbrev stops : List CodeItem
       stops = constant_code L d T (truth stop) (Start ∷ rest)
 
-      abbrev ends : List Item
+      abbrev ends : List CodeItem
       ends = branch_code L op d (type_of y) (items.count stops) (constant_code L d T (truth (not stop)) (Jump (items.count rest) ∷ stops))
 
       -- where the code for the value that ends the evaluation stands, and what comes behind
@@ -227,8 +227,8 @@ module _ (c : Setting) (found : slice_get c.functions c.number ≡ Some c.code) 
   -- ---- `?:`
 
   module _ (ty : PlainType) (x y z : Expr) (sx : IsScalarType (type_of x)) (ey : type_of y ≡ ty) (ez : type_of z ≡ ty) (hx : ExprMeets c x) (hy : ExprMeets c y) (hz : ExprMeets c z) where
-    module _ (d : ℕ) (rest : List Item) (heads : List ℕ) (f : Names) (scope : Scope) (r : Registers) (s : State) (m : Memory) (K : Value → State → Observation) (next : Follows c d ty heads rest f scope r s m K) where
-      abbrev fails : List Item
+    module _ (d : ℕ) (rest : List CodeItem) (heads : List ℕ) (f : Names) (scope : Scope) (r : Registers) (s : State) (m : Memory) (K : Value → State → Observation) (next : Follows c d ty heads rest f scope r s m K) where
+      abbrev fails : List CodeItem
       fails = expr_code L c.structs c.locals d z (Start ∷ rest)
 
       abbrev value : Expr → State → Evaluation Value State

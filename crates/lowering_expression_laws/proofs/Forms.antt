@@ -38,8 +38,8 @@ use Rattle.vm_meaning.specs.declared.answer.Answer.TheVariants.{Gives, Fails}
 use Rattle.vm_meaning.specs.Operations as vm
 use Rattle.vm_meaning.specs.Effect.{writes, takes_turn}
 use Rattle.vm_meaning.specs.Behave.{Registers, set_register, set_registers}
-use Rattle.lowering_code.specs.declared.item.Item.{Item}
-use Rattle.lowering_code.specs.declared.item.Item.TheVariants.{Plain}
+use Rattle.lowering_code.specs.declared.item.CodeItem.{CodeItem}
+use Rattle.lowering_code.specs.declared.item.CodeItem.TheVariants.{Plain}
 use Rattle.lowering_code.specs.Registers.{register_type, value_register, temporary}
 use Rattle.lowering_code.specs.Expressions.{plain_of, is_kept, narrow_type, operation_of, operation_insn, binary_code, conversion_code, convert_code, plus_of, expr_code, place_code}
 use Rattle.lowering_states.specs.Places.{Place, next_place, stands_at}
@@ -228,7 +228,7 @@ module _ (c : Setting) (found : slice_get c.functions c.number ≡ Some c.code) 
   eval_is b.Divide h ty x y scope s = refl
   eval_is b.Remainder h ty x y scope s = refl
 
-  code_is : (op : BinaryOp) → is_logical op ≡ false → (ty : PlainType) (x y : Expr) (d : ℕ) (rest : List Item)
+  code_is : (op : BinaryOp) → is_logical op ≡ false → (ty : PlainType) (x y : Expr) (d : ℕ) (rest : List CodeItem)
       → expr_code L c.structs c.locals d (Binary ty op x y) rest
       ≡ expr_code L c.structs c.locals d x (expr_code L c.structs c.locals (suc d) y (binary_code L c.structs op d ty (type_of x) (type_of y) rest))
   code_is b.LogicalOr h ty x y d rest = absurd (cc)
@@ -300,7 +300,7 @@ module _ (c : Setting) (found : slice_get c.functions c.number ≡ Some c.code) 
     R = plain_of (result_type op t)
 
     -- both operands are known
-    operator_meets : (d : ℕ) (rest : List Item) (heads : List ℕ) (f : Names) (scope : Scope) (r : Registers) (s : State) (m : Memory) (K : Value → State → Observation) → Follows c d R heads rest f scope r s m K
+    operator_meets : (d : ℕ) (rest : List CodeItem) (heads : List ℕ) (f : Names) (scope : Scope) (r : Registers) (s : State) (m : Memory) (K : Value → State → Observation) → Follows c d R heads rest f scope r s m K
         → (q : Place) (x y : ℕ) (g : Names) (t1 : State) (q1 : Registers) (m1 : Memory) → Stands c heads q (Plain (insn_of op d R t o) ∷ rest) → Aft c f s m g t1 m1 → Fit c g scope q1 t1 m1
         → KeepsLower L d r q1 → WordIn L d t x q1 → WordIn L (suc d) o y q1
         → EndsSo c (finish (outcome (integers_with op t o x y) t1) K) q q1 t1.world m1
@@ -359,7 +359,7 @@ module _ (c : Setting) (found : slice_get c.functions c.number ≡ Some c.code) 
 
   module _ (t o : IntegerType) where
     -- a word is converted
-    conversion_meets : (d : ℕ) (rest : List Item) (heads : List ℕ) (f : Names) (scope : Scope) (r : Registers) (s : State) (m : Memory) (K : Value → State → Observation) → Follows c d (plain_of o) heads rest f scope r s m K
+    conversion_meets : (d : ℕ) (rest : List CodeItem) (heads : List ℕ) (f : Names) (scope : Scope) (r : Registers) (s : State) (m : Memory) (K : Value → State → Observation) → Follows c d (plain_of o) heads rest f scope r s m K
         → (q : Place) (k : ℕ) (g : Names) (t1 : State) (q1 : Registers) (m1 : Memory) → Stands c heads q (convert_code L d (plain_of t) (plain_of o) rest) → Aft c f s m g t1 m1 → Fit c g scope q1 t1 m1
         → KeepsLower L d r q1 → WordIn L d t k q1 → EndsSo c (K (Word (conversion t o k)) t1) q q1 t1.world m1
     conversion_meets d rest heads f scope r s m K next q k g t1 q1 m1 at1 aft fit1 kept word = by_kept (is_kept (plain_of t) (plain_of o)) refl at1
@@ -385,7 +385,7 @@ module _ (c : Setting) (found : slice_get c.functions c.number ≡ Some c.code) 
     -- a conversion and a cast are one
     conversion_by : (x : Expr) (y : Expr) → type_of y ≡ plain_of o → type_of x ≡ plain_of t → ExprMeets c x
         → ((scope : Scope) (s : State) → eval c.structs c.locals c.calls scope y s ≡ converted_from (type_of x) (plain_of o) (eval c.structs c.locals c.calls scope x) (place c.structs c.locals c.calls scope x) s)
-        → ((d : ℕ) (rest : List Item) → expr_code L c.structs c.locals d y rest
+        → ((d : ℕ) (rest : List CodeItem) → expr_code L c.structs c.locals d y rest
         ≡ conversion_code L c.structs c.locals d (type_of x) (plain_of o) (plus_of L c.structs c.locals x 0) (λ is. place_code L c.structs c.locals d x 0 is) (λ is. expr_code L c.structs c.locals d x is) rest)
         → ExprMeets c y
     unfolding opens

@@ -18,7 +18,7 @@ use Rattle.c_typed_tree.specs.Expressions.{Expr, type_of}
 use Rattle.c_semantics.specs.Runs.{State}
 use Rattle.c_semantics.specs.Objects.{Scope}
 use Rattle.c_semantics.specs.Evaluates.{Functions, eval}
-use Rattle.lowering_code.specs.declared.item.Item.{Item}
+use Rattle.lowering_code.specs.declared.item.CodeItem.{CodeItem}
 use Rattle.lowering_code.specs.Registers.{value_register}
 use Rattle.lowering_code.specs.Expressions.{expr_code}
 use Rattle.lowering_states.specs.Places.{Place, At}
@@ -47,7 +47,7 @@ module _ (c : Setting) where
   abbrev pub EndsSo : Observation → Place → Registers → World → Memory → Type 0
   EndsSo o p r w n = Meets c.rooms c.functions o (config c.number c.own c.waiting p r w n)
 
-  abbrev pub Stands : (heads : List ℕ) → Place → List Item → Type 0
+  abbrev pub Stands : (heads : List ℕ) → Place → List CodeItem → Type 0
   Stands heads p is = At c.code.blocks c.last c.end heads p is
 
   abbrev pub Fit : Names → Scope → Registers → State → Memory → Type 0
@@ -63,7 +63,7 @@ module _ (c : Setting) where
   count = length c.locals
 
   -- what follows a value of a type at a depth
-  abbrev pub Follows : (depth : ℕ) → PlainType → (heads : List ℕ) → (rest : List Item) → Names → Scope → Registers
+  abbrev pub Follows : (depth : ℕ) → PlainType → (heads : List ℕ) → (rest : List CodeItem) → Names → Scope → Registers
       → State → Memory → (Value → State → Observation) → Type 0
   Follows d ty heads rest f scope r s n K =
       (q : Place) (v : Value) (g : Names) (t : State) (q1 : Registers) (m : Memory) → Stands heads q rest
@@ -71,7 +71,7 @@ module _ (c : Setting) where
       → IsIn g ty v (q1 (value_register count d ty)) → EndsSo (K v t) q q1 t.world m
 
   pub record ExprMeets (x : Expr) : Type 0 where
-    pub by : (d : ℕ) (rest : List Item) (heads : List ℕ) (p : Place) (f : Names) (scope : Scope) (r : Registers)
+    pub by : (d : ℕ) (rest : List CodeItem) (heads : List ℕ) (p : Place) (f : Names) (scope : Scope) (r : Registers)
         (s : State) (n : Memory) (K : Value → State → Observation) →
         Stands heads p (expr_code count c.structs c.locals d x rest) → Fit f scope r s n
         → s.world.meter.turns ≤ c.level → Follows d (type_of x) heads rest f scope r s n K

@@ -19,27 +19,27 @@ use Rattle.suifvm_ir.specs.declared.insn.VmInsn.{VmInsn}
 use Rattle.suifvm_ir.specs.declared.insn.BranchOp.{BranchOp}
 use Rattle.suifvm_ir.specs.declared.insn.BranchOp.TheVariants.{IfTrue, IfFalse}
 use Rattle.suifvm_ir.specs.declared.types.VmType.{VmType}
-use Rattle.lowering_code.specs.declared.item.Item.{Item}
-use Rattle.lowering_code.specs.declared.item.Item.TheVariants.{Start, Plain, Jump, Branch}
+use Rattle.lowering_code.specs.declared.item.CodeItem.{CodeItem}
+use Rattle.lowering_code.specs.declared.item.CodeItem.TheVariants.{Start, Plain, Jump, Branch}
 use Rattle.lowering_code.specs.Items.{count}
 use Rattle.lowering_code.specs.Expressions.{plain_of, operation_of, operation_insn, stride, member_plus, element_of, is_kept, moved_code, load_code, convert_code, sized_code, scaled_code, divided_code, integer_code, converted_code, place_moved_code, step_code, step_back_code, pointers_code, binary_by, combine_by, element_by, stepped_code, step_register_code, step_memory_code, set_memory_code, combine_memory_code, register_if, register_of, local_code, change_code, assign_code, conversion_code, expr_code, place_code, exprs_code, commas_code, constant_code, branch_code}
 use Rattle.lowering_states.specs.Places.{Place, next_place, next_block, At}
 use Rattle.lowering_expression_places.specs.Behind.{IsLeft}
 
 module _ (blocks : List (List VmInsn)) (last : ℕ) (end : List VmInsn) where
-  pub at_plain : {heads : List ℕ} {p : Place} {is : List Item} (i : VmInsn) → At blocks last end heads p (Plain i ∷ is) → At blocks last end heads (next_place p) is
+  pub at_plain : {heads : List ℕ} {p : Place} {is : List CodeItem} (i : VmInsn) → At blocks last end heads p (Plain i ∷ is) → At blocks last end heads (next_place p) is
   at_plain i h = record { has = h.has.1; size = h.size }
 
-  pub at_start : {heads : List ℕ} {p : Place} {is : List Item} → At blocks last end heads p (Start ∷ is) → At blocks last end heads (next_block p) is
+  pub at_start : {heads : List ℕ} {p : Place} {is : List CodeItem} → At blocks last end heads p (Start ∷ is) → At blocks last end heads (next_block p) is
   at_start h = record { has = h.has.1; size = omega (arith, h.size) }
 
-  pub at_jump : {heads : List ℕ} {p : Place} {is : List Item} (name : ℕ) → At blocks last end heads p (Jump name ∷ is) → At blocks last end heads (next_block p) is
+  pub at_jump : {heads : List ℕ} {p : Place} {is : List CodeItem} (name : ℕ) → At blocks last end heads p (Jump name ∷ is) → At blocks last end heads (next_block p) is
   at_jump name h = record { has = h.has.1; size = omega (arith, h.size) }
 
-  pub at_branch : {heads : List ℕ} {p : Place} {is : List Item} (op : BranchOp) (ty : VmType) (source name : ℕ) → At blocks last end heads p (Branch op ty source name ∷ is) → At blocks last end heads (next_block p) is
+  pub at_branch : {heads : List ℕ} {p : Place} {is : List CodeItem} (op : BranchOp) (ty : VmType) (source name : ℕ) → At blocks last end heads p (Branch op ty source name ∷ is) → At blocks last end heads (next_block p) is
   at_branch op ty source name h = record { has = h.has.2; size = omega (arith, h.size) }
 
-  abbrev Left : (List Item → List Item) → Type 0
+  abbrev Left : (List CodeItem → List CodeItem) → Type 0
   Left piece = IsLeft blocks last end piece
 
   left_plain : (i : VmInsn) → Left (λ is. Plain i ∷ is)
@@ -48,7 +48,7 @@ module _ (blocks : List (List VmInsn)) (last : ℕ) (end : List VmInsn) where
   left_start : Left (λ is. Start ∷ is)
   left_start heads rest h = record { place = _; at = at_start h.at }
 
-  left_jump : (name : List Item → ℕ) → Left (λ is. Jump (name is) ∷ is)
+  left_jump : (name : List CodeItem → ℕ) → Left (λ is. Jump (name is) ∷ is)
   left_jump name heads rest h = record { place = _; at = at_jump (name rest) h.at }
 
   left_branch : (op : BranchOp) (ty : VmType) (source : ℕ) (name : ℕ) → Left (λ is. Branch op ty source name ∷ is)
@@ -57,10 +57,10 @@ module _ (blocks : List (List VmInsn)) (last : ℕ) (end : List VmInsn) where
   left_none : Left (λ is. is)
   left_none heads rest h = h
 
-  left_on : {f g : List Item → List Item} → Left f → Left g → Left (λ is. f (g is))
+  left_on : {f g : List CodeItem → List CodeItem} → Left f → Left g → Left (λ is. f (g is))
   left_on {g = g} a c heads rest h = c heads rest (a heads (g rest) h)
 
-  left_if : {f g : List Item → List Item} (t : Bool) → Left f → Left g → Left (λ is. if t then f is else g is)
+  left_if : {f g : List CodeItem → List CodeItem} (t : Bool) → Left f → Left g → Left (λ is. if t then f is else g is)
   left_if true a c heads rest h = a heads rest h
   left_if false a c heads rest h = c heads rest h
 
@@ -199,11 +199,11 @@ module _ (blocks : List (List VmInsn)) (last : ℕ) (end : List VmInsn) where
         left_local d ty k (Some register) = left_plain _
         left_local d ty k None = left_on (left_plain _) (left_load d ty 0)
 
-        left_change : (o : Option ℕ) {f : ℕ → List Item → List Item} {g : List Item → List Item} → ((k : ℕ) → Left (λ is. f k is)) → Left g → Left (λ is. change_code L ds ls o (λ k. f k is) (g is))
+        left_change : (o : Option ℕ) {f : ℕ → List CodeItem → List CodeItem} {g : List CodeItem → List CodeItem} → ((k : ℕ) → Left (λ is. f k is)) → Left g → Left (λ is. change_code L ds ls o (λ k. f k is) (g is))
         left_change (Some k) a c = a k
         left_change None a c = c
 
-        left_assign : (d : ℕ) (op : Option BinaryOp) (ty right : PlainType) (plus : ℕ) (register : Option ℕ) (place : List Item → List Item) (value : ℕ → List Item → List Item) → Left place → ((k : ℕ) → Left (λ is. value k is))
+        left_assign : (d : ℕ) (op : Option BinaryOp) (ty right : PlainType) (plus : ℕ) (register : Option ℕ) (place : List CodeItem → List CodeItem) (value : ℕ → List CodeItem → List CodeItem) → Left place → ((k : ℕ) → Left (λ is. value k is))
             → Left (λ is. assign_code L ds ls d op ty right plus register place value is)
         left_assign d None ty right plus (Some k) place value p v = left_on (v d) (left_plain _)
         left_assign d (Some op) ty right plus (Some k) place value p v =
@@ -211,20 +211,20 @@ module _ (blocks : List (List VmInsn)) (last : ℕ) (end : List VmInsn) where
         left_assign d None ty right plus None place value p v = left_on p (left_on (left_place_moved ty d plus) (left_on (v (suc d)) (left_set_memory d plus ty)))
         left_assign d (Some op) ty right plus None place value p v = left_on p (left_on (v (suc d)) (left_combine_memory op d plus ty right))
 
-        left_conversion : (d : ℕ) (from to : PlainType) (plus : ℕ) (place value : List Item → List Item) → Left place → Left value → Left (λ is. conversion_code L ds ls d from to plus place value is)
+        left_conversion : (d : ℕ) (from to : PlainType) (plus : ℕ) (place value : List CodeItem → List CodeItem) → Left place → Left value → Left (λ is. conversion_code L ds ls d from to plus place value is)
         left_conversion d Void to plus place value p v = left_on v (left_converted d Void to)
         left_conversion d (Int n r) to plus place value p v = left_on v (left_converted d (Int n r) to)
         left_conversion d (Pointer t) to plus place value p v = left_on v (left_converted d (Pointer t) to)
         left_conversion d (Array t n) to plus place value p v = left_on p (left_moved d plus)
         left_conversion d (Struct n) to plus place value p v = left_on v (left_converted d (Struct n) to)
 
-        left_both : (op : BranchOp) (first second d : ℕ) (ty tx tz : PlainType) (f g : List Item → List Item) → Left f → Left g
+        left_both : (op : BranchOp) (first second d : ℕ) (ty tx tz : PlainType) (f g : List CodeItem → List CodeItem) → Left f → Left g
             → Left (λ is. f (branch_code L op d tx (count (constant_code L d ty first (Start ∷ is))) (g (branch_code L op d tz (count (constant_code L d ty first (Start ∷ is)))
             (constant_code L d ty second (Jump (count is) ∷ constant_code L d ty first (Start ∷ is)))))))
         left_both op first second d ty tx tz f g a c heads rest h =
             left_start heads rest (left_plain _ heads _ (left_jump (λ is. count rest) heads _ (left_plain _ heads _ (left_branch _ _ _ _ heads _ (c heads _ (left_branch _ _ _ _ heads _ (a heads _ h)))))))
 
-        left_choice : (d : ℕ) (tx : PlainType) (f g k : List Item → List Item) → Left f → Left g → Left k
+        left_choice : (d : ℕ) (tx : PlainType) (f g k : List CodeItem → List CodeItem) → Left f → Left g → Left k
             → Left (λ is. f (branch_code L IfFalse d tx (count (k (Start ∷ is))) (g (Jump (count is) ∷ k (Start ∷ is)))))
         left_choice d tx f g k a c o heads rest h =
             left_start heads rest (o heads _ (left_jump (λ is. count rest) heads _ (c heads _ (left_branch _ _ _ _ heads _ (a heads _ h)))))

@@ -238,7 +238,7 @@ fn conversion(
         code.move_pointer(scope.registers, depth, plus_of(scope, operand, 0))?;
         return place(alloc, code, scope, depth, operand, 0);
     }
-    code.converted(scope.registers, depth, operand.ty(), ty)?;
+    code.convert_value(scope.registers, depth, operand.ty(), ty)?;
     expr(alloc, code, scope, depth, operand)
 }
 

@@ -14,8 +14,8 @@ use Rattle.c_semantics.specs.Executes as executes
 use Rattle.c_semantics.specs.Executes.{Flow, Goes, after_body, exec}
 use Rattle.suifvm_ir.specs.declared.insn.VmInsn.TheVariants as n
 use Rattle.vm_meaning.specs.Behave.{Registers}
-use Rattle.lowering_code.specs.declared.item.Item.{Item}
-use Rattle.lowering_code.specs.declared.item.Item.TheVariants.{Start, Loop}
+use Rattle.lowering_code.specs.declared.item.CodeItem.{CodeItem}
+use Rattle.lowering_code.specs.declared.item.CodeItem.TheVariants.{Start, Loop}
 use Rattle.lowering_code.specs.Items as items
 use Rattle.lowering_code.specs.Statements.{after_code, test_code, stmt_code}
 use Rattle.lowering_states.specs.Places.{Place, next_place, next_block, start_of_block, stands_at}
@@ -54,7 +54,7 @@ module _ (c : Setting) (levels : Levels) (found : slice_get c.functions c.number
   loop_run k scope = executes.condition c.structs c.locals (levels.functions k) scope test >>= choose (round_run k scope) (pure Goes)
 
   -- what follows, from a later state
-  onward_on : {scope : Scope} {f g : Names} {s t : State} {m m1 : Memory} {K : Flow → State → Observation} {heads : List ℕ} {rest : List Item} {brk con : ℕ} → Aft c f s m g t m1 → Onward c scope f s m K heads rest brk con → Onward c scope g t m1 K heads rest brk con
+  onward_on : {scope : Scope} {f g : Names} {s t : State} {m m1 : Memory} {K : Flow → State → Observation} {heads : List ℕ} {rest : List CodeItem} {brk con : ℕ} → Aft c f s m g t m1 → Onward c scope f s m K heads rest brk con → Onward c scope g t m1 K heads rest brk con
   onward_on x way = record {
     goes = λ p h u r n at a fit. way.goes p h u r n at (after_on x a) fit;
     breaks = λ h u r n a fit. way.breaks h u r n (after_on x a) fit;
@@ -62,14 +62,14 @@ module _ (c : Setting) (levels : Levels) (found : slice_get c.functions c.number
     returns = λ v ws h u r n a fit ret. way.returns v ws h u r n (after_on x a) fit ret;
   }
 
-  module _ (rest : List Item) (heads : List ℕ) (head : ℕ) where
-    abbrev test_items : List Item
+  module _ (rest : List CodeItem) (heads : List ℕ) (head : ℕ) where
+    abbrev test_items : List CodeItem
     test_items = test_code L c.structs c.locals test rest
 
-    abbrev step_items : List Item
+    abbrev step_items : List CodeItem
     step_items = after_code L c.structs c.locals step test_items
 
-    abbrev body_items : List Item
+    abbrev body_items : List CodeItem
     body_items = stmt_code L c.structs c.locals (items.count rest) (items.count step_items) body (Start ∷ step_items)
 
     -- where the step, and what comes behind, begin
@@ -145,10 +145,10 @@ module _ (c : Setting) (levels : Levels) (found : slice_get c.functions c.number
         same j i e = cc
 
   -- the loop behind its first part
-  abbrev loop_items : List Item → List Item
+  abbrev loop_items : List CodeItem → List CodeItem
   loop_items rest = Loop (items.count (test_items rest [] 0)) ∷ body_items rest [] 0
 
-  enters : (k : ℕ) (rest : List Item) (heads : List ℕ) (p : Place) (f : Names) (scope : Scope) (r : Registers) (s : State) (m : Memory) (K : Flow → State → Observation) (brk con : ℕ) → Stands c heads p (loop_items rest) → Fit c f scope r s m → s.world.meter.turns ≤ k
+  enters : (k : ℕ) (rest : List CodeItem) (heads : List ℕ) (p : Place) (f : Names) (scope : Scope) (r : Registers) (s : State) (m : Memory) (K : Flow → State → Observation) (brk con : ℕ) → Stands c heads p (loop_items rest) → Fit c f scope r s m → s.world.meter.turns ≤ k
       → Onward c scope f s m K heads rest brk con → EndsSo c (finish (loop_run k scope s) K) p r s.world m
   enters k rest heads p f scope r s m K brk con at fit low way =
       let head : ℕ = suc p.block in

@@ -12,8 +12,8 @@ use Rattle.c_semantics.specs.Executes.{Flow, Goes, condition, step}
 use Rattle.suifvm_ir.specs.declared.insn.BranchOp.TheVariants.{IfTrue}
 use Rattle.vm_meaning.specs.Operations as vm
 use Rattle.vm_meaning.specs.Behave.{Registers}
-use Rattle.lowering_code.specs.declared.item.Item.{Item}
-use Rattle.lowering_code.specs.declared.item.Item.TheVariants.{Start, Again}
+use Rattle.lowering_code.specs.declared.item.CodeItem.{CodeItem}
+use Rattle.lowering_code.specs.declared.item.CodeItem.TheVariants.{Start, Again}
 use Rattle.lowering_code.specs.Registers.{register_type, value_register}
 use Rattle.lowering_code.specs.Statements.{after_code, test_code}
 use Rattle.lowering_states.specs.Places.{Place, next_block, start_of_block}
@@ -30,17 +30,17 @@ use Rattle.lowering_for_laws.specs.Laws.{StepMeets, ConditionMeets}
 
 module _ (c : Setting) where
   -- a block begins with the items
-  abbrev Begins : List ℕ → List Item → Type 0
+  abbrev Begins : List ℕ → List CodeItem → Type 0
   Begins heads is = (block : ℕ) × Stands c heads (start_of_block block) is
 
   -- the condition closes the loop
-  pub left_condition : (x : Option Expr) (head : ℕ) (heads : List ℕ) (rest : List Item) → Begins (head ∷ heads) (test_code (count c) c.structs c.locals x rest) → Begins heads rest
+  pub left_condition : (x : Option Expr) (head : ℕ) (heads : List ℕ) (rest : List CodeItem) → Begins (head ∷ heads) (test_code (count c) c.structs c.locals x rest) → Begins heads rest
   left_condition None head heads rest h = (suc h.0, at_repeat c.code.blocks c.last c.end h.1)
   left_condition (Some x) head heads rest h =
       let a = left_expr c.code.blocks c.last c.end (count c) c.structs c.locals x 0 (head ∷ heads) _ (record { place = start_of_block h.0; at = h.1 }) in
       (suc a.place.block, at_again c.code.blocks c.last c.end _ _ a.at)
 
-  pub left_step : (x : Option Expr) (heads : List ℕ) (rest : List Item) → Begins heads (after_code (count c) c.structs c.locals x rest) → Begins heads rest
+  pub left_step : (x : Option Expr) (heads : List ℕ) (rest : List CodeItem) → Begins heads (after_code (count c) c.structs c.locals x rest) → Begins heads rest
   left_step None heads rest h = h
   left_step (Some x) heads rest h =
       let a = left_expr c.code.blocks c.last c.end (count c) c.structs c.locals x 0 heads _ (record { place = start_of_block h.0; at = h.1 }) in
@@ -51,7 +51,7 @@ module _ (c : Setting) (found : slice_get c.functions c.number ≡ Some c.code) 
   L = count c
 
   -- the step of a loop, and what comes behind it
-  pub step_leads : (x : Option Expr) → StepMeets c x → (go : Run Flow) (items : List Item) (heads : List ℕ) (f : Names) (scope : Scope) (r : Registers) (s : State) (m : Memory) (K : Flow → State → Observation)
+  pub step_leads : (x : Option Expr) → StepMeets c x → (go : Run Flow) (items : List CodeItem) (heads : List ℕ) (f : Names) (scope : Scope) (r : Registers) (s : State) (m : Memory) (K : Flow → State → Observation)
       → ((q : Place) (g : Names) (t : State) (r1 : Registers) (m1 : Memory) → Stands c heads q items → Aft c f s m g t m1 → Fit c g scope r1 t m1 → EndsSo c (finish (go t) K) q r1 t.world m1)
       → (q : Place) → Stands c heads q (after_code L c.structs c.locals x items) → Fit c f scope r s m → s.world.meter.turns ≤ c.level
       → EndsSo c (finish (and_then (step c.structs c.locals c.calls scope x s) (λ _. go)) K) q r s.world m
@@ -66,7 +66,7 @@ module _ (c : Setting) (found : slice_get c.functions c.number ≡ Some c.code) 
       (next (next_block q1) g t r1 m1 (at_start c.code.blocks c.last c.end at1) aft fit1))))
 
   -- the condition of a loop: where it holds, or there is none, the next round begins
-  module _ (go : Run Flow) (rest : List Item) (heads : List ℕ) (head : ℕ) (f : Names) (scope : Scope) (r : Registers) (s : State) (m : Memory) (K : Flow → State → Observation)
+  module _ (go : Run Flow) (rest : List CodeItem) (heads : List ℕ) (head : ℕ) (f : Names) (scope : Scope) (r : Registers) (s : State) (m : Memory) (K : Flow → State → Observation)
       (on_true : (g : Names) (t : State) (r1 : Registers) (m1 : Memory) → Aft c f s m g t m1 → Fit c g scope r1 t m1 → EndsSo c (finish (go t) K) (start_of_block head) r1 t.world m1)
       (on_false : (q : Place) (g : Names) (t : State) (r1 : Registers) (m1 : Memory) → Stands c heads q rest → Aft c f s m g t m1 → Fit c g scope r1 t m1 → EndsSo c (K Goes t) q r1 t.world m1) where
     by_test : (x : Expr) → IsScalarType (type_of x) → (q : Place) (g : Names) (t : State) (r1 : Registers) (m1 : Memory) (z : Bool) → Stands c (head ∷ heads) q (Again (register_type (type_of x)) (value_register L 0 (type_of x)) ∷ rest) → Aft c f s m g t m1 → Fit c g scope r1 t m1

@@ -20,10 +20,10 @@ use Rattle.suifvm_ir.specs.declared.insn.VmInsn as vm
 use Rattle.suifvm_ir.specs.declared.insn.VmInsn.TheVariants as n
 use Rattle.suifvm_ir.specs.Insns.{targets_of, flows_on_of, returned_register}
 use Rattle.suifvm_ir.specs.Functions.{IsStraight}
-use Rattle.lowering_code.specs.declared.operation.Operation.{Operation}
-use Rattle.lowering_code.specs.declared.operation.Operation.TheVariants.{Calculates, Shifts, Compares, ComparesBack}
-use Rattle.lowering_code.specs.declared.item.Item.{Item}
-use Rattle.lowering_code.specs.declared.item.Item.TheVariants.{Start, Plain, Jump, Branch, Return}
+use Rattle.lowering_code.specs.declared.operation.RegisterOperation.{RegisterOperation}
+use Rattle.lowering_code.specs.declared.operation.RegisterOperation.TheVariants.{Calculates, Shifts, Compares, ComparesBack}
+use Rattle.lowering_code.specs.declared.item.CodeItem.{CodeItem}
+use Rattle.lowering_code.specs.declared.item.CodeItem.TheVariants.{Start, Plain, Jump, Branch, Return}
 use Rattle.lowering_code.specs.Items.{count}
 use Rattle.lowering_code.specs.Registers.{register_type, type_place, temporary, value_register, address_register, bytes_register}
 use Rattle.lowering_code.specs.Expressions as code
@@ -31,33 +31,33 @@ use Rattle.lowering_layout.specs.Good.{IsGood}
 use Rattle.lowering_layout.specs.Tops.{registers_top, insn_top}
 
 module _ (most : ℕ) where
-  pub record Emits (k : ℕ) (rest is : List Item) : Type 0 where
+  pub record Emits (k : ℕ) (rest is : List CodeItem) : Type 0 where
     pub good : (loops : ℕ) → IsGood most loops rest → IsGood most loops is
     pub grows : count rest ≤ count is
     pub size : length is ≤ k + length rest
 
-  pub none : (rest : List Item) → Emits 0 rest rest
+  pub none : (rest : List CodeItem) → Emits 0 rest rest
   none rest = record { good = λ loops h. h; grows = omega arith; size = omega arith }
 
-  pub joins : (j k : ℕ) (rest mid is : List Item) → Emits j mid is → Emits k rest mid → Emits (j + k) rest is
+  pub joins : (j k : ℕ) (rest mid is : List CodeItem) → Emits j mid is → Emits k rest mid → Emits (j + k) rest is
   joins j k rest mid is a b = record { good = λ loops h. a.good loops (b.good loops h); grows = omega (arith, a.grows, b.grows); size = omega (arith, a.size, b.size) }
 
-  pub at_most : (j k : ℕ) (rest is : List Item) → j ≤ k → Emits j rest is → Emits k rest is
+  pub at_most : (j k : ℕ) (rest is : List CodeItem) → j ≤ k → Emits j rest is → Emits k rest is
   at_most j k rest is h a = record { good = a.good; grows = a.grows; size = omega (arith, h, a.size) }
 
-  pub plain : (i : vm.VmInsn) (rest : List Item) → IsStraight targets_of flows_on_of i → insn_top i ≤ most → Emits 1 rest (Plain i ∷ rest)
+  pub plain : (i : vm.VmInsn) (rest : List CodeItem) → IsStraight targets_of flows_on_of i → insn_top i ≤ most → Emits 1 rest (Plain i ∷ rest)
   plain i rest p t = record { good = λ loops h. (p, t, h); grows = omega arith; size = omega arith }
 
-  pub start : (rest : List Item) → Emits 1 rest (Start ∷ rest)
+  pub start : (rest : List CodeItem) → Emits 1 rest (Start ∷ rest)
   start rest = record { good = λ loops h. h; grows = omega arith; size = omega arith }
 
-  pub jump : (name : ℕ) (rest : List Item) → name ≤ count rest → Emits 1 rest (Jump name ∷ rest)
+  pub jump : (name : ℕ) (rest : List CodeItem) → name ≤ count rest → Emits 1 rest (Jump name ∷ rest)
   jump name rest h = record { good = λ loops g. (h, g); grows = omega arith; size = omega arith }
 
-  pub branch : (op : BranchOp) (ty : VmType) (source name : ℕ) (rest : List Item) → source < most → name ≤ count rest → Emits 1 rest (Branch op ty source name ∷ rest)
+  pub branch : (op : BranchOp) (ty : VmType) (source name : ℕ) (rest : List CodeItem) → source < most → name ≤ count rest → Emits 1 rest (Branch op ty source name ∷ rest)
   branch op ty source name rest s h = record { good = λ loops g. (s, h, g); grows = omega arith; size = omega arith }
 
-  pub give : (value : Option TypedRegister) (rest : List Item) → registers_top (returned_register value) ≤ most → Emits 1 rest (Return value ∷ rest)
+  pub give : (value : Option TypedRegister) (rest : List CodeItem) → registers_top (returned_register value) ≤ most → Emits 1 rest (Return value ∷ rest)
   give value rest h = record { good = λ loops g. (h, g); grows = omega arith; size = omega arith }
 
   -- ---- registers
@@ -78,25 +78,25 @@ module _ (most : ℕ) where
 
   -- ---- pieces
 
-  pub move_emits : (ty : PlainType) (to from : ℕ) (rest : List Item) → to < most → from < most → Emits 1 rest (code.move_code ty to from rest)
+  pub move_emits : (ty : PlainType) (to from : ℕ) (rest : List CodeItem) → to < most → from < most → Emits 1 rest (code.move_code ty to from rest)
   move_emits ty to from rest a b = plain _ rest (refl, refl) (omega (arith, a, b))
 
-  pub load_emits : (ty : PlainType) (to pointer plus : ℕ) (rest : List Item) → to < most → pointer < most → Emits 1 rest (code.load_from ty to pointer plus rest)
+  pub load_emits : (ty : PlainType) (to pointer plus : ℕ) (rest : List CodeItem) → to < most → pointer < most → Emits 1 rest (code.load_from ty to pointer plus rest)
   load_emits ty to pointer plus rest a b = plain _ rest (refl, refl) (omega (arith, a, b))
 
-  pub store_emits : (ty : PlainType) (pointer plus value : ℕ) (rest : List Item) → pointer < most → value < most → Emits 1 rest (code.store_code ty pointer plus value rest)
+  pub store_emits : (ty : PlainType) (pointer plus value : ℕ) (rest : List CodeItem) → pointer < most → value < most → Emits 1 rest (code.store_code ty pointer plus value rest)
   store_emits ty pointer plus value rest a b = plain _ rest (refl, refl) (omega (arith, a, b))
 
-  pub add_emits : (to pointer bytes : ℕ) (rest : List Item) → to < most → pointer < most → bytes < most → Emits 1 rest (code.add_code to pointer bytes rest)
+  pub add_emits : (to pointer bytes : ℕ) (rest : List CodeItem) → to < most → pointer < most → bytes < most → Emits 1 rest (code.add_code to pointer bytes rest)
   add_emits to pointer bytes rest a b c = plain _ rest (refl, refl) (omega (arith, a, b, c))
 
-  pub negate_emits : (bytes : ℕ) (rest : List Item) → bytes < most → Emits 1 rest (code.negate_code bytes rest)
+  pub negate_emits : (bytes : ℕ) (rest : List CodeItem) → bytes < most → Emits 1 rest (code.negate_code bytes rest)
   negate_emits bytes rest a = plain _ rest (refl, refl) (omega (arith, a))
 
-  pub copy_emits : (ds : List StructDef) (to from : ℕ) (ty : PlainType) (rest : List Item) → to < most → from < most → Emits 1 rest (code.copy_code ds to from ty rest)
+  pub copy_emits : (ds : List StructDef) (to from : ℕ) (ty : PlainType) (rest : List CodeItem) → to < most → from < most → Emits 1 rest (code.copy_code ds to from ty rest)
   copy_emits ds to from ty rest a b = plain _ rest (refl, refl) (omega (arith, a, b))
 
-  pub operation_emits : (op : Operation) (ty : VmType) (to left right : ℕ) (rest : List Item) → to < most → left < most → right < most
+  pub operation_emits : (op : RegisterOperation) (ty : VmType) (to left right : ℕ) (rest : List CodeItem) → to < most → left < most → right < most
       → Emits 1 rest (Plain (code.operation_insn op ty to left right) ∷ rest)
   operation_emits (Calculates op) ty to left right rest a b c = plain _ rest (refl, refl) (omega (arith, a, b, c))
   operation_emits (Shifts op) ty to left right rest a b c = plain _ rest (refl, refl) (omega (arith, a, b, c))
@@ -113,30 +113,30 @@ module _ (most : ℕ) where
     pub bytes_there : (d : ℕ) → Has locals d 1 → bytes_register locals d < most
     bytes_there d h = omega (arith, there locals d S64 h)
 
-    pub constant_emits : (d : ℕ) (ty : PlainType) (word : ℕ) (rest : List Item) → Has locals d 1 → Emits 1 rest (code.constant_code locals d ty word rest)
+    pub constant_emits : (d : ℕ) (ty : PlainType) (word : ℕ) (rest : List CodeItem) → Has locals d 1 → Emits 1 rest (code.constant_code locals d ty word rest)
     constant_emits d ty word rest h = plain _ rest (refl, refl) (omega (arith, value_there d ty h))
 
-    pub moved_emits : (d plus : ℕ) (rest : List Item) → Has locals d 1 → Emits 2 rest (code.moved_code locals d plus rest)
+    pub moved_emits : (d plus : ℕ) (rest : List CodeItem) → Has locals d 1 → Emits 2 rest (code.moved_code locals d plus rest)
     moved_emits d zero rest h = at_most 0 2 rest rest (omega arith) (none rest)
     moved_emits d (suc plus) rest h =
         joins 1 1 rest _ _ (plain _ _ (refl, refl) (omega (arith, bytes_there d h)))
         (plain _ rest (refl, refl) (omega (arith, address_there d h, bytes_there d h)))
 
-    pub value_load_emits : (d : ℕ) (ty : PlainType) (plus : ℕ) (rest : List Item) → Has locals d 1 → Emits 2 rest (code.load_code locals d ty plus rest)
+    pub value_load_emits : (d : ℕ) (ty : PlainType) (plus : ℕ) (rest : List CodeItem) → Has locals d 1 → Emits 2 rest (code.load_code locals d ty plus rest)
     value_load_emits d Void plus rest h = at_most 0 2 rest rest (omega arith) (none rest)
     value_load_emits d (Int bytes signed) plus rest h = at_most 1 2 rest _ (omega arith) (load_emits (Int bytes signed) _ _ plus rest (value_there d (Int bytes signed) h) (address_there d h))
     value_load_emits d (Pointer target) plus rest h = at_most 1 2 rest _ (omega arith) (load_emits (Pointer target) _ _ plus rest (value_there d (Pointer target) h) (address_there d h))
     value_load_emits d (Array element count) plus rest h = moved_emits d plus rest h
     value_load_emits d (Struct number) plus rest h = moved_emits d plus rest h
 
-    pub convert_emits : (d : ℕ) (from to : PlainType) (rest : List Item) → Has locals d 1 → Emits 1 rest (code.convert_code locals d from to rest)
+    pub convert_emits : (d : ℕ) (from to : PlainType) (rest : List CodeItem) → Has locals d 1 → Emits 1 rest (code.convert_code locals d from to rest)
     convert_emits d from to rest h = by (code.is_kept from to)
       where
         by : (kept : Bool) → Emits 1 rest (if kept then rest else Plain (n.Convert (code.narrow_type from to) (register_type to) (value_register locals d to) (value_register locals d from)) ∷ rest)
         by true = at_most 0 1 rest rest (omega arith) (none rest)
         by false = plain _ rest (refl, refl) (omega (arith, value_there d to h, value_there d from h))
 
-    pub sized_emits : (d free size : ℕ) (rest : List Item) → Has locals d 1 → Has locals free 1 → Emits 2 rest (code.sized_code locals d free size rest)
+    pub sized_emits : (d free size : ℕ) (rest : List CodeItem) → Has locals d 1 → Has locals free 1 → Emits 2 rest (code.sized_code locals d free size rest)
     sized_emits d free size rest h k = by (size == 1)
       where
         by : (one : Bool) → Emits 2 rest (if one then rest else Plain (n.LoadConstant S64 (bytes_register locals free) size) ∷ Plain (n.Binary vb.Multiply S64 (bytes_register locals d) (bytes_register locals d) (bytes_register locals free)) ∷ rest)
@@ -145,7 +145,7 @@ module _ (most : ℕ) where
             joins 1 1 rest _ _ (plain _ _ (refl, refl) (omega (arith, bytes_there free k)))
             (plain _ rest (refl, refl) (omega (arith, bytes_there d h, bytes_there free k)))
 
-    pub divided_emits : (d free size : ℕ) (rest : List Item) → Has locals d 1 → Has locals free 1 → Emits 2 rest (code.divided_code locals d free size rest)
+    pub divided_emits : (d free size : ℕ) (rest : List CodeItem) → Has locals d 1 → Has locals free 1 → Emits 2 rest (code.divided_code locals d free size rest)
     divided_emits d free size rest h k = by (size == 1)
       where
         by : (one : Bool) → Emits 2 rest (if one then rest else Plain (n.LoadConstant S64 (bytes_register locals free) size) ∷ Plain (n.Binary vb.Divide S64 (bytes_register locals d) (bytes_register locals d) (bytes_register locals free)) ∷ rest)
@@ -154,45 +154,45 @@ module _ (most : ℕ) where
             joins 1 1 rest _ _ (plain _ _ (refl, refl) (omega (arith, bytes_there free k)))
             (plain _ rest (refl, refl) (omega (arith, bytes_there d h, bytes_there free k)))
 
-    pub scaled_emits : (d free : ℕ) (ty : PlainType) (size : ℕ) (rest : List Item) → Has locals d 1 → Has locals free 1 → Emits 3 rest (code.scaled_code locals d free ty size rest)
+    pub scaled_emits : (d free : ℕ) (ty : PlainType) (size : ℕ) (rest : List CodeItem) → Has locals d 1 → Has locals free 1 → Emits 3 rest (code.scaled_code locals d free ty size rest)
     scaled_emits d free ty size rest h k = joins 1 2 rest _ _ (convert_emits d ty (Int 8 true) _ h) (sized_emits d free size rest h k)
 
-    pub address_emits : (d : ℕ) (place : Place) (plus : ℕ) (rest : List Item) → Has locals d 1 → Emits 1 rest (code.address_code locals d place plus rest)
+    pub address_emits : (d : ℕ) (place : Place) (plus : ℕ) (rest : List CodeItem) → Has locals d 1 → Emits 1 rest (code.address_code locals d place plus rest)
     address_emits d place plus rest h = plain _ rest (refl, refl) (omega (arith, address_there d h))
 
-    pub unary_emits : (op : vu.UnaryOp) (d : ℕ) (ty : PlainType) (rest : List Item) → Has locals d 1 → Emits 1 rest (code.unary_code locals op d ty rest)
+    pub unary_emits : (op : vu.UnaryOp) (d : ℕ) (ty : PlainType) (rest : List CodeItem) → Has locals d 1 → Emits 1 rest (code.unary_code locals op d ty rest)
     unary_emits op d ty rest h = plain _ rest (refl, refl) (omega (arith, value_there d ty h))
 
-    pub not_emits : (d : ℕ) (ty operand : PlainType) (rest : List Item) → Has locals d 2 → Emits 2 rest (code.not_code locals d ty operand rest)
+    pub not_emits : (d : ℕ) (ty operand : PlainType) (rest : List CodeItem) → Has locals d 2 → Emits 2 rest (code.not_code locals d ty operand rest)
     not_emits d ty operand rest h =
         joins 1 1 rest _ _ (constant_emits (suc d) operand 0 _ (omega (arith, h)))
         (plain _ rest (refl, refl) (omega (arith, value_there d ty (omega (arith, h)), value_there d operand (omega (arith, h)), value_there (suc d) operand (omega (arith, h)))))
 
-    pub branch_emits : (op : BranchOp) (d : ℕ) (ty : PlainType) (name : ℕ) (rest : List Item) → Has locals d 1 → name ≤ count rest → Emits 1 rest (code.branch_code locals op d ty name rest)
+    pub branch_emits : (op : BranchOp) (d : ℕ) (ty : PlainType) (name : ℕ) (rest : List CodeItem) → Has locals d 1 → name ≤ count rest → Emits 1 rest (code.branch_code locals op d ty name rest)
     branch_emits op d ty name rest h k = branch op _ _ name rest (value_there d ty h) k
 
     -- ---- operators
 
-    pub integers_emits : (op : BinaryOp) (d : ℕ) (ty left right : PlainType) (rest : List Item) → Has locals d 2 → Emits 1 rest (code.integers_code locals op d ty left right rest)
+    pub integers_emits : (op : BinaryOp) (d : ℕ) (ty left right : PlainType) (rest : List CodeItem) → Has locals d 2 → Emits 1 rest (code.integers_code locals op d ty left right rest)
     integers_emits op d ty left right rest h =
         operation_emits (code.operation_of op (code.is_signed_type left)) (register_type left) _ _ _ rest
         (value_there d ty (omega (arith, h))) (value_there d left (omega (arith, h))) (value_there (suc d) right (omega (arith, h)))
 
-    pub combine_in_emits : (op : BinaryOp) (t : IntegerType) (o d : ℕ) (left ty : PlainType) (rest : List Item) → Has locals o 1 → Has locals d 1
+    pub combine_in_emits : (op : BinaryOp) (t : IntegerType) (o d : ℕ) (left ty : PlainType) (rest : List CodeItem) → Has locals o 1 → Has locals d 1
         → Emits 3 rest (code.combine_in locals op t o d left ty rest)
     combine_in_emits op t o d left ty rest h k =
         joins 1 2 rest _ _ (convert_emits o left (code.plain_of t) _ h)
         (joins 1 1 rest _ _ (operation_emits (code.operation_of op (is_signed t)) (register_type (code.plain_of t)) _ _ _ _ (value_there o (code.plain_of t) h) (value_there o (code.plain_of t) h) (value_there d ty k))
         (convert_emits o (code.plain_of t) left rest h))
 
-    pub integer_emits : (d : ℕ) (from to : PlainType) (rest : List Item) → Has locals d 1 → Emits 1 rest (code.integer_code locals d from to rest)
+    pub integer_emits : (d : ℕ) (from to : PlainType) (rest : List CodeItem) → Has locals d 1 → Emits 1 rest (code.integer_code locals d from to rest)
     integer_emits d from Void rest h = at_most 0 1 rest rest (omega arith) (none rest)
     integer_emits d from (Int m s) rest h = convert_emits d from (Int m s) rest h
     integer_emits d from (Pointer target) rest h = plain _ rest (refl, refl) (omega (arith, address_there d h, value_there d from h))
     integer_emits d from (Array element length) rest h = at_most 0 1 rest rest (omega arith) (none rest)
     integer_emits d from (Struct number) rest h = at_most 0 1 rest rest (omega arith) (none rest)
 
-    pub converted_emits : (d : ℕ) (from to : PlainType) (rest : List Item) → Has locals d 1 → Emits 1 rest (code.converted_code locals d from to rest)
+    pub converted_emits : (d : ℕ) (from to : PlainType) (rest : List CodeItem) → Has locals d 1 → Emits 1 rest (code.converted_code locals d from to rest)
     converted_emits d Void to rest h = at_most 0 1 rest rest (omega arith) (none rest)
     converted_emits d (Int k r) to rest h = integer_emits d (Int k r) to rest h
     converted_emits d (Pointer target) to rest h = at_most 0 1 rest rest (omega arith) (none rest)
@@ -200,19 +200,19 @@ module _ (most : ℕ) where
     converted_emits d (Struct number) to rest h = at_most 0 1 rest rest (omega arith) (none rest)
 
     module _ (ds : List StructDef) where
-      abbrev stepped_back : (o d free : ℕ) (element ty : PlainType) (rest : List Item) → Has locals o 1 → Has locals d 1 → Has locals free 1
+      abbrev stepped_back : (o d free : ℕ) (element ty : PlainType) (rest : List CodeItem) → Has locals o 1 → Has locals d 1 → Has locals free 1
           → Emits 5 rest (code.scaled_code locals d free ty (code.stride ds element) (code.negate_code (bytes_register locals d) (code.add_code (address_register locals o) (address_register locals o) (bytes_register locals d) rest)))
       stepped_back o d free element ty rest h k f =
           joins 3 2 rest _ _ (scaled_emits d free ty (code.stride ds element) _ k f)
           (joins 1 1 rest _ _ (negate_emits _ _ (bytes_there d k)) (add_emits _ _ _ rest (address_there o h) (address_there o h) (bytes_there d k)))
 
-      abbrev stepped_on : (o d free : ℕ) (element ty : PlainType) (rest : List Item) → Has locals o 1 → Has locals d 1 → Has locals free 1
+      abbrev stepped_on : (o d free : ℕ) (element ty : PlainType) (rest : List CodeItem) → Has locals o 1 → Has locals d 1 → Has locals free 1
           → Emits 5 rest (code.scaled_code locals d free ty (code.stride ds element) (code.add_code (address_register locals o) (address_register locals o) (bytes_register locals d) rest))
       stepped_on o d free element ty rest h k f =
           at_most 4 5 rest _ (omega arith)
           (joins 3 1 rest _ _ (scaled_emits d free ty (code.stride ds element) _ k f) (add_emits _ _ _ rest (address_there o h) (address_there o h) (bytes_there d k)))
 
-      pub step_emits : (op : BinaryOp) (o d free : ℕ) (element ty : PlainType) (rest : List Item) → Has locals o 1 → Has locals d 1 → Has locals free 1
+      pub step_emits : (op : BinaryOp) (o d free : ℕ) (element ty : PlainType) (rest : List CodeItem) → Has locals o 1 → Has locals d 1 → Has locals free 1
           → Emits 5 rest (code.step_code locals ds op o d free element ty rest)
       step_emits b.Subtract o d free element ty rest h k f = stepped_back o d free element ty rest h k f
       step_emits b.LogicalOr o d free element ty rest h k f = stepped_on o d free element ty rest h k f
@@ -233,13 +233,13 @@ module _ (most : ℕ) where
       step_emits b.Divide o d free element ty rest h k f = stepped_on o d free element ty rest h k f
       step_emits b.Remainder o d free element ty rest h k f = stepped_on o d free element ty rest h k f
 
-      pub step_back_emits : (d free : ℕ) (element ty : PlainType) (rest : List Item) → Has locals d 2 → Has locals free 1
+      pub step_back_emits : (d free : ℕ) (element ty : PlainType) (rest : List CodeItem) → Has locals d 2 → Has locals free 1
           → Emits 4 rest (code.step_back_code locals ds d free element ty rest)
       step_back_emits d free element ty rest h f =
           joins 3 1 rest _ _ (scaled_emits d free ty (code.stride ds element) _ (omega (arith, h)) f)
           (add_emits _ _ _ rest (address_there d (omega (arith, h))) (address_there (suc d) (omega (arith, h))) (bytes_there d (omega (arith, h))))
 
-      pub combine_emits : (op : BinaryOp) (o d free : ℕ) (left ty : PlainType) (rest : List Item) → Has locals o 1 → Has locals d 1 → Has locals free 1
+      pub combine_emits : (op : BinaryOp) (o d free : ℕ) (left ty : PlainType) (rest : List CodeItem) → Has locals o 1 → Has locals d 1 → Has locals free 1
           → Emits 5 rest (code.combine_code locals ds op o d free left ty rest)
       combine_emits op o d free left ty rest h k f = by (code.element_of left)
         where
@@ -247,7 +247,7 @@ module _ (most : ℕ) where
           by (Some element) = step_emits op o d free element ty rest h k f
           by None = at_most 3 5 rest _ (omega arith) (combine_in_emits op (operation_type op (integer_of left) (integer_of ty)) o d left ty rest h k)
 
-      pub element_emits : (d : ℕ) (left right : PlainType) (rest : List Item) → Has locals d 3 → Emits 5 rest (code.element_code locals ds d left right rest)
+      pub element_emits : (d : ℕ) (left right : PlainType) (rest : List CodeItem) → Has locals d 3 → Emits 5 rest (code.element_code locals ds d left right rest)
       element_emits d left right rest h = by (code.element_of left) (code.element_of right)
         where
           by : (target other : Option PlainType) → Emits 5 rest (code.element_by locals ds d left right target other rest)
@@ -255,12 +255,12 @@ module _ (most : ℕ) where
           by None (Some element) = at_most 4 5 rest _ (omega arith) (step_back_emits d (suc (suc d)) element left rest (omega (arith, h)) (omega (arith, h)))
           by None None = at_most 0 5 rest rest (omega arith) (none rest)
 
-      abbrev compared : (op : BinaryOp) (d : ℕ) (ty : PlainType) (rest : List Item) → Has locals d 2
+      abbrev compared : (op : BinaryOp) (d : ℕ) (ty : PlainType) (rest : List CodeItem) → Has locals d 2
           → Emits 3 rest (Plain (code.operation_insn (code.operation_of op false) P64 (value_register locals d ty) (address_register locals d) (address_register locals (suc d))) ∷ rest)
       compared op d ty rest h =
           at_most 1 3 rest _ (omega arith) (operation_emits (code.operation_of op false) P64 _ _ _ rest (value_there d ty (omega (arith, h))) (address_there d (omega (arith, h))) (address_there (suc d) (omega (arith, h))))
 
-      pub pointers_emits : (op : BinaryOp) (d : ℕ) (ty element : PlainType) (rest : List Item) → Has locals d 2
+      pub pointers_emits : (op : BinaryOp) (d : ℕ) (ty element : PlainType) (rest : List CodeItem) → Has locals d 2
           → Emits 3 rest (code.pointers_code locals ds op d ty element rest)
       pointers_emits b.Subtract d ty element rest h =
           joins 1 2 rest _ _ (plain _ _ (refl, refl) (omega (arith, bytes_there d (omega (arith, h)), address_there d (omega (arith, h)), address_there (suc d) (omega (arith, h)))))
@@ -283,7 +283,7 @@ module _ (most : ℕ) where
       pointers_emits b.Divide d ty element rest h = compared b.Divide d ty rest h
       pointers_emits b.Remainder d ty element rest h = compared b.Remainder d ty rest h
 
-      pub binary_emits : (op : BinaryOp) (d : ℕ) (ty left right : PlainType) (rest : List Item) → Has locals d 3 → Emits 5 rest (code.binary_code locals ds op d ty left right rest)
+      pub binary_emits : (op : BinaryOp) (d : ℕ) (ty left right : PlainType) (rest : List CodeItem) → Has locals d 3 → Emits 5 rest (code.binary_code locals ds op d ty left right rest)
       binary_emits op d ty left right rest h = by (code.element_of left) (code.element_of right)
         where
           by : (target other : Option PlainType) → Emits 5 rest (code.binary_by locals ds op d ty left right target other rest)
@@ -294,12 +294,12 @@ module _ (most : ℕ) where
 
       -- ---- changes of places
 
-      pub stepped_emits : (op : StepOp) (o : ℕ) (ty : PlainType) (rest : List Item) → Has locals o 3 → Emits 6 rest (code.stepped_code locals ds op o ty rest)
+      pub stepped_emits : (op : StepOp) (o : ℕ) (ty : PlainType) (rest : List CodeItem) → Has locals o 3 → Emits 6 rest (code.stepped_code locals ds op o ty rest)
       stepped_emits op o ty rest h =
           joins 1 5 rest _ _ (constant_emits (suc o) (one_type ty) 1 _ (omega (arith, h)))
           (combine_emits (step_operator op) o (suc o) (suc (suc o)) ty (one_type ty) rest (omega (arith, h)) (omega (arith, h)) (omega (arith, h)))
 
-      pub step_register_emits : (op : StepOp) (postfix : Bool) (d : ℕ) (ty : PlainType) (k : ℕ) (rest : List Item) → Has locals d 5 → k < most
+      pub step_register_emits : (op : StepOp) (postfix : Bool) (d : ℕ) (ty : PlainType) (k : ℕ) (rest : List CodeItem) → Has locals d 5 → k < most
           → Emits 9 rest (code.step_register_code locals ds op postfix d ty k rest)
       step_register_emits op false d ty k rest h small =
           at_most 8 9 rest _ (omega arith)
@@ -310,7 +310,7 @@ module _ (most : ℕ) where
           (joins 1 7 rest _ _ (move_emits ty _ _ _ (value_there (suc d) ty (omega (arith, h))) (value_there d ty (omega (arith, h))))
           (joins 6 1 rest _ _ (stepped_emits op (suc d) ty _ (omega (arith, h))) (move_emits ty _ _ rest small (value_there (suc d) ty (omega (arith, h))))))
 
-      pub step_memory_emits : (op : StepOp) (postfix : Bool) (d plus : ℕ) (ty : PlainType) (rest : List Item) → Has locals d 5
+      pub step_memory_emits : (op : StepOp) (postfix : Bool) (d plus : ℕ) (ty : PlainType) (rest : List CodeItem) → Has locals d 5
           → Emits 10 rest (code.step_memory_code locals ds op postfix d plus ty rest)
       step_memory_emits op false d plus ty rest h =
           at_most 9 10 rest _ (omega arith)
@@ -325,12 +325,12 @@ module _ (most : ℕ) where
           (joins 1 1 rest _ _ (store_emits ty _ plus _ _ (address_there d (omega (arith, h))) (value_there (suc (suc d)) ty (omega (arith, h))))
           (move_emits ty _ _ rest (value_there d ty (omega (arith, h))) (value_there (suc d) ty (omega (arith, h)))))))
 
-      abbrev set_scalar_emits : (d plus : ℕ) (ty : PlainType) (rest : List Item) → Has locals d 2 → Emits 2 rest (code.set_scalar_code locals d plus ty rest)
+      abbrev set_scalar_emits : (d plus : ℕ) (ty : PlainType) (rest : List CodeItem) → Has locals d 2 → Emits 2 rest (code.set_scalar_code locals d plus ty rest)
       set_scalar_emits d plus ty rest h =
           joins 1 1 rest _ _ (store_emits ty _ plus _ _ (address_there d (omega (arith, h))) (value_there (suc d) ty (omega (arith, h))))
           (move_emits ty _ _ rest (value_there d ty (omega (arith, h))) (value_there (suc d) ty (omega (arith, h))))
 
-      pub set_memory_emits : (d plus : ℕ) (ty : PlainType) (rest : List Item) → Has locals d 2 → Emits 2 rest (code.set_memory_code locals ds d plus ty rest)
+      pub set_memory_emits : (d plus : ℕ) (ty : PlainType) (rest : List CodeItem) → Has locals d 2 → Emits 2 rest (code.set_memory_code locals ds d plus ty rest)
       set_memory_emits d plus Void rest h = set_scalar_emits d plus Void rest h
       set_memory_emits d plus (Int bytes signed) rest h = set_scalar_emits d plus (Int bytes signed) rest h
       set_memory_emits d plus (Pointer target) rest h = set_scalar_emits d plus (Pointer target) rest h
@@ -338,14 +338,14 @@ module _ (most : ℕ) where
       set_memory_emits d plus (Struct number) rest h =
           at_most 1 2 rest _ (omega arith) (copy_emits ds _ _ (Struct number) rest (address_there d (omega (arith, h))) (address_there (suc d) (omega (arith, h))))
 
-      pub place_moved_emits : (ty : PlainType) (d plus : ℕ) (rest : List Item) → Has locals d 1 → Emits 2 rest (code.place_moved_code locals ty d plus rest)
+      pub place_moved_emits : (ty : PlainType) (d plus : ℕ) (rest : List CodeItem) → Has locals d 1 → Emits 2 rest (code.place_moved_code locals ty d plus rest)
       place_moved_emits Void d plus rest h = at_most 0 2 rest rest (omega arith) (none rest)
       place_moved_emits (Int bytes signed) d plus rest h = at_most 0 2 rest rest (omega arith) (none rest)
       place_moved_emits (Pointer target) d plus rest h = at_most 0 2 rest rest (omega arith) (none rest)
       place_moved_emits (Array element length) d plus rest h = at_most 0 2 rest rest (omega arith) (none rest)
       place_moved_emits (Struct number) d plus rest h = moved_emits d plus rest h
 
-      pub combine_memory_emits : (op : BinaryOp) (d plus : ℕ) (left right : PlainType) (rest : List Item) → Has locals d 4
+      pub combine_memory_emits : (op : BinaryOp) (d plus : ℕ) (left right : PlainType) (rest : List CodeItem) → Has locals d 4
           → Emits 8 rest (code.combine_memory_code locals ds op d plus left right rest)
       combine_memory_emits op d plus left right rest h =
           joins 1 7 rest _ _ (load_emits left _ _ plus _ (value_there (suc (suc d)) left (omega (arith, h))) (address_there d (omega (arith, h))))

@@ -18,8 +18,8 @@ use Rattle.suifvm_ir.specs.declared.insn.UnaryOp.TheVariants.{Negate, Complement
 use Rattle.suifvm_ir.specs.declared.insn.Place.TheVariants as p
 use Rattle.suifvm_ir.specs.declared.insn.VmInsn.TheVariants as n
 use Rattle.suifvm_ir.specs.Insns.{named_register}
-use Rattle.lowering_code.specs.declared.item.Item.{Item}
-use Rattle.lowering_code.specs.declared.item.Item.TheVariants.{Start, Jump}
+use Rattle.lowering_code.specs.declared.item.CodeItem.{CodeItem}
+use Rattle.lowering_code.specs.declared.item.CodeItem.TheVariants.{Start, Jump}
 use Rattle.lowering_code.specs.Items.{count}
 use Rattle.lowering_code.specs.Registers.{object_of}
 use Rattle.lowering_code.specs.Expressions as code
@@ -30,7 +30,7 @@ use Rattle.lowering_functions.proofs.Emits as m
 use Rattle.lowering_functions.proofs.Emits.{Emits, Has}
 
 module _ (most locals : ℕ) (ds : List StructDef) (ls : List Local) (same : length ls ≡ locals) where
-  abbrev xcode : (d : ℕ) → Expr → List Item → List Item
+  abbrev xcode : (d : ℕ) → Expr → List CodeItem → List CodeItem
   xcode d x rest = code.expr_code locals ds ls d x rest
 
   -- a local that a register holds has one of the first registers
@@ -60,7 +60,7 @@ module _ (most locals : ℕ) (ds : List StructDef) (ls : List Local) (same : len
   place_register (Comma ty xs) j h = let clash : ⊥ = cc in absurd clash
 
   -- a value of a local
-  local_emits : (d : ℕ) (ty : PlainType) (k : ℕ) (rest : List Item) → Has most locals d 1 → Emits most 3 rest (code.local_code locals ds ls d ty k (code.register_if locals ds ls k (slice_get ls k)) rest)
+  local_emits : (d : ℕ) (ty : PlainType) (k : ℕ) (rest : List CodeItem) → Has most locals d 1 → Emits most 3 rest (code.local_code locals ds ls d ty k (code.register_if locals ds ls k (slice_get ls k)) rest)
   local_emits d ty k rest h = by (code.register_if locals ds ls k (slice_get ls k)) refl
     where
       by : (r : Option ℕ) → code.register_if locals ds ls k (slice_get ls k) ≡ r → Emits most 3 rest (code.local_code locals ds ls d ty k r rest)
@@ -80,45 +80,45 @@ module _ (most locals : ℕ) (ds : List StructDef) (ls : List Local) (same : len
   destination_below d (Array element length) h = omega (arith, m.value_there most locals d (Array element length) h)
   destination_below d (Struct number) h = omega (arith, m.value_there most locals d (Struct number) h)
 
-  next : (j k n : ℕ) (rest mid is : List Item) → j + k ≤ n → Emits most j mid is → Emits most k rest mid → Emits most n rest is
+  next : (j k n : ℕ) (rest mid is : List CodeItem) → j + k ≤ n → Emits most j mid is → Emits most k rest mid → Emits most n rest is
   next j k n rest mid is le a b = m.at_most most (j + k) n rest is le (m.joins most j k rest mid is a b)
 
   -- `&&` and `||`, by the code of their operands
-  decides_emits : (op : _) (d : ℕ) (ty tx ty' : PlainType) (word other : ℕ) (j k : ℕ) (fx fy : List Item → List Item)
-      → ((is : List Item) → Emits most j is (fx is)) → ((is : List Item) → Emits most k is (fy is)) → (rest : List Item) → Has most locals d 1
+  decides_emits : (op : _) (d : ℕ) (ty tx ty' : PlainType) (word other : ℕ) (j k : ℕ) (fx fy : List CodeItem → List CodeItem)
+      → ((is : List CodeItem) → Emits most j is (fx is)) → ((is : List CodeItem) → Emits most k is (fy is)) → (rest : List CodeItem) → Has most locals d 1
       → Emits most (j + (k + 6)) rest
       (fx (code.branch_code locals op d tx (count (code.constant_code locals d ty word (Start ∷ rest)))
       (fy (code.branch_code locals op d ty' (count (code.constant_code locals d ty word (Start ∷ rest)))
       (code.constant_code locals d ty other (Jump (count rest) ∷ code.constant_code locals d ty word (Start ∷ rest)))))))
   decides_emits op d ty tx ty' word other j k fx fy ex ey rest h =
-      let fails : List Item = code.constant_code locals d ty word (Start ∷ rest) in
-      let last : List Item = code.constant_code locals d ty other (Jump (count rest) ∷ fails) in
-      let second : List Item = code.branch_code locals op d ty' (count fails) last in
+      let fails : List CodeItem = code.constant_code locals d ty word (Start ∷ rest) in
+      let last : List CodeItem = code.constant_code locals d ty other (Jump (count rest) ∷ fails) in
+      let second : List CodeItem = code.branch_code locals op d ty' (count fails) last in
       let f : Emits most 2 rest fails = m.joins most 1 1 rest (Start ∷ rest) fails (m.constant_emits most locals d ty word (Start ∷ rest) h) (m.start most rest) in
       let g : Emits most 4 rest last = m.joins most 1 3 rest (Jump (count rest) ∷ fails) last (m.constant_emits most locals d ty other (Jump (count rest) ∷ fails) h) (m.joins most 1 2 rest fails (Jump (count rest) ∷ fails) (m.jump most (count rest) fails (f.grows)) f) in
       let b : Emits most 5 rest second = m.joins most 1 4 rest last second (m.branch_emits most locals op d ty' (count fails) last h (omega arith)) g in
       let c : Emits most (k + 5) rest (fy second) = m.joins most k 5 rest second (fy second) (ey second) b in
-      let first : List Item = code.branch_code locals op d tx (count fails) (fy second) in
+      let first : List CodeItem = code.branch_code locals op d tx (count fails) (fy second) in
       let a : Emits most 1 (fy second) first = m.branch_emits most locals op d tx (count fails) (fy second) h (omega (arith, (ey second).grows)) in
       next j (1 + (k + 5)) (j + (k + 6)) rest first (fx first) (omega arith) (ex first) (m.joins most 1 (k + 5) rest (fy second) first a c)
 
-  choice_emits : (d : ℕ) (tx : PlainType) (i j k : ℕ) (fx fy fz : List Item → List Item)
-      → ((is : List Item) → Emits most i is (fx is)) → ((is : List Item) → Emits most j is (fy is)) → ((is : List Item) → Emits most k is (fz is))
-      → (rest : List Item) → Has most locals d 1
+  choice_emits : (d : ℕ) (tx : PlainType) (i j k : ℕ) (fx fy fz : List CodeItem → List CodeItem)
+      → ((is : List CodeItem) → Emits most i is (fx is)) → ((is : List CodeItem) → Emits most j is (fy is)) → ((is : List CodeItem) → Emits most k is (fz is))
+      → (rest : List CodeItem) → Has most locals d 1
       → Emits most (i + (j + (k + 3))) rest (fx (code.branch_code locals IfFalse d tx (count (fz (Start ∷ rest))) (fy (Jump (count rest) ∷ fz (Start ∷ rest)))))
   choice_emits d tx i j k fx fy fz ex ey ez rest h =
-      let fails : List Item = fz (Start ∷ rest) in
+      let fails : List CodeItem = fz (Start ∷ rest) in
       let f : Emits most (k + 1) rest fails = m.joins most k 1 rest (Start ∷ rest) fails (ez (Start ∷ rest)) (m.start most rest) in
-      let over : List Item = Jump (count rest) ∷ fails in
+      let over : List CodeItem = Jump (count rest) ∷ fails in
       let g : Emits most (1 + (k + 1)) rest over = m.joins most 1 (k + 1) rest fails over (m.jump most (count rest) fails (f.grows)) f in
       let c : Emits most (j + (1 + (k + 1))) rest (fy over) = m.joins most j (1 + (k + 1)) rest over (fy over) (ey over) g in
-      let first : List Item = code.branch_code locals IfFalse d tx (count fails) (fy over) in
+      let first : List CodeItem = code.branch_code locals IfFalse d tx (count fails) (fy over) in
       let a : Emits most 1 (fy over) first = m.branch_emits most locals IfFalse d tx (count fails) (fy over) h (omega (arith, (ey over).grows)) in
       next i (1 + (j + (1 + (k + 1)))) (i + (j + (k + 3))) rest first (fx first) (omega arith) (ex first) (m.joins most 1 (j + (1 + (k + 1))) rest (fy over) first a c)
 
   -- `++` and `--`
-  changed_emits : (op : StepOp) (postfix : Bool) (d : ℕ) (ty : PlainType) (x : Expr) (j : ℕ) → ((is : List Item) → Emits most j is (code.place_code locals ds ls d x 0 is))
-      → (rest : List Item) → Has most locals d 5
+  changed_emits : (op : StepOp) (postfix : Bool) (d : ℕ) (ty : PlainType) (x : Expr) (j : ℕ) → ((is : List CodeItem) → Emits most j is (code.place_code locals ds ls d x 0 is))
+      → (rest : List CodeItem) → Has most locals d 5
       → Emits most (j + 10) rest (code.change_code locals ds ls (code.register_of locals ds ls x) (λ k. code.step_register_code locals ds op postfix d ty k rest)
       (code.place_code locals ds ls d x 0 (code.step_memory_code locals ds op postfix d (code.plus_of locals ds ls x 0) ty rest)))
   changed_emits op postfix d ty x j ex rest h = by (code.register_of locals ds ls x) refl
@@ -128,9 +128,9 @@ module _ (most locals : ℕ) (ds : List StructDef) (ls : List Local) (same : len
       by (Some k) is = m.at_most most 9 (j + 10) rest _ (omega arith) (m.step_register_emits most locals ds op postfix d ty k rest h (omega (arith, place_register x k is, h)))
       by None is = m.joins most j 10 rest _ _ (ex _) (m.step_memory_emits most locals ds op postfix d (code.plus_of locals ds ls x 0) ty rest h)
 
-  assign_emits : (d : ℕ) (op : Option BinaryOp) (ty right : PlainType) (plus : ℕ) (x : Expr) (j k : ℕ) (value : ℕ → List Item → List Item)
-      → ((is : List Item) → Emits most j is (code.place_code locals ds ls d x 0 is)) → ((is : List Item) → Emits most k is (value d is)) → ((is : List Item) → Emits most k is (value (suc d) is))
-      → (rest : List Item) → Has most locals d 5
+  assign_emits : (d : ℕ) (op : Option BinaryOp) (ty right : PlainType) (plus : ℕ) (x : Expr) (j k : ℕ) (value : ℕ → List CodeItem → List CodeItem)
+      → ((is : List CodeItem) → Emits most j is (code.place_code locals ds ls d x 0 is)) → ((is : List CodeItem) → Emits most k is (value d is)) → ((is : List CodeItem) → Emits most k is (value (suc d) is))
+      → (rest : List CodeItem) → Has most locals d 5
       → Emits most (j + (k + 10)) rest (code.assign_code locals ds ls d op ty right plus (code.register_of locals ds ls x) (λ is. code.place_code locals ds ls d x 0 is) value rest)
   assign_emits d op ty right plus x j k value ex low high rest h = by op (code.register_of locals ds ls x) refl
     where
@@ -151,17 +151,17 @@ module _ (most locals : ℕ) (ds : List StructDef) (ls : List Local) (same : len
           next j (k + 8) (j + (k + 10)) rest _ _ (omega arith) (ex _)
           (m.joins most k 8 rest _ _ (high _) (m.combine_memory_emits most locals ds o d plus ty right rest (omega (arith, h))))
 
-  abbrev E : (k : ℕ) → List Item → List Item → Type 0
+  abbrev E : (k : ℕ) → List CodeItem → List CodeItem → Type 0
   E k rest is = Emits most k rest is
 
-  infix_emits : (op : BinaryOp) (d : ℕ) (ty : PlainType) (x y : Expr) → ((is : List Item) → E (16 * expr_nodes x) is (xcode d x is)) → ((is : List Item) → E (16 * expr_nodes y) is (xcode (suc d) y is))
-      → (rest : List Item) → Has most locals d 3 → E (16 * (1 + expr_nodes x + expr_nodes y)) rest (xcode d x (xcode (suc d) y (code.binary_code locals ds op d ty (type_of x) (type_of y) rest)))
+  infix_emits : (op : BinaryOp) (d : ℕ) (ty : PlainType) (x y : Expr) → ((is : List CodeItem) → E (16 * expr_nodes x) is (xcode d x is)) → ((is : List CodeItem) → E (16 * expr_nodes y) is (xcode (suc d) y is))
+      → (rest : List CodeItem) → Has most locals d 3 → E (16 * (1 + expr_nodes x + expr_nodes y)) rest (xcode d x (xcode (suc d) y (code.binary_code locals ds op d ty (type_of x) (type_of y) rest)))
   infix_emits op d ty x y ex ey rest h =
       next (16 * expr_nodes x) (16 * expr_nodes y + 5) _ rest _ _ (omega arith) (ex _)
       (m.joins most (16 * expr_nodes y) 5 rest _ _ (ey _) (m.binary_emits most locals ds op d ty (type_of x) (type_of y) rest h))
 
-  conversion_emits : (d : ℕ) (from to : PlainType) (plus j : ℕ) (place value : List Item → List Item) → ((is : List Item) → E j is (place is)) → ((is : List Item) → E j is (value is))
-      → (rest : List Item) → Has most locals d 1 → E (j + 2) rest (code.conversion_code locals ds ls d from to plus place value rest)
+  conversion_emits : (d : ℕ) (from to : PlainType) (plus j : ℕ) (place value : List CodeItem → List CodeItem) → ((is : List CodeItem) → E j is (place is)) → ((is : List CodeItem) → E j is (value is))
+      → (rest : List CodeItem) → Has most locals d 1 → E (j + 2) rest (code.conversion_code locals ds ls d from to plus place value rest)
   conversion_emits d (Array element length) to plus j place value ep ev rest h = m.joins most j 2 rest _ _ (ep _) (m.moved_emits most locals d plus rest h)
   conversion_emits d Void to plus j place value ep ev rest h = next j 1 (j + 2) rest _ _ (omega arith) (ev _) (m.converted_emits most locals d Void to rest h)
   conversion_emits d (Int bytes signed) to plus j place value ep ev rest h = next j 1 (j + 2) rest _ _ (omega arith) (ev _) (m.converted_emits most locals d (Int bytes signed) to rest h)
@@ -169,7 +169,7 @@ module _ (most locals : ℕ) (ds : List StructDef) (ls : List Local) (same : len
   conversion_emits d (Struct number) to plus j place value ep ev rest h = next j 1 (j + 2) rest _ _ (omega arith) (ev _) (m.converted_emits most locals d (Struct number) to rest h)
 
   mutual
-    pub expr_emits : (d : ℕ) (x : Expr) (rest : List Item) → Has most locals d (levels x) → E (16 * expr_nodes x) rest (xcode d x rest)
+    pub expr_emits : (d : ℕ) (x : Expr) (rest : List CodeItem) → Has most locals d (levels x) → E (16 * expr_nodes x) rest (xcode d x rest)
     expr_emits d (Number ty word) rest h = m.at_most most 1 16 rest _ (omega arith) (m.constant_emits most locals d ty word rest (omega (arith, h)))
     expr_emits d (e.Local ty k) rest h = m.at_most most 3 16 rest _ (omega arith) (local_emits d ty k rest (omega (arith, h)))
     expr_emits d (Global ty k) rest h =
@@ -244,7 +244,7 @@ module _ (most locals : ℕ) (ds : List StructDef) (ls : List Local) (same : len
         m.at_most most (16 * expr_nodes x + 10) _ rest _ (omega arith) (changed_emits op true d ty x (16 * expr_nodes x) (λ is. place_emits d x 0 is (omega (arith, h))) rest (omega (arith, h)))
     expr_emits d (Comma ty xs) rest h = m.at_most most (16 * exprs_nodes xs) _ rest _ (omega arith) (commas_emits d xs rest (omega (arith, h)))
 
-    pub place_emits : (d : ℕ) (x : Expr) (plus : ℕ) (rest : List Item) → Has most locals d (levels x) → E (16 * expr_nodes x) rest (code.place_code locals ds ls d x plus rest)
+    pub place_emits : (d : ℕ) (x : Expr) (plus : ℕ) (rest : List CodeItem) → Has most locals d (levels x) → E (16 * expr_nodes x) rest (code.place_code locals ds ls d x plus rest)
     place_emits d (e.Local ty k) plus rest h = m.at_most most 1 16 rest _ (omega arith) (m.address_emits most locals d (p.Local (object_of ls k)) plus rest (omega (arith, h)))
     place_emits d (Global ty k) plus rest h = m.at_most most 1 16 rest _ (omega arith) (m.address_emits most locals d (p.Global k) plus rest (omega (arith, h)))
     place_emits d (Unary ty u.Dereference x) plus rest h = m.at_most most (16 * expr_nodes x) _ rest _ (omega arith) (expr_emits d x rest (omega (arith, h)))
@@ -270,12 +270,12 @@ module _ (most locals : ℕ) (ds : List StructDef) (ls : List Local) (same : len
     place_emits d (Postfix ty op x) plus rest h = m.at_most most 0 _ rest rest (omega arith) (m.none most rest)
     place_emits d (Comma ty xs) plus rest h = m.at_most most 0 _ rest rest (omega arith) (m.none most rest)
 
-    pub exprs_emits : (d : ℕ) (xs : Exprs) (rest : List Item) → Has most locals d (levels_above xs) → E (16 * exprs_nodes xs) rest (code.exprs_code locals ds ls d xs rest)
+    pub exprs_emits : (d : ℕ) (xs : Exprs) (rest : List CodeItem) → Has most locals d (levels_above xs) → E (16 * exprs_nodes xs) rest (code.exprs_code locals ds ls d xs rest)
     exprs_emits d no_exprs rest h = m.none most rest
     exprs_emits d (more_exprs x xs) rest h =
         next (16 * expr_nodes x) (16 * exprs_nodes xs) _ rest _ _ (omega arith) (expr_emits d x _ (omega (arith, h))) (exprs_emits (suc d) xs rest (omega (arith, h)))
 
-    pub commas_emits : (d : ℕ) (xs : Exprs) (rest : List Item) → Has most locals d (levels_of_each xs) → E (16 * exprs_nodes xs) rest (code.commas_code locals ds ls d xs rest)
+    pub commas_emits : (d : ℕ) (xs : Exprs) (rest : List CodeItem) → Has most locals d (levels_of_each xs) → E (16 * exprs_nodes xs) rest (code.commas_code locals ds ls d xs rest)
     commas_emits d no_exprs rest h = m.none most rest
     commas_emits d (more_exprs x xs) rest h =
         next (16 * expr_nodes x) (16 * exprs_nodes xs) _ rest _ _ (omega arith) (expr_emits d x _ (omega (arith, h))) (commas_emits d xs rest (omega (arith, h)))

@@ -9,7 +9,7 @@ ghost use Rattle.c_typed_tree.specs.View.{stmt_view};
 ghost use Rattle.c_typed_tree.specs.Expressions.{Expr};
 ghost use Rattle.c_typed_tree.specs.Statements.{Stmt};
 ghost use Rattle.c_typed_tree.specs.Counts.{expr_nodes};
-ghost use Rattle.lowering_code.specs.declared.item.Item.{Item};
+ghost use Rattle.lowering_code.specs.declared.item.CodeItem.{CodeItem};
 ghost use Rattle.lowering_code.specs.Items.{count};
 ghost use Rattle.lowering_code.specs.Expressions.{expr_code};
 ghost use Rattle.lowering_code.specs.Statements.{stmt_code};
@@ -22,9 +22,9 @@ ghost use Rattle.lowering_functions.specs.Parts.{stmt_parts};
 /// Of an expression, in front of good code, where registers are enough.
 pub fn expressions_are_good()
     ensures good { (most locals depth loops : ℕ) (ds : List StructDef) (ls : List Local) (x : Expr)
-        (rest : List Item) → length ls ≡ locals → locals + 5 * (depth + levels x) ≤ most → IsGood most loops rest →
+        (rest : List CodeItem) → length ls ≡ locals → locals + 5 * (depth + levels x) ≤ most → IsGood most loops rest →
         IsGood most loops (expr_code locals ds ls depth x rest) }
-    ensures size { (most locals depth : ℕ) (ds : List StructDef) (ls : List Local) (x : Expr) (rest : List Item) →
+    ensures size { (most locals depth : ℕ) (ds : List StructDef) (ls : List Local) (x : Expr) (rest : List CodeItem) →
         length ls ≡ locals → locals + 5 * (depth + levels x) ≤ most →
         length (expr_code locals ds ls depth x rest) ≤ 16 * expr_nodes x + length rest }
 {}
@@ -32,10 +32,10 @@ pub fn expressions_are_good()
 /// Of a statement, in front of good code in which the blocks are to which its `break` and `continue` go.
 pub fn statements_are_good()
     ensures good { (most locals brk con loops : ℕ) (ds : List StructDef) (ls : List Local) (s : Stmt)
-        (rest : List Item) → length ls ≡ locals → brk ≤ count rest → con ≤ count rest →
+        (rest : List CodeItem) → length ls ≡ locals → brk ≤ count rest → con ≤ count rest →
         locals + 5 * max 5 (stmt_levels s) ≤ most → IsGood most loops rest →
         IsGood most loops (stmt_code locals ds ls brk con s rest) }
-    ensures size { (most locals brk con : ℕ) (ds : List StructDef) (ls : List Local) (s : Stmt) (rest : List Item) →
+    ensures size { (most locals brk con : ℕ) (ds : List StructDef) (ls : List Local) (s : Stmt) (rest : List CodeItem) →
         length ls ≡ locals → brk ≤ count rest → con ≤ count rest → locals + 5 * max 5 (stmt_levels s) ≤ most →
         length (stmt_code locals ds ls brk con s rest) ≤ 16 * stmt_parts s + length rest }
 {}

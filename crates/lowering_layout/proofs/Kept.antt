@@ -9,7 +9,7 @@ use Rattle.suifvm_ir.specs.declared.insn.VmInsn as vm
 use Rattle.suifvm_ir.specs.declared.insn.VmInsn.TheVariants as n
 use Rattle.suifvm_ir.specs.Insns.{reads_of, writes_of, targets_of, flows_on_of}
 use Rattle.suifvm_ir.specs.Functions.{AllInsns, GoesToBlocks, UsesRegisters, EndsLate, insn_stops, block_stops, stops, count_of}
-use Rattle.lowering_code.specs.declared.item.Item.{Item}
+use Rattle.lowering_code.specs.declared.item.CodeItem.{CodeItem}
 use Rattle.lowering_code.specs.Items.{count}
 use Rattle.lowering_code.specs.Registers.{temporary}
 use Rattle.lowering_code.specs.Layout.{Layout, with_insn, with_items, no_block, blocks_of}
@@ -59,7 +59,7 @@ end_length : (locals : ℕ) (main : Bool) → length (end_of locals main) ≤ 2
 end_length locals true = omega arith
 end_length locals false = omega arith
 
-pub function_is : (locals params temps : ℕ) (main : Bool) (is : List Item) → 2 * length is + 3 < 2 ^ 30 → IsGood (2 ^ 32 - 1) 0 is
+pub function_is : (locals params temps : ℕ) (main : Bool) (is : List CodeItem) → 2 * length is + 3 < 2 ^ 30 → IsGood (2 ^ 32 - 1) 0 is
     → temps ≡ max params (blocks_top (blocks_of (end_of locals main) is)) → IsFunction (blocks_of (end_of locals main) is) params temps
 function_is locals params temps main is size good top =
     let end : List vm.VmInsn = end_of locals main in
@@ -96,7 +96,7 @@ end_top locals true = omega arith
 end_top locals false = omega arith
 
 -- the registers are few
-pub top_le : (locals : ℕ) (main : Bool) (is : List Item) → locals + 1 < 2 ^ 32 → IsGood (2 ^ 32 - 1) 0 is
+pub top_le : (locals : ℕ) (main : Bool) (is : List CodeItem) → locals + 1 < 2 ^ 32 → IsGood (2 ^ 32 - 1) 0 is
     → blocks_top (blocks_of (end_of locals main) is) ≤ 2 ^ 32 - 1
 top_le locals main is small good =
     let l : Layout = with_items is (no_block (count is)) in
@@ -110,7 +110,7 @@ end_empty : (end : List vm.VmInsn) (l : Layout) → (with_end end l).insns ≡ [
 end_empty [] l = refl
 end_empty (i ∷ is) l = end_empty is (with_insn i l)
 
-pub blocks_done : (end : List vm.VmInsn) (is : List Item) (l final : Layout) → l ≡ with_items is (no_block (count is)) → final ≡ with_end end l → final.blocks ≡ blocks_of end is
+pub blocks_done : (end : List vm.VmInsn) (is : List CodeItem) (l final : Layout) → l ≡ with_items is (no_block (count is)) → final ≡ with_end end l → final.blocks ≡ blocks_of end is
 blocks_done end is l final e f = ap (λ x. x.blocks) f ∙ ap (λ x. (with_end end x).blocks) e ∙ end_is end (with_items is (no_block (count is)))
 
 pub top_done : (end : List vm.VmInsn) (l final : Layout) (temps : ℕ) → final ≡ with_end end l → temps ≡ max (blocks_top final.blocks) (insns_top final.insns) → temps ≡ blocks_top final.blocks
@@ -120,12 +120,12 @@ top_done end l final temps f t =
     omega (arith, t, none)
 
 -- there is room for each item
-pub room_for : (is js : List Item) (l : Layout) → with_items is l ≡ with_items js (no_block (count js)) → length js < 2 ^ 30 → length l.blocks + 1 < 2 ^ 32
+pub room_for : (is js : List CodeItem) (l : Layout) → with_items is l ≡ with_items js (no_block (count js)) → length js < 2 ^ 30 → length l.blocks + 1 < 2 ^ 32
 room_for is js l e h =
     let n : length (with_items is l).blocks ≡ length (with_items js (no_block (count js))).blocks = ap (λ x. length x.blocks) e in
     omega (arith, n, blocks_laid is l, blocks_laid js (no_block (count js)), count_le js, h)
 
-pub is_function : (locals params temps : ℕ) (main : Bool) (is : List Item) (w : List (List vm.VmInsn)) → 2 * length is + 3 < 2 ^ 30 → IsGood (2 ^ 32 - 1) 0 is
+pub is_function : (locals params temps : ℕ) (main : Bool) (is : List CodeItem) (w : List (List vm.VmInsn)) → 2 * length is + 3 < 2 ^ 30 → IsGood (2 ^ 32 - 1) 0 is
     → w ≡ blocks_of (end_of locals main) is → temps ≡ max params (blocks_top w) → IsFunction w params temps
 is_function locals params temps main is w size good e top =
     subst (λ x. IsFunction x params temps) (sym e) (function_is locals params temps main is size good (top ∙ ap (λ x. max params (blocks_top x)) e))

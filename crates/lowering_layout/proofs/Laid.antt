@@ -11,8 +11,8 @@ use Rattle.suifvm_ir.specs.declared.insn.VmInsn.TheVariants as n
 use Rattle.suifvm_ir.specs.Insns.{targets_of, flows_on_of}
 use Rattle.suifvm_ir.specs.Functions.{GoesToBlocks, IsStraight, EndsLate, last_of, front_of}
 use Rattle.suifvm_ir.specs.Programs.{begins_with_mark, goes_back_to_marks}
-use Rattle.lowering_code.specs.declared.item.Item.{Item}
-use Rattle.lowering_code.specs.declared.item.Item.TheVariants.{Start, Plain, Jump, Branch, Loop, Enter, Again, Repeat, Return}
+use Rattle.lowering_code.specs.declared.item.CodeItem.{CodeItem}
+use Rattle.lowering_code.specs.declared.item.CodeItem.TheVariants.{Start, Plain, Jump, Branch, Loop, Enter, Again, Repeat, Return}
 use Rattle.lowering_code.specs.Items.{count}
 use Rattle.lowering_code.specs.Layout.{Layout, with_insn, end_block, end_with, open_loop, head_of, outer_heads, close_loop, with_item, with_items}
 use Rattle.lowering_layout.specs.Good.{IsGood}
@@ -185,7 +185,7 @@ module _ (w : List (List vm.VmInsn)) where
   stands_loop : (l : Layout) → Stands (close_loop l) → Stands l
   stands_loop l h = record { more = h.more; rest = h.rest; is = h.is }
 
-  stands_step : (i : Item) (l : Layout) → Stands (with_item i l) → Stands l
+  stands_step : (i : CodeItem) (l : Layout) → Stands (with_item i l) → Stands l
   stands_step Start l h = stands_closed l h
   stands_step (Plain insn) l h = stands_put insn l h
   stands_step (Jump name) l h = stands_ended _ l h
@@ -196,7 +196,7 @@ module _ (w : List (List vm.VmInsn)) where
   stands_step Repeat l h = stands_ended _ l (stands_loop _ h)
   stands_step (Return value) l h = stands_ended _ l h
 
-  stands : (end : List vm.VmInsn) (is : List Item) (l : Layout) → w ≡ (with_items is l).blocks ++ ((with_items is l).insns ++ end) ∷ [] → Stands l
+  stands : (end : List vm.VmInsn) (is : List CodeItem) (l : Layout) → w ≡ (with_items is l).blocks ++ ((with_items is l).insns ++ end) ∷ [] → Stands l
   stands end [] l e = record { more = end; rest = []; is = e }
   stands end (i ∷ is) l e = stands_step i l (stands end is (with_item i l) e)
 
@@ -216,7 +216,7 @@ module _ (w : List (List vm.VmInsn)) where
 
   -- ---- all items
 
-  pub sound : (end : List vm.VmInsn) (most : ℕ) (is : List Item) (loops : ℕ) (l : Layout)
+  pub sound : (end : List vm.VmInsn) (most : ℕ) (is : List CodeItem) (loops : ℕ) (l : Layout)
       → w ≡ (with_items is l).blocks ++ ((with_items is l).insns ++ end) ∷ [] → l.last ≡ length l.blocks + count is → length w ≡ l.last + 1
       → IsGood most loops is → Sound loops l → Sound 0 (with_items is l)
   sound end most [] loops l e last size good s = subst (λ k. Sound k l) good s

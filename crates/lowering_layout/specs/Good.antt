@@ -2,13 +2,13 @@
 use Rattle.std.specs.Prelude.{◌≡◌, ◌≤◌, ◌<◌, ℕ, zero, suc, List, [], ◌∷◌}
 use Rattle.suifvm_ir.specs.Insns.{targets_of, flows_on_of, returned_register}
 use Rattle.suifvm_ir.specs.Functions.{IsStraight}
-use Rattle.lowering_code.specs.declared.item.Item.{Item}
-use Rattle.lowering_code.specs.declared.item.Item.TheVariants.{Start, Plain, Jump, Branch, Loop, Enter, Again, Repeat, Return}
+use Rattle.lowering_code.specs.declared.item.CodeItem.{CodeItem}
+use Rattle.lowering_code.specs.declared.item.CodeItem.TheVariants.{Start, Plain, Jump, Branch, Loop, Enter, Again, Repeat, Return}
 use Rattle.lowering_code.specs.Items.{count}
 use Rattle.lowering_layout.specs.Tops.{registers_top, insn_top}
 
 -- with registers below most, in so many loops that are open
-abbrev pub IsGood : (most loops : ℕ) → List Item → Type 0
+abbrev pub IsGood : (most loops : ℕ) → List CodeItem → Type 0
 IsGood most loops [] = loops ≡ 0
 IsGood most loops (Start ∷ is) = IsGood most loops is
 IsGood most loops (Plain insn ∷ is) =

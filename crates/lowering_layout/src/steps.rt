@@ -8,7 +8,7 @@ use crate::heads::Heads;
 use crate::layout::Layout;
 use crate::tops::insn_top;
 use c_tree::Seq;
-use lowering_code::Item;
+use lowering_code::CodeItem;
 use std::alloc::{AllocError, Global};
 use std::mem;
 use suifvm_ir::block::Block;
@@ -82,20 +82,20 @@ impl Layout {
     }
 
     /// An item behind the others. It fails only where memory is short, or a block is full.
-    pub fn item(&mut self, alloc: Global, item: Item) -> Result<(), AllocError>
+    pub fn item(&mut self, alloc: Global, item: CodeItem) -> Result<(), AllocError>
         requires counted { IsCounted self.old }
         requires room { length self.old.blocks + 1 < 2 ^ 32 }
         ensures is { OnOk result (view self.new ≡ with_item item (view self.old)) }
         ensures counted { OnOk result (IsCounted self.new) }
     {
         match item {
-            Item::Start => self.close(alloc),
-            Item::Plain(insn) => self.put(insn),
-            Item::Jump(name) => {
+            CodeItem::Start => self.close(alloc),
+            CodeItem::Plain(insn) => self.put(insn),
+            CodeItem::Jump(name) => {
                 let block = self.block(name);
                 self.end(alloc, VmInsn::Jump { block })
             }
-            Item::Branch {
+            CodeItem::Branch {
                 op,
                 ty,
                 source,
@@ -112,16 +112,16 @@ impl Layout {
                     },
                 )
             }
-            Item::Loop(name) => {
+            CodeItem::Loop(name) => {
                 let block = self.block(name);
                 self.end(alloc, VmInsn::Jump { block })?;
                 self.begin()
             }
-            Item::Enter => {
+            CodeItem::Enter => {
                 self.close(alloc)?;
                 self.begin()
             }
-            Item::Again { ty, source } => {
+            CodeItem::Again { ty, source } => {
                 let block = self.heads.pop();
                 self.end(
                     alloc,
@@ -133,11 +133,11 @@ impl Layout {
                     },
                 )
             }
-            Item::Repeat => {
+            CodeItem::Repeat => {
                 let block = self.heads.pop();
                 self.end(alloc, VmInsn::Jump { block })
             }
-            Item::Return(value) => self.end(alloc, VmInsn::Return { value }),
+            CodeItem::Return(value) => self.end(alloc, VmInsn::Return { value }),
         }
     }
 }

@@ -16,8 +16,8 @@ use Rattle.suifvm_ir.specs.declared.insn.BranchOp.TheVariants.{IfTrue}
 use Rattle.suifvm_ir.specs.declared.insn.VmInsn.TheVariants as n
 use Rattle.vm_meaning.specs.Operations as vm
 use Rattle.vm_meaning.specs.Behave.{Registers}
-use Rattle.lowering_code.specs.declared.item.Item.{Item}
-use Rattle.lowering_code.specs.declared.item.Item.TheVariants.{Start, Again}
+use Rattle.lowering_code.specs.declared.item.CodeItem.{CodeItem}
+use Rattle.lowering_code.specs.declared.item.CodeItem.TheVariants.{Start, Again}
 use Rattle.lowering_code.specs.Items as items
 use Rattle.lowering_code.specs.Registers.{register_type, value_register}
 use Rattle.lowering_code.specs.Statements.{again_code, stmt_code}
@@ -44,11 +44,11 @@ module _ (c : Setting) (levels : Levels) (found : slice_get c.functions c.number
   loop_run k scope = exec c.structs c.locals (levels.functions k) (levels.statements k) scope (While x body)
 
   -- the code behind a loop, and its test
-  module _ (rest : List Item) (heads : List ℕ) (head : ℕ) where
-    abbrev test_items : List Item
+  module _ (rest : List CodeItem) (heads : List ℕ) (head : ℕ) where
+    abbrev test_items : List CodeItem
     test_items = again_code L c.structs c.locals x rest
 
-    abbrev body_items : List Item
+    abbrev body_items : List CodeItem
     body_items = stmt_code L c.structs c.locals (items.count rest) (items.count test_items) body (Start ∷ test_items)
 
     -- where the test, and what comes behind, begin

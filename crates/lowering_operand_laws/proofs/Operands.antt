@@ -29,7 +29,7 @@ use Rattle.vm_meaning.specs.declared.answer.Answer.TheVariants.{Gives, Fails}
 use Rattle.vm_meaning.specs.Operations as vm
 use Rattle.vm_meaning.specs.Effect.{writes}
 use Rattle.vm_meaning.specs.Behave.{Registers, set_register}
-use Rattle.lowering_code.specs.declared.item.Item.{Item}
+use Rattle.lowering_code.specs.declared.item.CodeItem.{CodeItem}
 use Rattle.lowering_code.specs.Registers.{register_type, value_register}
 use Rattle.lowering_code.specs.Expressions.{plain_of, not_code, plus_of, conversion_code, expr_code, place_code, commas_code}
 use Rattle.lowering_states.specs.Places.{Place, next_place}
@@ -125,7 +125,7 @@ module _ (c : Setting) (found : slice_get c.functions c.number ≡ Some c.code) 
 
   -- ---- commas
 
-  commas_on : (x : Expr) (xs : Exprs) → ExprMeets c x → AllMeet c xs → (d : ℕ) (rest : List Item) (heads : List ℕ) (p : Place) (f : Names) (scope : Scope) (r : Registers) (s : State) (m : Memory) (K : Value → State → Observation)
+  commas_on : (x : Expr) (xs : Exprs) → ExprMeets c x → AllMeet c xs → (d : ℕ) (rest : List CodeItem) (heads : List ℕ) (p : Place) (f : Names) (scope : Scope) (r : Registers) (s : State) (m : Memory) (K : Value → State → Observation)
       → Stands c heads p (expr_code L c.structs c.locals d x (commas_code L c.structs c.locals d xs rest)) → Fit c f scope r s m → s.world.meter.turns ≤ c.level → Follows c d (last_type x xs) heads rest f scope r s m K
       → EndsSo c (finish (last_of c.structs c.locals c.calls scope (eval c.structs c.locals c.calls scope x) xs s) K) p r s.world m
   unfolding opens
@@ -191,13 +191,13 @@ module _ (c : Setting) (found : slice_get c.functions c.number ≡ Some c.code) 
       value_is (inl t) scope s K = ap (λ z. finish (converted_from z Void (eval c.structs c.locals c.calls scope x) (place c.structs c.locals c.calls scope x) s) K) t.1 ∙ finish-bind (eval c.structs c.locals c.calls scope x s) (convert (plain_of t.0) Void) K
       value_is (inr t) scope s K = ap (λ z. finish (converted_from z Void (eval c.structs c.locals c.calls scope x) (place c.structs c.locals c.calls scope x) s) K) t.1 ∙ finish-bind (eval c.structs c.locals c.calls scope x s) (convert (Pointer t.0) Void) K
 
-      code_is : IsScalarType (type_of x) → (d : ℕ) (rest : List Item) → expr_code L c.structs c.locals d (Cast Void x) rest ≡ expr_code L c.structs c.locals d x rest
+      code_is : IsScalarType (type_of x) → (d : ℕ) (rest : List CodeItem) → expr_code L c.structs c.locals d (Cast Void x) rest ≡ expr_code L c.structs c.locals d x rest
       code_is (inl t) d rest = ap (λ z. conversion_code L c.structs c.locals d z Void (plus_of L c.structs c.locals x 0) (λ is. place_code L c.structs c.locals d x 0 is) (λ is. expr_code L c.structs c.locals d x is) rest) t.1
       code_is (inr t) d rest = ap (λ z. conversion_code L c.structs c.locals d z Void (plus_of L c.structs c.locals x 0) (λ is. place_code L c.structs c.locals d x 0 is) (λ is. expr_code L c.structs c.locals d x is) rest) t.1
 
   pointer_conversion : (from to : PlainType) (x y : Expr) → type_of x ≡ Pointer from → type_of y ≡ Pointer to → ExprMeets c x
       → ((scope : Scope) (s : State) → eval c.structs c.locals c.calls scope y s ≡ converted_from (type_of x) (Pointer to) (eval c.structs c.locals c.calls scope x) (place c.structs c.locals c.calls scope x) s)
-      → ((d : ℕ) (rest : List Item) → expr_code L c.structs c.locals d y rest
+      → ((d : ℕ) (rest : List CodeItem) → expr_code L c.structs c.locals d y rest
       ≡ conversion_code L c.structs c.locals d (type_of x) (Pointer to) (plus_of L c.structs c.locals x 0) (λ is. place_code L c.structs c.locals d x 0 is) (λ is. expr_code L c.structs c.locals d x is) rest)
       → ExprMeets c y
   unfolding opens

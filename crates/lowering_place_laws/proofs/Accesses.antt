@@ -35,7 +35,7 @@ use Rattle.vm_meaning.specs.declared.answer.Answer.TheVariants.{Gives, Fails}
 use Rattle.vm_meaning.specs.Operations as vm
 use Rattle.vm_meaning.specs.Effect.{writes}
 use Rattle.vm_meaning.specs.Behave.{Registers, set_register}
-use Rattle.lowering_code.specs.declared.item.Item.{Item}
+use Rattle.lowering_code.specs.declared.item.CodeItem.{CodeItem}
 use Rattle.lowering_code.specs.Registers.{register_type, memory_type, value_register, address_register, bytes_register}
 use Rattle.lowering_code.specs.Expressions.{plain_of, moved_code, load_code, load_from, member_plus, expr_code, place_code}
 use Rattle.lowering_states.specs.Places.{Place, next_place}
@@ -95,7 +95,7 @@ module _ (c : Setting) (found : slice_get c.functions c.number ≡ Some c.code) 
   L = count c
 
   -- the pointer is moved by the bytes that are left
-  moved_on : {o : Observation} (d left : ℕ) (rest : List Item) (heads : List ℕ) (scope : Scope) (r : Registers) (q : Place) (base at : Value) (g : Names) (t : State) (q1 : Registers) (m1 : Memory) → Stands c heads q (moved_code L d left rest)
+  moved_on : {o : Observation} (d left : ℕ) (rest : List CodeItem) (heads : List ℕ) (scope : Scope) (r : Registers) (q : Place) (base at : Value) (g : Names) (t : State) (q1 : Registers) (m1 : Memory) → Stands c heads q (moved_code L d left rest)
       → Fit c g scope q1 t m1 → KeepsLower L d r q1 → IsValueOf g base (q1 (address_register L d)) → left ≤ MOST_DATA → IsMoved t.world.outer.memory base left at
       → ((q2 : Place) (q3 : Registers) → Stands c heads q2 rest → Fit c g scope q3 t m1 → KeepsLower L d r q3 → IsValueOf g at (q3 (address_register L d)) → EndsSo c o q2 q3 t.world m1) → EndsSo c o q q1 t.world m1
   moved_on d zero rest heads scope r q base at g t q1 m1 stands fit kept rel le (inl h) next = next q q1 stands fit kept (subst (λ z. IsValueOf g z (q1 (address_register L d))) (sym h.1) rel)
@@ -121,7 +121,7 @@ module _ (c : Setting) (found : slice_get c.functions c.number ≡ Some c.code) 
       (next (next_place (next_place q)) r2 (at_plain c.code.blocks c.last c.end _ at2) (fits_temporary d P64 x.0 fit1)
       (kept_temporary d P64 x.0 (omega arith) (kept_temporary d S64 (Word (suc k)) (omega arith) kept)) (value_at g at x.0 r1 addr x.2)))
 
-  module _ (d left : ℕ) (rest : List Item) (heads : List ℕ) (f : Names) (scope : Scope) (r : Registers) (s : State) (m : Memory) (K : Value → State → Observation) (q : Place) (base at : Value) (g : Names) (t : State) (q1 : Registers) (m1 : Memory)
+  module _ (d left : ℕ) (rest : List CodeItem) (heads : List ℕ) (f : Names) (scope : Scope) (r : Registers) (s : State) (m : Memory) (K : Value → State → Observation) (q : Place) (base at : Value) (g : Names) (t : State) (q1 : Registers) (m1 : Memory)
       (aft : Aft c f s m g t m1) (fit : Fit c g scope q1 t m1) (kept : KeepsLower L d r q1) (held : IsHeld (Pointer Void) at) (rel : IsValueOf g base (q1 (address_register L d))) (le : left ≤ MOST_DATA) (moved : IsMoved t.world.outer.memory base left at) where
     integer_load : (t0 : IntegerType) (at0 : Value) → at ≡ at0 → Follows c d (plain_of t0) heads rest f scope r s m K → Stands c heads q (load_from (plain_of t0) (value_register L d (plain_of t0)) (address_register L d) left rest)
         → EndsSo c (finish (read_at (plain_of t0) at0 t) K) q q1 t.world m1

@@ -27,7 +27,7 @@ use Rattle.suifvm_ir.specs.declared.insn.Place.TheVariants as p
 use Rattle.suifvm_ir.specs.declared.insn.VmInsn.TheVariants as n
 use Rattle.vm_meaning.specs.Operations as vm
 use Rattle.vm_meaning.specs.Behave.{Registers, set_register}
-use Rattle.lowering_code.specs.declared.item.Item.{Item}
+use Rattle.lowering_code.specs.declared.item.CodeItem.{CodeItem}
 use Rattle.lowering_code.specs.Registers.{value_register, address_register, object_of}
 use Rattle.lowering_code.specs.Expressions.{address_code, member_plus, place_code}
 use Rattle.lowering_states.specs.Places.{Place, next_place}
@@ -104,7 +104,7 @@ module _ (c : Setting) (found : slice_get c.functions c.number ≡ Some c.code) 
   L = count c
 
   -- the address of an object comes into the register of pointers at a depth
-  pub address_meets : {o : Observation} (d : ℕ) (to : vp.Place) (plus : ℕ) (rest : List Item) (heads : List ℕ) (q : Place) (r : Registers) (w : World) (m : Memory) → Stands c heads q (address_code L d to plus rest)
+  pub address_meets : {o : Observation} (d : ℕ) (to : vp.Place) (plus : ℕ) (rest : List CodeItem) (heads : List ℕ) (q : Place) (r : Registers) (w : World) (m : Memory) → Stands c heads q (address_code L d to plus rest)
       → EndsSo c o (next_place q) (set_register (address_register L d) (vm.place_address c.own to plus) r) w m → EndsSo c o q r w m
   address_meets d to plus rest heads q r w m at next =
       insn_on c found (n.LoadAddress (address_register L d) to plus) q r w m (vm.place_address c.own to plus ∷ []) at.has.0 refl refl next

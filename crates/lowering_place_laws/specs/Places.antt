@@ -12,7 +12,7 @@ use Rattle.c_semantics.specs.Runs.{State}
 use Rattle.c_semantics.specs.Objects as objects
 use Rattle.c_semantics.specs.Objects.{Scope}
 use Rattle.c_semantics.specs.Evaluates.{place}
-use Rattle.lowering_code.specs.declared.item.Item.{Item}
+use Rattle.lowering_code.specs.declared.item.CodeItem.{CodeItem}
 use Rattle.lowering_code.specs.Registers.{address_register}
 use Rattle.lowering_code.specs.Expressions.{place_code, plus_of}
 use Rattle.lowering_states.specs.Places.{Place}
@@ -31,7 +31,7 @@ module _ (c : Setting) where
   left_of x plus = plus_of (count c) c.structs c.locals x plus
 
   -- what follows a place in memory whose code gave a pointer at a depth
-  abbrev pub PlaceFollows : (depth plus : ℕ) → Expr → (heads : List ℕ) → (rest : List Item) → Names → Scope
+  abbrev pub PlaceFollows : (depth plus : ℕ) → Expr → (heads : List ℕ) → (rest : List CodeItem) → Names → Scope
       → Registers → State → Memory → (objects.Place → State → Observation) → Type 0
   PlaceFollows d plus x heads rest f scope r s n K =
       (q : Place) (base at : Value) (g : Names) (t : State) (q1 : Registers) (m : Memory) → Stands c heads q rest
@@ -41,7 +41,7 @@ module _ (c : Setting) where
 
   -- the place is to be moved by no more bytes than it has
   pub record PlaceMeets (x : Expr) : Type 0 where
-    pub by : (d plus : ℕ) (rest : List Item) (heads : List ℕ) (p : Place) (f : Names) (scope : Scope) (r : Registers)
+    pub by : (d plus : ℕ) (rest : List CodeItem) (heads : List ℕ) (p : Place) (f : Names) (scope : Scope) (r : Registers)
         (s : State) (n : Memory) (K : objects.Place → State → Observation) → plus ≤ MOST_DATA
         → plus ≤ size_of c.structs (type_of x) →
         Stands c heads p (place_code (count c) c.structs c.locals d x plus rest) → Fit c f scope r s n

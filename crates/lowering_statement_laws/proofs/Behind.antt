@@ -14,8 +14,8 @@ use Rattle.suifvm_ir.specs.declared.types.VmType.{VmType}
 use Rattle.suifvm_ir.specs.declared.insn.BranchOp.{BranchOp}
 use Rattle.suifvm_ir.specs.declared.insn.TypedRegister.{TypedRegister}
 use Rattle.suifvm_ir.specs.declared.insn.VmInsn.{VmInsn}
-use Rattle.lowering_code.specs.declared.item.Item.{Item}
-use Rattle.lowering_code.specs.declared.item.Item.TheVariants.{Start, Plain, Jump, Branch, Loop, Enter, Again, Repeat, Return}
+use Rattle.lowering_code.specs.declared.item.CodeItem.{CodeItem}
+use Rattle.lowering_code.specs.declared.item.CodeItem.TheVariants.{Start, Plain, Jump, Branch, Loop, Enter, Again, Repeat, Return}
 use Rattle.lowering_code.specs.Items.{count}
 use Rattle.lowering_code.specs.Statements.{Target, value_code, default_name, put_code, put_local_code, initialise_code, declares_code, first_code, again_code, test_code, after_code, label_code, labels_code, return_code, stmt_code, stmts_code, sections_code, targets_of}
 use Rattle.lowering_states.specs.Places.{Place, next_place, next_block, At}
@@ -23,22 +23,22 @@ use Rattle.lowering_expression_places.specs.Behind.{Somewhere, IsLeft}
 use Rattle.lowering_expression_places.proofs.Behind.{at_plain, at_start, at_jump, at_branch, left_expr}
 
 module _ (blocks : List (List VmInsn)) (last : ℕ) (end : List VmInsn) where
-  pub at_loop : {heads : List ℕ} {p : Place} {is : List Item} (name : ℕ) → At blocks last end heads p (Loop name ∷ is) → At blocks last end (suc p.block ∷ heads) (next_place (next_block p)) is
+  pub at_loop : {heads : List ℕ} {p : Place} {is : List CodeItem} (name : ℕ) → At blocks last end heads p (Loop name ∷ is) → At blocks last end (suc p.block ∷ heads) (next_place (next_block p)) is
   at_loop name h = record { has = h.has.2; size = omega (arith, h.size) }
 
-  pub at_enter : {heads : List ℕ} {p : Place} {is : List Item} → At blocks last end heads p (Enter ∷ is) → At blocks last end (suc p.block ∷ heads) (next_place (next_block p)) is
+  pub at_enter : {heads : List ℕ} {p : Place} {is : List CodeItem} → At blocks last end heads p (Enter ∷ is) → At blocks last end (suc p.block ∷ heads) (next_place (next_block p)) is
   at_enter h = record { has = h.has.2; size = omega (arith, h.size) }
 
-  pub at_again : {head : ℕ} {heads : List ℕ} {p : Place} {is : List Item} (ty : VmType) (source : ℕ) → At blocks last end (head ∷ heads) p (Again ty source ∷ is) → At blocks last end heads (next_block p) is
+  pub at_again : {head : ℕ} {heads : List ℕ} {p : Place} {is : List CodeItem} (ty : VmType) (source : ℕ) → At blocks last end (head ∷ heads) p (Again ty source ∷ is) → At blocks last end heads (next_block p) is
   at_again ty source h = record { has = h.has.2; size = omega (arith, h.size) }
 
-  pub at_repeat : {head : ℕ} {heads : List ℕ} {p : Place} {is : List Item} → At blocks last end (head ∷ heads) p (Repeat ∷ is) → At blocks last end heads (next_block p) is
+  pub at_repeat : {head : ℕ} {heads : List ℕ} {p : Place} {is : List CodeItem} → At blocks last end (head ∷ heads) p (Repeat ∷ is) → At blocks last end heads (next_block p) is
   at_repeat h = record { has = h.has.1; size = omega (arith, h.size) }
 
-  pub at_return : {heads : List ℕ} {p : Place} {is : List Item} (v : Option TypedRegister) → At blocks last end heads p (Return v ∷ is) → At blocks last end heads (next_block p) is
+  pub at_return : {heads : List ℕ} {p : Place} {is : List CodeItem} (v : Option TypedRegister) → At blocks last end heads p (Return v ∷ is) → At blocks last end heads (next_block p) is
   at_return v h = record { has = h.has.1; size = omega (arith, h.size) }
 
-  abbrev Left : (List Item → List Item) → Type 0
+  abbrev Left : (List CodeItem → List CodeItem) → Type 0
   Left piece = IsLeft blocks last end piece
 
   left_plain : (i : VmInsn) → Left (λ is. Plain i ∷ is)
@@ -59,10 +59,10 @@ module _ (blocks : List (List VmInsn)) (last : ℕ) (end : List VmInsn) where
   left_none : Left (λ is. is)
   left_none heads rest h = h
 
-  left_on : {f g : List Item → List Item} → Left f → Left g → Left (λ is. f (g is))
+  left_on : {f g : List CodeItem → List CodeItem} → Left f → Left g → Left (λ is. f (g is))
   left_on {g = g} a c heads rest h = c heads rest (a heads (g rest) h)
 
-  left_if : {f g : List Item → List Item} (t : Bool) → Left f → Left g → Left (λ is. if t then f is else g is)
+  left_if : {f g : List CodeItem → List CodeItem} (t : Bool) → Left f → Left g → Left (λ is. if t then f is else g is)
   left_if true a c heads rest h = a heads rest h
   left_if false a c heads rest h = c heads rest h
 
@@ -95,10 +95,10 @@ module _ (blocks : List (List VmInsn)) (last : ℕ) (end : List VmInsn) where
     left_first (q.Locals xs) = left_declares xs
 
     -- the test of a loop closes it
-    left_again : (x : Expr) (head : ℕ) (heads : List ℕ) (rest : List Item) → Somewhere blocks last end (head ∷ heads) (again_code L ds ls x rest) → Somewhere blocks last end heads rest
+    left_again : (x : Expr) (head : ℕ) (heads : List ℕ) (rest : List CodeItem) → Somewhere blocks last end (head ∷ heads) (again_code L ds ls x rest) → Somewhere blocks last end heads rest
     left_again x head heads rest h = let a = left_value x (head ∷ heads) _ h in record { place = _; at = at_again _ _ a.at }
 
-    left_test : (x : Option Expr) (head : ℕ) (heads : List ℕ) (rest : List Item) → Somewhere blocks last end (head ∷ heads) (test_code L ds ls x rest) → Somewhere blocks last end heads rest
+    left_test : (x : Option Expr) (head : ℕ) (heads : List ℕ) (rest : List CodeItem) → Somewhere blocks last end (head ∷ heads) (test_code L ds ls x rest) → Somewhere blocks last end heads rest
     left_test None head heads rest h = record { place = _; at = at_repeat h.at }
     left_test (Some x) head heads rest h = left_again x head heads rest h
 

@@ -22,8 +22,8 @@ use Rattle.suifvm_ir.specs.declared.insn.TypedRegister.{TypedRegister}
 use Rattle.suifvm_ir.specs.declared.insn.VmInsn.TheVariants as n
 use Rattle.vm_meaning.specs.Operations as vm
 use Rattle.vm_meaning.specs.Behave.{Registers}
-use Rattle.lowering_code.specs.declared.item.Item.{Item}
-use Rattle.lowering_code.specs.declared.item.Item.TheVariants.{Start, Jump, Return}
+use Rattle.lowering_code.specs.declared.item.CodeItem.{CodeItem}
+use Rattle.lowering_code.specs.declared.item.CodeItem.TheVariants.{Start, Jump, Return}
 use Rattle.lowering_code.specs.Items as items
 use Rattle.lowering_code.specs.Registers.{register_type, value_register}
 use Rattle.lowering_code.specs.Expressions.{plain_of, branch_code, expr_code}
@@ -64,7 +64,7 @@ module _ (c : Setting) (found : slice_get c.functions c.number ≡ Some c.code) 
   L = count c
 
   -- what follows, from a later state
-  onward_on : {scope : Scope} {f g : Names} {s t : State} {m m1 : Memory} {K : Flow → State → Observation} {heads : List ℕ} {rest : List Item} {brk con : ℕ} → Aft c f s m g t m1 → Onward c scope f s m K heads rest brk con → Onward c scope g t m1 K heads rest brk con
+  onward_on : {scope : Scope} {f g : Names} {s t : State} {m m1 : Memory} {K : Flow → State → Observation} {heads : List ℕ} {rest : List CodeItem} {brk con : ℕ} → Aft c f s m g t m1 → Onward c scope f s m K heads rest brk con → Onward c scope g t m1 K heads rest brk con
   onward_on x way = record {
     goes = λ q h u r n at a fit. way.goes q h u r n at (after_on x a) fit;
     breaks = λ h u r n a fit. way.breaks h u r n (after_on x a) fit;
@@ -73,7 +73,7 @@ module _ (c : Setting) (found : slice_get c.functions c.number ≡ Some c.code) 
   }
 
   -- the same with other code behind, which leads on
-  onward_to : {scope : Scope} {f : Names} {s : State} {m : Memory} {K : Flow → State → Observation} {heads : List ℕ} {rest rest1 : List Item} {brk con : ℕ} → Onward c scope f s m K heads rest brk con
+  onward_to : {scope : Scope} {f : Names} {s : State} {m : Memory} {K : Flow → State → Observation} {heads : List ℕ} {rest rest1 : List CodeItem} {brk con : ℕ} → Onward c scope f s m K heads rest brk con
       → ((q : Place) (g : Names) (t : State) (r : Registers) (n : Memory) → Stands c heads q rest1 → Aft c f s m g t n → Fit c g scope r t n → EndsSo c (K Goes t) q r t.world n) → Onward c scope f s m K heads rest1 brk con
   onward_to way on = record { goes = on; breaks = way.breaks; continues = way.continues; returns = way.returns }
 
@@ -122,7 +122,7 @@ module _ (c : Setting) (found : slice_get c.functions c.number ≡ Some c.code) 
   }
 
   -- a test, and where it leads
-  module _ (x : Expr) (scalar : IsScalarType (type_of x)) (hx : ExprMeets c x) (name : ℕ) (holds_code : List Item) (heads : List ℕ) (f : Names) (scope : Scope) (r : Registers) (s : State) (m : Memory) (K : Flow → State → Observation) (run : Bool → Run Flow)
+  module _ (x : Expr) (scalar : IsScalarType (type_of x)) (hx : ExprMeets c x) (name : ℕ) (holds_code : List CodeItem) (heads : List ℕ) (f : Names) (scope : Scope) (r : Registers) (s : State) (m : Memory) (K : Flow → State → Observation) (run : Bool → Run Flow)
       (on_true : (q : Place) (g : Names) (t : State) (q1 : Registers) (m1 : Memory) → Stands c heads q holds_code → Aft c f s m g t m1 → Fit c g scope q1 t m1 → EndsSo c (finish (run true t) K) q q1 t.world m1)
       (on_false : (q : Place) (g : Names) (t : State) (q1 : Registers) (m1 : Memory) → Stands c heads q holds_code → Aft c f s m g t m1 → Fit c g scope q1 t m1 → (block : ℕ) × ((block + name ≡ c.last) × EndsSo c (finish (run false t) K) (start_of_block block) q1 t.world m1)) where
     test_leads : (p : Place) → Stands c heads p (expr_code L c.structs c.locals 0 x (branch_code L IfFalse 0 (type_of x) name holds_code)) → Fit c f scope r s m → s.world.meter.turns ≤ c.level

@@ -12,7 +12,7 @@ use Rattle.c_typed_tree.specs.Statements.{Stmt, Stmts}
 use Rattle.c_semantics.specs.Runs.{State, Run}
 use Rattle.c_semantics.specs.Objects.{Scope}
 use Rattle.c_semantics.specs.Executes.{Flow, Goes, Breaks, Continues, Returns, exec, execs}
-use Rattle.lowering_code.specs.declared.item.Item.{Item}
+use Rattle.lowering_code.specs.declared.item.CodeItem.{CodeItem}
 use Rattle.lowering_code.specs.Statements.{stmt_code, stmts_code}
 use Rattle.lowering_states.specs.Places.{Place, start_of_block}
 use Rattle.lowering_states.specs.Runs.{Observation, finish, Resumes}
@@ -31,7 +31,7 @@ module _ (c : Setting) where
 
   -- what follows a statement, by how it ends
   pub record Onward (scope : Scope) (f : Names) (s : State) (n : Memory) (K : Flow → State → Observation)
-      (heads : List ℕ) (rest : List Item) (break_to continue_to : ℕ) : Type 0 where
+      (heads : List ℕ) (rest : List CodeItem) (break_to continue_to : ℕ) : Type 0 where
     pub goes : (q : Place) (g : Names) (t : State) (r : Registers) (m : Memory) → Stands c heads q rest
         → Aft c f s n g t m → Fit c g scope r t m → EndsSo c (K Goes t) q r t.world m
     pub breaks : (g : Names) (t : State) (r : Registers) (m : Memory) → Aft c f s n g t m → Fit c g scope r t m
@@ -45,14 +45,14 @@ module _ (c : Setting) where
   -- again is what a statement does one level down
   module _ (again : Scope → Stmt → Run Flow) where
     pub record StmtMeets (x : Stmt) : Type 0 where
-      pub by : (break_to continue_to : ℕ) (rest : List Item) (heads : List ℕ) (p : Place) (f : Names) (scope : Scope)
+      pub by : (break_to continue_to : ℕ) (rest : List CodeItem) (heads : List ℕ) (p : Place) (f : Names) (scope : Scope)
           (r : Registers) (s : State) (n : Memory) (K : Flow → State → Observation) →
           Stands c heads p (stmt_code (count c) c.structs c.locals break_to continue_to x rest) → Fit c f scope r s n
           → s.world.meter.turns ≤ c.level → Onward scope f s n K heads rest break_to continue_to
           → EndsSo c (finish (exec c.structs c.locals c.calls again scope x s) K) p r s.world n
 
     pub record StmtsMeet (xs : Stmts) : Type 0 where
-      pub by : (break_to continue_to : ℕ) (rest : List Item) (heads : List ℕ) (p : Place) (f : Names) (scope : Scope)
+      pub by : (break_to continue_to : ℕ) (rest : List CodeItem) (heads : List ℕ) (p : Place) (f : Names) (scope : Scope)
           (r : Registers) (s : State) (n : Memory) (K : Flow → State → Observation) →
           Stands c heads p (stmts_code (count c) c.structs c.locals break_to continue_to xs rest) → Fit c f scope r s n
           → s.world.meter.turns ≤ c.level → Onward scope f s n K heads rest break_to continue_to

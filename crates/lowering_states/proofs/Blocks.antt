@@ -6,8 +6,8 @@ use Rattle.std.proofs.lemmas.Option.{slice_get-get_or, slice_get_past}
 use Rattle.suifvm_ir.specs.declared.insn.BranchOp.TheVariants.{IfTrue}
 use Rattle.suifvm_ir.specs.declared.insn.VmInsn.{VmInsn}
 use Rattle.suifvm_ir.specs.declared.insn.VmInsn.TheVariants as n
-use Rattle.lowering_code.specs.declared.item.Item.{Item}
-use Rattle.lowering_code.specs.declared.item.Item.TheVariants.{Start, Plain, Jump, Branch, Loop, Enter, Again, Repeat, Return}
+use Rattle.lowering_code.specs.declared.item.CodeItem.{CodeItem}
+use Rattle.lowering_code.specs.declared.item.CodeItem.TheVariants.{Start, Plain, Jump, Branch, Loop, Enter, Again, Repeat, Return}
 use Rattle.lowering_code.specs.Items.{count}
 use Rattle.lowering_code.specs.Layout.{Layout, with_insn, end_block, end_with, open_loop, close_loop, block_with, head_of, outer_heads, with_item, with_items, no_block, blocks_of}
 use Rattle.lowering_states.specs.Places.{Place, next_place, start_of_block, in_block, stands_at, HasInsns, HasItems}
@@ -43,7 +43,7 @@ stands_open l w h =
 stands_close : (l : Layout) (w : List (List VmInsn)) → Stands (close_loop l) w → Stands l w
 stands_close l w h = record { more = h.more; rest = h.rest; is = h.is }
 
-stands_item : (i : Item) (l : Layout) (w : List (List VmInsn)) → Stands (with_item i l) w → Stands l w
+stands_item : (i : CodeItem) (l : Layout) (w : List (List VmInsn)) → Stands (with_item i l) w → Stands l w
 stands_item Start l w h = stands_end l w h
 stands_item (Plain i) l w h = stands_insn i l w h
 stands_item (Jump name) l w h = stands_end_with _ l w h
@@ -55,14 +55,14 @@ stands_item Repeat l w h = stands_end_with _ l w (stands_close _ w h)
 stands_item (Return value) l w h = stands_end_with _ l w h
 
 -- the blocks that a layout comes to
-abbrev laid : List VmInsn → List Item → Layout → List (List VmInsn)
+abbrev laid : List VmInsn → List CodeItem → Layout → List (List VmInsn)
 laid end is l = (with_items is l).blocks ++ ((with_items is l).insns ++ end) ∷ []
 
-stands : (end : List VmInsn) (is : List Item) (l : Layout) → Stands l (laid end is l)
+stands : (end : List VmInsn) (is : List CodeItem) (l : Layout) → Stands l (laid end is l)
 stands end [] l = record { more = end; rest = []; is = refl }
 stands end (i ∷ is) l = stands_item i l _ (stands end is (with_item i l))
 
-stood : (end : List VmInsn) (is : List Item) (l : Layout) (w : List (List VmInsn)) → laid end is l ≡ w → Stands l w
+stood : (end : List VmInsn) (is : List CodeItem) (l : Layout) (w : List (List VmInsn)) → laid end is l ≡ w → Stands l w
 stood end is l w e = subst (Stands l) e (stands end is l)
 
 -- where the next instruction will stand
@@ -100,17 +100,17 @@ has_end w last end blocks front (i ∷ back) e =
     (here, subst (λ k. HasInsns w last end (record { block = length blocks; at = k }) back) (one_more front i) next)
 
 module _ (end : List VmInsn) (w : List (List VmInsn)) where
-  abbrev Has : Layout → (heads : List ℕ) → Place → List Item → Type 0
+  abbrev Has : Layout → (heads : List ℕ) → Place → List CodeItem → Type 0
   Has l heads p is = HasItems w l.last end heads p is
 
-  on_block : (l : Layout) (heads : List ℕ) (is : List Item) (xs : List (List VmInsn)) (x : List VmInsn) → Has l heads (start_of_block (length (xs ++ x ∷ []))) is → Has l heads (start_of_block (suc (length xs))) is
+  on_block : (l : Layout) (heads : List ℕ) (is : List CodeItem) (xs : List (List VmInsn)) (x : List VmInsn) → Has l heads (start_of_block (length (xs ++ x ∷ []))) is → Has l heads (start_of_block (suc (length xs))) is
   on_block l heads is xs x h = subst (λ b. Has l heads (start_of_block b) is) (one_more xs x) h
 
-  on_loop : (l : Layout) (heads : List ℕ) (is : List Item) (xs : List (List VmInsn)) (x : List VmInsn)
+  on_loop : (l : Layout) (heads : List ℕ) (is : List CodeItem) (xs : List (List VmInsn)) (x : List VmInsn)
       → Has l (length (xs ++ x ∷ []) ∷ heads) (next_place (start_of_block (length (xs ++ x ∷ [])))) is → Has l (suc (length xs) ∷ heads) (next_place (start_of_block (suc (length xs)))) is
   on_loop l heads is xs x h = subst (λ b. Has l (b ∷ heads) (next_place (start_of_block b)) is) (one_more xs x) h
 
-  has_laid : (is : List Item) (l : Layout) → laid end is l ≡ w → Has l l.heads (place_of l) is
+  has_laid : (is : List CodeItem) (l : Layout) → laid end is l ≡ w → Has l l.heads (place_of l) is
   has_laid [] l e = has_end w l.last end l.blocks l.insns end (sym e)
   has_laid (Start ∷ is) l e =
       (at_end w l (stood end is (end_block l) w e), on_block l l.heads is l.blocks l.insns (has_laid is (end_block l) e))

@@ -15,7 +15,7 @@ use Rattle.c_typed_tree.specs.declared.types.StructDef.{StructDef}
 use Rattle.c_typed_tree.specs.declared.units.Local.{Local}
 use Rattle.c_semantics.specs.Runs as c
 use Rattle.c_semantics.specs.Objects.{Scope}
-use Rattle.lowering_code.specs.declared.item.Item.{Item}
+use Rattle.lowering_code.specs.declared.item.CodeItem.{CodeItem}
 use Rattle.lowering_code.specs.Items.{count}
 use Rattle.lowering_code.specs.Layout.{blocks_of}
 use Rattle.lowering_states.specs.Places.{Place, At, stands_at, next_place, next_block, start_of_block}
@@ -24,7 +24,7 @@ use Rattle.lowering_states.specs.States.{IsHeld, type_at, Fits, After}
 
 -- the blocks of items have these
 abbrev pub BlocksHaveItems : Type 0
-BlocksHaveItems = (end : List VmInsn) (is : List Item) → At (blocks_of end is) (count is) end [] (start_of_block 0) is
+BlocksHaveItems = (end : List VmInsn) (is : List CodeItem) → At (blocks_of end is) (count is) end [] (start_of_block 0) is
 
 -- within a call of a function whose code is there
 module _ (rooms : Rooms) (functions : List FunctionCode) (i own : ℕ) (code : FunctionCode)

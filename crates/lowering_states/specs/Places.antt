@@ -3,8 +3,8 @@ use Rattle.std.specs.Prelude.{◌≡◌, ℕ, suc, ◌+◌, ◌-◌, List, [], �
 use Rattle.suifvm_ir.specs.declared.insn.BranchOp.TheVariants.{IfTrue}
 use Rattle.suifvm_ir.specs.declared.insn.VmInsn.{VmInsn}
 use Rattle.suifvm_ir.specs.declared.insn.VmInsn.TheVariants as n
-use Rattle.lowering_code.specs.declared.item.Item.{Item}
-use Rattle.lowering_code.specs.declared.item.Item.TheVariants.{Start, Plain, Jump, Branch, Loop, Enter, Again, Repeat, Return}
+use Rattle.lowering_code.specs.declared.item.CodeItem.{CodeItem}
+use Rattle.lowering_code.specs.declared.item.CodeItem.TheVariants.{Start, Plain, Jump, Branch, Loop, Enter, Again, Repeat, Return}
 use Rattle.lowering_code.specs.Items.{count}
 use Rattle.lowering_code.specs.Layout.{head_of, outer_heads}
 
@@ -44,7 +44,7 @@ module _ (blocks : List (List VmInsn)) (last : ℕ) (end : List VmInsn) where
   HasInsns p (i ∷ is) = IsInsn p i × HasInsns (next_place p) is
 
   -- items stand from a place on, in loops whose bodies begin with these blocks
-  abbrev pub HasItems : (heads : List ℕ) → Place → List Item → Type 0
+  abbrev pub HasItems : (heads : List ℕ) → Place → List CodeItem → Type 0
   HasItems heads p [] = HasInsns p end
   HasItems heads p (Start ∷ is) = IsEnd p × HasItems heads (next_block p) is
   HasItems heads p (Plain insn ∷ is) = IsInsn p insn × HasItems heads (next_place p) is
@@ -63,6 +63,6 @@ module _ (blocks : List (List VmInsn)) (last : ℕ) (end : List VmInsn) where
   HasItems heads p (Return value ∷ is) = IsInsn p (n.Return value) × HasItems heads (next_block p) is
 
   -- the items stand there, and as many blocks begin behind the place as they have
-  pub record At (heads : List ℕ) (p : Place) (is : List Item) : Type 0 where
+  pub record At (heads : List ℕ) (p : Place) (is : List CodeItem) : Type 0 where
     pub has : HasItems heads p is
     pub size : p.block + count is ≡ last

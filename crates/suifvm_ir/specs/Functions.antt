@@ -65,3 +65,7 @@ module _ {I : Type 0} where
 
   abbrev pub successors_of : (targets : I → List ℕ) → (flows_on : I → Bool) → (block : ℕ) → List I → List ℕ
   successors_of targets flows_on block insns = successors_after targets flows_on block (last_of insns)
+
+  -- how many edges leave the blocks
+  abbrev pub edge_count : (targets : I → List ℕ) → (flows_on : I → Bool) → List (List I) → ℕ
+  edge_count targets flows_on blocks = sum_by (λ block. length (successors_of targets flows_on 0 block)) blocks
