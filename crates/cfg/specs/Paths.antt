@@ -6,7 +6,8 @@ use Rattle.cfg.specs.Edges.{successors_from}
 -- a path leads from block 0 to a block, where these are the blocks that may follow each
 pub data Reached (followers : List (List ℕ)) : ℕ → Type 0 where
   IsEntry : Reached followers 0
-  Follows : {block : ℕ} (next : ℕ) (nexts : List ℕ) → Reached followers block → slice_get followers block ≡ Some nexts → Contains nexts next → Reached followers next
+  Follows : {block : ℕ} (next : ℕ) (nexts : List ℕ) → Reached followers block
+      → slice_get followers block ≡ Some nexts → Contains nexts next → Reached followers next
 
 -- a path leads from block 0 to each block
 abbrev pub AllReached : {I : Type 0} → (targets : I → List ℕ) → (flows_on : I → Bool) → List (List I) → Type 0

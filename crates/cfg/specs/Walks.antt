@@ -29,18 +29,33 @@ block_at blocks number = slice_index_or blocks number []
 -- itself; and the end of a block, which leads into the next one
 pub data Walk {I : Type 0} (targets : I → List ℕ) (with_target : I → ℕ → ℕ → I) (flows_on : I → Bool) (blocks : List (List I)) : ℕ → List I → List (Step I) → Type 0 where
   Stops : {block : ℕ} {rest : List I} → Walk targets with_target flows_on blocks block rest []
-  Goes : {block : ℕ} {rest : List I} {steps : List (Step I)} → (i : I) → length (targets i) ≡ 0 → flows_on i ≡ true → Walk targets with_target flows_on blocks block rest steps → Walk targets with_target flows_on blocks block (i ∷ rest) (Done (bare targets with_target i) ∷ steps)
-  Returns : {block : ℕ} {rest : List I} → (i : I) → length (targets i) ≡ 0 → flows_on i ≡ false → Walk targets with_target flows_on blocks block (i ∷ rest) (Done (bare targets with_target i) ∷ [])
-  Passes : {block : ℕ} {rest : List I} {steps : List (Step I)} → (i : I) → 0 < length (targets i) → flows_on i ≡ true → Walk targets with_target flows_on blocks block rest steps → Walk targets with_target flows_on blocks block (i ∷ rest) (NotTaken (bare targets with_target i) ∷ steps)
-  Takes : {block : ℕ} {rest : List I} {steps : List (Step I)} → (i : I) (k target : ℕ) → slice_get (targets i) k ≡ Some target → flows_on i ≡ true → Walk targets with_target flows_on blocks target (block_at blocks target) steps → Walk targets with_target flows_on blocks block (i ∷ rest) (Taken (bare targets with_target i) k ∷ steps)
-  Jumps : {block : ℕ} {rest : List I} {steps : List (Step I)} → (i : I) (k target : ℕ) → slice_get (targets i) k ≡ Some target → flows_on i ≡ false → Walk targets with_target flows_on blocks target (block_at blocks target) steps → Walk targets with_target flows_on blocks block (i ∷ rest) steps
-  Falls : {block : ℕ} {steps : List (Step I)} → Walk targets with_target flows_on blocks (suc block) (block_at blocks (suc block)) steps → Walk targets with_target flows_on blocks block [] steps
+  Goes : {block : ℕ} {rest : List I} {steps : List (Step I)} → (i : I) → length (targets i) ≡ 0
+      → flows_on i ≡ true → Walk targets with_target flows_on blocks block rest steps
+      → Walk targets with_target flows_on blocks block (i ∷ rest) (Done (bare targets with_target i) ∷ steps)
+  Returns : {block : ℕ} {rest : List I} → (i : I) → length (targets i) ≡ 0 → flows_on i ≡ false
+      → Walk targets with_target flows_on blocks block (i ∷ rest) (Done (bare targets with_target i) ∷ [])
+  Passes : {block : ℕ} {rest : List I} {steps : List (Step I)} → (i : I) → 0 < length (targets i)
+      → flows_on i ≡ true → Walk targets with_target flows_on blocks block rest steps
+      → Walk targets with_target flows_on blocks block (i ∷ rest) (NotTaken (bare targets with_target i) ∷ steps)
+  Takes : {block : ℕ} {rest : List I} {steps : List (Step I)} → (i : I) (k target : ℕ)
+      → slice_get (targets i) k ≡ Some target → flows_on i ≡ true
+      → Walk targets with_target flows_on blocks target (block_at blocks target) steps
+      → Walk targets with_target flows_on blocks block (i ∷ rest) (Taken (bare targets with_target i) k ∷ steps)
+  Jumps : {block : ℕ} {rest : List I} {steps : List (Step I)} → (i : I) (k target : ℕ)
+      → slice_get (targets i) k ≡ Some target → flows_on i ≡ false
+      → Walk targets with_target flows_on blocks target (block_at blocks target) steps
+      → Walk targets with_target flows_on blocks block (i ∷ rest) steps
+  Falls : {block : ℕ} {steps : List (Step I)}
+      → Walk targets with_target flows_on blocks (suc block) (block_at blocks (suc block)) steps
+      → Walk targets with_target flows_on blocks block [] steps
 
 -- the walks of a function begin at its entry, block 0
-abbrev pub WalksOf : {I : Type 0} → (targets : I → List ℕ) → (with_target : I → ℕ → ℕ → I) → (flows_on : I → Bool) → List (List I) → List (Step I) → Type 0
+abbrev pub WalksOf : {I : Type 0} → (targets : I → List ℕ) → (with_target : I → ℕ → ℕ → I) → (flows_on : I → Bool)
+    → List (List I) → List (Step I) → Type 0
 WalksOf targets with_target flows_on blocks steps = Walk targets with_target flows_on blocks 0 (block_at blocks 0) steps
 
 -- two functions have the same walks
-abbrev pub SameWalks : {I : Type 0} → (targets : I → List ℕ) → (with_target : I → ℕ → ℕ → I) → (flows_on : I → Bool) → List (List I) → List (List I) → Type 0
+abbrev pub SameWalks : {I : Type 0} → (targets : I → List ℕ) → (with_target : I → ℕ → ℕ → I)
+    → (flows_on : I → Bool) → List (List I) → List (List I) → Type 0
 SameWalks targets with_target flows_on before after =
     (steps : _) → WalksOf targets with_target flows_on before steps ↔ WalksOf targets with_target flows_on after steps

@@ -6,5 +6,9 @@ use Rattle.cfg.specs.Walks.{bare}
 -- are a jump alone and so have one successor
 pub data AddsJumps {I : Type 0} (targets : I → List ℕ) (with_target : I → ℕ → ℕ → I) (jump_to : ℕ → I) : (before after : List (List I)) → Type 0 where
   NoBlocks : AddsJumps targets with_target jump_to [] []
-  SameBlock : {before after : List (List I)} (block new : List I) → map (bare targets with_target) new ≡ map (bare targets with_target) block → AddsJumps targets with_target jump_to before after → AddsJumps targets with_target jump_to (block ∷ before) (new ∷ after)
-  NewBlock : {before after : List (List I)} (to : ℕ) → AddsJumps targets with_target jump_to before after → AddsJumps targets with_target jump_to before ((jump_to to ∷ []) ∷ after)
+  SameBlock : {before after : List (List I)} (block new : List I)
+      → map (bare targets with_target) new ≡ map (bare targets with_target) block
+      → AddsJumps targets with_target jump_to before after
+      → AddsJumps targets with_target jump_to (block ∷ before) (new ∷ after)
+  NewBlock : {before after : List (List I)} (to : ℕ) → AddsJumps targets with_target jump_to before after
+      → AddsJumps targets with_target jump_to before ((jump_to to ∷ []) ∷ after)

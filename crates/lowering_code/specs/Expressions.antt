@@ -295,7 +295,8 @@ module _ (locals : ℕ) where
 
   module _ (ds : List StructDef) where
     -- the pointer at one depth and the integer at another one, by whose elements it is moved
-    abbrev pub step_code : BinaryOp → (pointer integer free : ℕ) → (element : PlainType) → (ty : PlainType) → List CodeItem
+    abbrev pub step_code : BinaryOp → (pointer integer free : ℕ) → (element : PlainType) → (ty : PlainType)
+        → List CodeItem
         → List CodeItem
     step_code b.Subtract o d free element ty rest =
         scaled_code d free ty (stride ds element)
@@ -306,7 +307,8 @@ module _ (locals : ℕ) where
         (add_code (address_register locals o) (address_register locals o) (bytes_register locals d) rest)
 
     -- an integer at a depth, and the pointer above it, which comes to the lower depth
-    abbrev pub step_back_code : (depth free : ℕ) → (element : PlainType) → (ty : PlainType) → List CodeItem → List CodeItem
+    abbrev pub step_back_code : (depth free : ℕ) → (element : PlainType) → (ty : PlainType) → List CodeItem
+        → List CodeItem
     step_back_code d free element ty rest =
         scaled_code d free ty (stride ds element)
         (add_code (address_register locals d) (address_register locals (suc d)) (bytes_register locals d) rest)
@@ -373,7 +375,8 @@ module _ (locals : ℕ) where
         (stepped_code op (suc d) ty (move_code ty k (value_register locals (suc d) ty) rest)))
 
     -- in memory, where the pointer stands at the depth
-    abbrev pub step_memory_code : StepOp → (postfix : Bool) → (depth plus : ℕ) → PlainType → List CodeItem → List CodeItem
+    abbrev pub step_memory_code : StepOp → (postfix : Bool) → (depth plus : ℕ) → PlainType → List CodeItem
+        → List CodeItem
     step_memory_code op false d plus ty rest =
         load_from ty (value_register locals (suc d) ty) (address_register locals d) plus
         (stepped_code op (suc d) ty
@@ -392,7 +395,8 @@ module _ (locals : ℕ) where
         copy_code ds (address_register locals d) (address_register locals (suc d)) (Struct number) rest
     set_memory_code d plus ty rest = set_scalar_code d plus ty rest
 
-    abbrev pub combine_memory_code : BinaryOp → (depth plus : ℕ) → (left right : PlainType) → List CodeItem → List CodeItem
+    abbrev pub combine_memory_code : BinaryOp → (depth plus : ℕ) → (left right : PlainType) → List CodeItem
+        → List CodeItem
     combine_memory_code op d plus left right rest =
         load_from left (value_register locals (suc (suc d)) left) (address_register locals d) plus
         (combine_code op (suc (suc d)) (suc d) (suc (suc (suc d))) left right
@@ -433,13 +437,15 @@ module _ (locals : ℕ) where
       argument_registers d (more_exprs x xs) = value_register locals d (type_of x) ∷ argument_registers (suc d) xs
 
       -- a change in a register, or else in memory
-      abbrev pub change_code : Option ℕ → (in_register : ℕ → List CodeItem) → (in_memory : List CodeItem) → List CodeItem
+      abbrev pub change_code : Option ℕ → (in_register : ℕ → List CodeItem) → (in_memory : List CodeItem)
+          → List CodeItem
       change_code (Some k) in_register in_memory = in_register k
       change_code None in_register in_memory = in_memory
 
       -- an assignment, by the code of the place and that of the right side at a depth
       abbrev pub assign_code : (depth : ℕ) → Option BinaryOp → (ty right : PlainType) → (plus : ℕ) → Option ℕ
-          → (place : List CodeItem → List CodeItem) → (value : (depth : ℕ) → List CodeItem → List CodeItem) → List CodeItem → List CodeItem
+          → (place : List CodeItem → List CodeItem) → (value : (depth : ℕ) → List CodeItem → List CodeItem)
+              → List CodeItem → List CodeItem
       assign_code d None ty right plus (Some k) place value rest =
           value d (move_code ty k (value_register locals d ty) rest)
       assign_code d (Some op) ty right plus (Some k) place value rest =

@@ -24,7 +24,8 @@ use Rattle.lowering_states.specs.States.{IsHeld, type_at, Fits, After}
 
 -- the blocks of items have these
 abbrev pub BlocksHaveItems : Type 0
-BlocksHaveItems = (end : List VmInsn) (is : List CodeItem) → At (blocks_of end is) (count is) end [] (start_of_block 0) is
+BlocksHaveItems = (end : List VmInsn) (is : List CodeItem)
+    → At (blocks_of end is) (count is) end [] (start_of_block 0) is
 
 -- within a call of a function whose code is there
 module _ (rooms : Rooms) (functions : List FunctionCode) (i own : ℕ) (code : FunctionCode)

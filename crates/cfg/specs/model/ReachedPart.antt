@@ -11,7 +11,8 @@ pub record IsReachedPart {I : Type 0} (reads writes targets : I → List ℕ) (w
   pub targets_there : AllInsns (GoesToBlocks targets (length after)) after
   pub straight : All (EndsLate targets flows_on) after
   pub stopped : IsTrue (stops flows_on after)
-  pub registers : (temps : ℕ) → AllInsns (UsesRegisters reads writes temps) before → AllInsns (UsesRegisters reads writes temps) after
+  pub registers : (temps : ℕ) → AllInsns (UsesRegisters reads writes temps) before
+      → AllInsns (UsesRegisters reads writes temps) after
   pub reached : AllReached targets flows_on after
   pub walks : SameWalks targets with_target flows_on before after
   pub contents_kept : KeepsBlocks targets with_target flows_on before after
