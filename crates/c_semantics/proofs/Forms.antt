@@ -1,7 +1,7 @@
 -- Every relation between runs that is kept where runs are put together is kept by every form of the language: one
 -- lemma for each access, operator and conversion, and one line for each form of expression and statement.
 use Rattle.std.proofs.Common.{ℕ, List, [], ◌∷◌, Bool, true, false, Option, Some, None, suc, if◌then◌else◌}
-use Rattle.std.specs.Prelude.{ℤ, pos, int_rem, not, Result, Ok, Err, slice_get, take}
+use Rattle.std.specs.Prelude.{ℤ, pos, int_rem, not, ◌==◌, Result, Ok, Err, slice_get, take}
 use Rattle.std.specs.Ordering.{int_eq}
 use Rattle.mem_model.specs.declared.value.Ptr.{Ptr}
 use Rattle.mem_model.specs.declared.value.Value.{Value}
@@ -185,7 +185,8 @@ module _ (R : (A : Type 0) → Run A → Run A → Type 0) (kept : Congruence R)
   pub steady_distance : (ds : List StructDef) (element : PlainType) (v w : Value) → Itself (distance ds element v w)
   steady_distance ds element v w =
       kept.bind (kept.on_memory (λ m. steady_known (unless_dead m v w ComparesApart) (pointer_minus m v w)))
-      (λ z. related_if (int_eq (int_rem z (pos (size_of ds element))) (pos 0)) (kept.pure _) (kept.undefined _))
+      (λ z. related_if (size_of ds element == 0) (kept.undefined _)
+      (related_if (int_eq (int_rem z (pos (size_of ds element))) (pos 0)) (kept.pure _) (kept.undefined _)))
 
   pub steady_pointers : (ds : List StructDef) (op : BinaryOp) (element : PlainType) (v w : Value) → Itself (pointers ds op element v w)
   steady_pointers ds b.LogicalOr element v w = kept.undefined _
