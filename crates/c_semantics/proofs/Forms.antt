@@ -8,7 +8,7 @@ use Rattle.mem_model.specs.declared.value.Value.{Value}
 use Rattle.mem_model.specs.declared.value.Value.TheVariants.{Word, Address, Unset}
 use Rattle.mem_model.specs.declared.value.MemFault.{MemFault}
 use Rattle.mem_model.specs.Memory.{Memory, load_at, store_at, copy_at, overlaps}
-use Rattle.mem_model.specs.Pointers.{is_live, pointer_plus, pointer_minus, pointer_lt, pointer_le, pointer_eq}
+use Rattle.mem_model.specs.Pointers.{is_live, pointer_plus, pointer_lt, pointer_le, pointer_eq}
 use Rattle.c_arithmetic.specs.declared.integer_type.IntegerType.{IntegerType}
 use Rattle.c_arithmetic.specs.declared.outcome.ArithmeticOutcome.{ArithmeticOutcome}
 use Rattle.c_tree.specs.declared.expressions.BinaryOp.{BinaryOp}
@@ -21,8 +21,8 @@ use Rattle.c_semantics.specs.Reasons.{Reason, ComparesApart, ComparesAtEnd}
 use Rattle.c_semantics.specs.Runs as r
 use Rattle.c_semantics.specs.Evaluates as w
 use Rattle.c_semantics.specs.Runs.{Run, State, ◌>>=◌, pure, undefined, trap, exit, turn, on_memory, set_memory, or_undefined, use_value, number, read_register, write_register}
-use Rattle.c_semantics.specs.Objects.{Place, Register, At, Scope, integer_of, access, load, store, copy_cells, copy, as_integer, as_held, call_result, read_at, read, write_at, write, pointer_to, move_reason, move, move_by, local_place, with_local, with_locals, offset_of, no_scope, with_local_object}
-use Rattle.c_semantics.specs.Operators.{unless_dead, outcome, integers, convert_word, compare_by, pure_truth, distance, pointers, pointer_and_integer, with_integer, with_pointer, binary, unary, test_in, test, convert, operation_type, combined_in, combine, step_operator, one_type, step_value, operator_of}
+use Rattle.c_semantics.specs.Objects.{Place, Register, At, Scope, integer_of, access, load, store, copy_cells, copy, as_integer, as_held, call_result, read_at, read, write_at, write, pointer_to, move_reason, move, element_plus, move_elements, move_by, local_place, with_local, with_locals, offset_of, no_scope, with_local_object}
+use Rattle.c_semantics.specs.Operators.{unless_dead, outcome, integers, convert_word, compare_by, pure_truth, bytes_between, distance, pointers, pointer_and_integer, with_integer, with_pointer, binary, unary, test_in, test, convert, operation_type, combined_in, combine, step_operator, one_type, step_value, operator_of}
 use Rattle.mem_model.specs.World.{Rooms}
 use Rattle.c_typed_tree.specs.declared.expressions.Builtin.{Builtin}
 use Rattle.c_typed_tree.specs.declared.expressions.Callee.{Callee}
@@ -156,8 +156,11 @@ module _ (R : (A : Type 0) → Run A → Run A → Type 0) (kept : Congruence R)
   pub steady_move : (p : Value) (by : ℤ) → Itself (move p by)
   steady_move p by = kept.on_memory (λ m. steady_known (move_reason m p) (pointer_plus m p by))
 
+  pub steady_move_elements : (p : Value) (by : ℤ) → Itself (move_elements p by)
+  steady_move_elements p by = kept.on_memory (λ m. steady_known (move_reason m p) (element_plus m p by))
+
   pub steady_move_by : (ds : List StructDef) (element : PlainType) (t : IntegerType) (p v : Value) → Itself (move_by ds element t p v)
-  steady_move_by ds element t p v = kept.bind (steady_number v) (λ n. steady_move p _)
+  steady_move_by ds element t p v = kept.bind (steady_number v) (λ n. steady_move_elements p _)
 
   pub steady_local : (scope : Scope) (k : ℕ) (l : Option Local) → Itself (local_place scope k l)
   steady_local scope k None = kept.undefined _
@@ -184,7 +187,7 @@ module _ (R : (A : Type 0) → Run A → Run A → Type 0) (kept : Congruence R)
 
   pub steady_distance : (ds : List StructDef) (element : PlainType) (v w : Value) → Itself (distance ds element v w)
   steady_distance ds element v w =
-      kept.bind (kept.on_memory (λ m. steady_known (unless_dead m v w ComparesApart) (pointer_minus m v w)))
+      kept.bind (kept.on_memory (λ m. steady_known (unless_dead m v w ComparesApart) (bytes_between m v w)))
       (λ z. related_if (size_of ds element == 0) (kept.undefined _)
       (related_if (int_eq (int_rem z (pos (size_of ds element))) (pos 0)) (kept.pure _) (kept.undefined _)))
 
@@ -223,7 +226,7 @@ module _ (R : (A : Type 0) → Run A → Run A → Type 0) (kept : Congruence R)
   steady_pointer_and_integer ds b.ShiftLeft element t v w = kept.undefined _
   steady_pointer_and_integer ds b.ShiftRight element t v w = kept.undefined _
   steady_pointer_and_integer ds b.Add element t v w = steady_move_by ds element t v w
-  steady_pointer_and_integer ds b.Subtract element t v w = kept.bind (steady_number w) (λ n. steady_move v _)
+  steady_pointer_and_integer ds b.Subtract element t v w = kept.bind (steady_number w) (λ n. steady_move_elements v _)
   steady_pointer_and_integer ds b.Multiply element t v w = kept.undefined _
   steady_pointer_and_integer ds b.Divide element t v w = kept.undefined _
   steady_pointer_and_integer ds b.Remainder element t v w = kept.undefined _

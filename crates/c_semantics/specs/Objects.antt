@@ -6,7 +6,7 @@ use Rattle.mem_model.specs.declared.value.Value.{Value}
 use Rattle.mem_model.specs.declared.value.Value.TheVariants.{Word, Address, Unset}
 use Rattle.mem_model.specs.declared.value.MemFault.{MemFault}
 use Rattle.mem_model.specs.Memory.{Memory, load_at, store_at, copy_at, overlaps, begin_object, end_object}
-use Rattle.mem_model.specs.Pointers.{is_live, pointer_plus}
+use Rattle.mem_model.specs.Pointers.{is_live, size_at, is_offset, pointer_plus}
 use Rattle.mem_model.specs.World.{with_memory}
 use Rattle.mem_model.specs.Ending.{Evaluation, Gives}
 use Rattle.c_arithmetic.specs.declared.integer_type.IntegerType.{IntegerType}
@@ -124,9 +124,22 @@ move_reason m Unset = UsesNoValue
 abbrev pub move : Value → (by : ℤ) → Run Value
 move p by = on_memory (λ m. or_undefined (move_reason m p) (pointer_plus m p by))
 
+-- a pointer stands within its object or at its end, as C99 6.5.6 asks of each operand of `+` and `-`
+abbrev pub stands_inside : Memory → Value → Bool
+stands_inside m (Address p) = is_offset p.offset (size_at m p)
+stands_inside m (Word n) = false
+stands_inside m Unset = false
+
+-- a pointer moved from there by the bytes of a number of elements
+abbrev pub element_plus : Memory → Value → ℤ → Option Value
+element_plus m p by = if stands_inside m p then pointer_plus m p by else None
+
+abbrev pub move_elements : Value → (by : ℤ) → Run Value
+move_elements p by = on_memory (λ m. or_undefined (move_reason m p) (element_plus m p by))
+
 -- a pointer moved by a number of elements, as its type has it
 abbrev pub move_by : List StructDef → PlainType → IntegerType → Value → Value → Run Value
-move_by ds element t p v = number v >>= (λ n. move p (value t n *ℤ pos (size_of ds element)))
+move_by ds element t p v = number v >>= (λ n. move_elements p (value t n *ℤ pos (size_of ds element)))
 
 -- the place of a member in bytes (C99 6.5.2.3)
 abbrev pub member_place : Option Member → ℕ

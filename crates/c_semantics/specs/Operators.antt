@@ -1,5 +1,5 @@
 -- What the operators do with the values of their operands, by the types of these (C99 6.5).
-use Rattle.std.specs.Prelude.{ℕ, ◌==◌, not, ℤ, pos, neg_ℤ, ◌*ℤ◌, int_div, int_rem, Bool, true, false, List, Option, Some, None, if◌then◌else◌}
+use Rattle.std.specs.Prelude.{ℕ, ◌==◌, ◌&&◌, not, ℤ, pos, neg_ℤ, ◌*ℤ◌, int_div, int_rem, Bool, true, false, List, Option, Some, None, if◌then◌else◌}
 use Rattle.std.specs.Ordering.{int_eq}
 use Rattle.mem_model.specs.declared.value.Value.{Value}
 use Rattle.mem_model.specs.declared.value.Value.TheVariants.{Word, Address, Unset}
@@ -26,7 +26,7 @@ use Rattle.c_typed_tree.specs.Layout.{size_of}
 use Rattle.c_typed_tree.specs.Constants.{integers_with}
 use Rattle.c_semantics.specs.Reasons.{Reason, UsesDeadObject, ComparesApart, ComparesAtEnd, ShiftsTooFar, UsesNoValue}
 use Rattle.c_semantics.specs.Runs.{Run, ◌>>=◌, pure, undefined, trap, on_memory, or_undefined, use_value, number}
-use Rattle.c_semantics.specs.Objects.{integer_of, move, move_by}
+use Rattle.c_semantics.specs.Objects.{integer_of, stands_inside, move_elements, move_by}
 
 abbrev pub outcome : ArithmeticOutcome → Run Value
 outcome (o.Word n) = pure (Word n)
@@ -66,9 +66,14 @@ elements bytes size =
     else if int_eq (int_rem bytes (pos size)) (pos 0) then pure (Word (word i.Long (int_div bytes (pos size))))
     else undefined ComparesApart
 
+-- the bytes between two pointers within one object or at its end
+abbrev pub bytes_between : Memory → Value → Value → Option ℤ
+bytes_between m v w = if stands_inside m v && stands_inside m w then pointer_minus m v w else None
+
 abbrev pub distance : List StructDef → (element : PlainType) → Value → Value → Run Value
 distance ds element v w =
-    on_memory (λ m. or_undefined (unless_dead m v w ComparesApart) (pointer_minus m v w)) >>= (λ z. elements z (size_of ds element))
+    on_memory (λ m. or_undefined (unless_dead m v w ComparesApart) (bytes_between m v w))
+    >>= (λ z. elements z (size_of ds element))
 
 -- an operator between two pointers to one type of elements
 abbrev pub pointers : List StructDef → BinaryOp → (element : PlainType) → Value → Value → Run Value
@@ -85,7 +90,7 @@ pointers ds _ element v w = undefined UsesNoValue
 abbrev pub pointer_and_integer : List StructDef → BinaryOp → PlainType → IntegerType → Value → Value → Run Value
 pointer_and_integer ds b.Add element t v w = move_by ds element t v w
 pointer_and_integer ds b.Subtract element t v w =
-    number w >>= (λ n. move v (neg_ℤ (value t n) *ℤ pos (size_of ds element)))
+    number w >>= (λ n. move_elements v (neg_ℤ (value t n) *ℤ pos (size_of ds element)))
 pointer_and_integer ds _ element t v w = undefined UsesNoValue
 
 -- ---- all operands
