@@ -30,4 +30,4 @@ abbrev pub KeepsBack : {I : Type 0} → (targets : I → List ℕ) → (with_tar
     → (flows_on : I → Bool) → (before after : List (List I)) → Type 0
 KeepsBack targets with_target flows_on before after =
     (to : ℕ) → GoesBack targets after to
-        → (from : ℕ) × GoesBack targets before from × (contents targets with_target flows_on (block_at after to) ≡ contents targets with_target flows_on (block_at before from))
+    → (from : ℕ) × GoesBack targets before from × (contents targets with_target flows_on (block_at after to) ≡ contents targets with_target flows_on (block_at before from))

@@ -10,7 +10,7 @@ count_to followers to = length (sources_of (edges_from 0 followers) to)
 abbrev pub NoneCritical : {I : Type 0} → (targets : I → List ℕ) → (flows_on : I → Bool) → List (List I) → Type 0
 NoneCritical targets flows_on blocks =
     (block to : ℕ) (nexts : List ℕ) → slice_get (successors_from targets flows_on 0 blocks) block ≡ Some nexts
-        → Contains nexts to → (length nexts ≤ 1) ⊎ (count_to (successors_from targets flows_on 0 blocks) to ≤ 1)
+    → Contains nexts to → (length nexts ≤ 1) ⊎ (count_to (successors_from targets flows_on 0 blocks) to ≤ 1)
 
 -- an edge leaves a block with two or more successors and leads to one with two or more predecessors
 abbrev pub is_critical : List (List ℕ) → (e : ℕ × ℕ) → Bool

@@ -445,7 +445,7 @@ module _ (locals : ℕ) where
       -- an assignment, by the code of the place and that of the right side at a depth
       abbrev pub assign_code : (depth : ℕ) → Option BinaryOp → (ty right : PlainType) → (plus : ℕ) → Option ℕ
           → (place : List CodeItem → List CodeItem) → (value : (depth : ℕ) → List CodeItem → List CodeItem)
-              → List CodeItem → List CodeItem
+          → List CodeItem → List CodeItem
       assign_code d None ty right plus (Some k) place value rest =
           value d (move_code ty k (value_register locals d ty) rest)
       assign_code d (Some op) ty right plus (Some k) place value rest =

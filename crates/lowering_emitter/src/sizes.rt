@@ -41,7 +41,9 @@ pub fn member_plus(structs: &[StructDef], ty: &CType, member: u32, plus: u64) ->
     ensures { result ≡ member_plus structs.now (type_view ty.now) member plus }
 {
     match ty {
-        CType::Struct(number) => cap_offset(offset_of(structs, *number, member).saturating_add(plus)),
+        CType::Struct(number) => cap_offset(offset_of(structs, *number, member).saturating_add(
+            plus,
+        )),
         CType::Void => cap_offset(plus),
         CType::Int { .. } => cap_offset(plus),
         CType::Pointer(_) => cap_offset(plus),
