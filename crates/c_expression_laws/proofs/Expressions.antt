@@ -29,11 +29,10 @@ use Rattle.c_judgement_laws.specs.Covers.{HasNames, Knows, Takes, IsLawfulContex
 use Rattle.c_judgement_laws.proofs.Notes.{Later, later_then, found_itself, found_later}
 use Rattle.c_judgement_laws.proofs.Forms.{prefix_judged, between_judged, assignment_judged, element_judged, choice_judged, cast_judged, size_name_judged, behind_judged, integer_judged, character_judged, name_judged, string_judged, field_judged, arrow_judged}
 use Rattle.c_expression_laws.specs.Types.{AreTypes, IsTypeIn, HasTypedefs}
-use Rattle.c_expression_laws.specs.Commas.{HasCommas, HaveCommas, AreOperands, HaveMore}
 use Rattle.c_expression_laws.specs.Walks.{Walks}
 use Rattle.c_expression_laws.proofs.Types.{IsFoundType, leaf_found, pointer_found, array_found, function_found, name_found}
 use Rattle.c_expression_laws.proofs.Walks.{judged_stays, later_of, walk_within, walk_one, walk_two, walk_choice, walk_any}
-use Rattle.c_expression_laws.proofs.Parts.{Keeps, AreFound, Any, any_keeps, OneOrMore, TwoOrMore, two_keeps, part_becomes, one_becomes, two_becomes, extends_same, extends_then, left, Declares, IsParameter, AreParameters, parameter_more, one_declared, walk_after, given_found, comma_walk, size_walk, call_walk}
+use Rattle.c_expression_laws.proofs.Parts.{part_becomes, extends_same, extends_then, left, Declares, IsParameter, AreParameters, parameter_more, one_declared, walk_after, given_found, comma_walk, size_walk, call_walk}
 
 -- a length, of which nothing is asked
 abbrev IsLength : Type 0 → Option ℕ → Type 0
@@ -62,103 +61,83 @@ module _ (c : Context) (lawful : IsLawfulContext c) where
       walk_one c names (IsFoundType c) (λ taken x. IsFitType c x) s o u (type_named place) (walk_after c names (IsFoundType c) s n (o, u) later h) (λ a f. name_found c names place a u.1 f)
 
   mutual
-    unfolding judge HasCommas
+    unfolding judge
 
-    pub judge_walks : (names : Type 0) (x : e.Expr) (s : State) → (names → HasNames c s.0) → (names → HasTypedefs c s.0.names) → (names → HasCommas x) → Walks c names (IsJudged c) s (judge x s)
-    judge_walks names (e.Name at name) s h d g = walk_within c names (IsJudged c) s.0 s.1 (name_of at (meaning_of s.0 name) s.1) (name_judged c lawful names at (meaning_of s.0 name) s.1 (λ v. h v name))
-    judge_walks names (e.Number at spelling) s h d g = walk_within c names (IsJudged c) s.0 s.1 (note_fault (integer_constant at spelling) s.1) (integer_judged c lawful names at spelling s.1)
-    judge_walks names (e.Character at spelling) s h d g = walk_within c names (IsJudged c) s.0 s.1 (note_fault (character_constant at spelling) s.1) (character_judged c lawful names at spelling s.1)
-    judge_walks names (e.Text at spellings) s h d g = walk_within c names (IsJudged c) s.0 s.1 (string at spellings s.1) (string_judged c lawful names at spellings s.1)
-    judge_walks names (e.Call' at name _ arguments) s h d g =
+    pub judge_walks : (names : Type 0) (x : e.Expr) (s : State) → (names → HasNames c s.0) → (names → HasTypedefs c s.0.names) → Walks c names (IsJudged c) s (judge x s)
+    judge_walks names (e.Name at name) s h d = walk_within c names (IsJudged c) s.0 s.1 (name_of at (meaning_of s.0 name) s.1) (name_judged c lawful names at (meaning_of s.0 name) s.1 (λ v. h v name))
+    judge_walks names (e.Number at spelling) s h d = walk_within c names (IsJudged c) s.0 s.1 (note_fault (integer_constant at spelling) s.1) (integer_judged c lawful names at spelling s.1)
+    judge_walks names (e.Character at spelling) s h d = walk_within c names (IsJudged c) s.0 s.1 (note_fault (character_constant at spelling) s.1) (character_judged c lawful names at spelling s.1)
+    judge_walks names (e.Text at spellings) s h d = walk_within c names (IsJudged c) s.0 s.1 (string at spellings s.1) (string_judged c lawful names at spellings s.1)
+    judge_walks names (e.Call' at name _ arguments) s h d =
         call_walk c lawful names at name s (judge_row arguments (Some []) s).0 (judge_row arguments (Some []) s).1 h
-        (judge_row_walks names Any any_keeps arguments (Some []) s h d g (λ v k. (tt, tt)))
-    judge_walks names (e.Unary' at op _ (k.more_of-Expr x k.end_of-Expr)) s h d g =
-        walk_one c names (IsJudged c) (IsJudged c) s (judge x s).0 (judge x s).1 (apply_prefix at op) (judge_walks names x s h d g) (λ a f. prefix_judged c lawful names at op a (judge x s).1.1 f)
-    judge_walks names (e.Binary' at op _ (k.more_of-Expr x k.end_of-Expr) _ (k.more_of-Expr y k.end_of-Expr)) s h d g =
+        (judge_row_walks names arguments (Some []) s h d (λ v k. tt))
+    judge_walks names (e.Unary' at op _ (k.more_of-Expr x k.end_of-Expr)) s h d =
+        walk_one c names (IsJudged c) (IsJudged c) s (judge x s).0 (judge x s).1 (apply_prefix at op) (judge_walks names x s h d) (λ a f. prefix_judged c lawful names at op a (judge x s).1.1 f)
+    judge_walks names (e.Binary' at op _ (k.more_of-Expr x k.end_of-Expr) _ (k.more_of-Expr y k.end_of-Expr)) s h d =
         let u = (judge x s).1 in
-        let one = judge_walks names x s h d (λ v. (g v).0) in
-        let two = judge_walks names y u (names_after names (IsJudged c) s (judge x s) one h) (typedefs_after names (IsJudged c) s (judge x s) one d) (λ v. (g v).1) in
+        let one = judge_walks names x s h d in
+        let two = judge_walks names y u (names_after names (IsJudged c) s (judge x s) one h) (typedefs_after names (IsJudged c) s (judge x s) one d) in
         walk_two c names (IsJudged c) (IsJudged c) (IsJudged c) s (judge x s).0 u (judge y u).0 (judge y u).1 (between at op) (judged_stays c) one two
         (λ a b f l. between_judged c lawful names at op a b (judge y u).1.1 f l)
-    judge_walks names (e.Assign' at op _ (k.more_of-Expr x k.end_of-Expr) _ (k.more_of-Expr y k.end_of-Expr)) s h d g =
+    judge_walks names (e.Assign' at op _ (k.more_of-Expr x k.end_of-Expr) _ (k.more_of-Expr y k.end_of-Expr)) s h d =
         let u = (judge x s).1 in
-        let one = judge_walks names x s h d (λ v. (g v).0) in
-        let two = judge_walks names y u (names_after names (IsJudged c) s (judge x s) one h) (typedefs_after names (IsJudged c) s (judge x s) one d) (λ v. (g v).1) in
+        let one = judge_walks names x s h d in
+        let two = judge_walks names y u (names_after names (IsJudged c) s (judge x s) one h) (typedefs_after names (IsJudged c) s (judge x s) one d) in
         walk_two c names (IsJudged c) (IsJudged c) (IsJudged c) s (judge x s).0 u (judge y u).0 (judge y u).1 (assignment at op) (judged_stays c) one two
         (λ a b f l. assignment_judged c lawful names at op a b (judge y u).1.1 f l)
-    judge_walks names (e.Conditional' at _ (k.more_of-Expr x k.end_of-Expr) _ (k.more_of-Expr y k.end_of-Expr) _ (k.more_of-Expr z k.end_of-Expr)) s h d g =
+    judge_walks names (e.Conditional' at _ (k.more_of-Expr x k.end_of-Expr) _ (k.more_of-Expr y k.end_of-Expr) _ (k.more_of-Expr z k.end_of-Expr)) s h d =
         let u = (judge x s).1 in
         let w = (judge y u).1 in
-        let one = judge_walks names x s h d (λ v. (g v).0) in
+        let one = judge_walks names x s h d in
         let h1 = names_after names (IsJudged c) s (judge x s) one h in
         let d1 = typedefs_after names (IsJudged c) s (judge x s) one d in
-        let two = judge_walks names y u h1 d1 (λ v. (g v).1) in
-        let three = judge_walks names z w (names_after names (IsJudged c) u (judge y u) two h1) (typedefs_after names (IsJudged c) u (judge y u) two d1) (λ v. (g v).2) in
+        let two = judge_walks names y u h1 d1 in
+        let three = judge_walks names z w (names_after names (IsJudged c) u (judge y u) two h1) (typedefs_after names (IsJudged c) u (judge y u) two d1) in
         walk_choice c names (IsJudged c) s (judge x s).0 u (judge y u).0 w (judge z w).0 (judge z w).1 at (judged_stays c) one two three
         (λ q a b f l m. choice_judged c lawful names at q a b (judge z w).1.1 f l m)
-    judge_walks names (e.Cast' at _ (k.more_of-TypeName place ty k.end_of-TypeName) _ (k.more_of-Expr x k.end_of-Expr)) s h d g =
+    judge_walks names (e.Cast' at _ (k.more_of-TypeName place ty k.end_of-TypeName) _ (k.more_of-Expr x k.end_of-Expr)) s h d =
         let specified = leaf s.0 place ty s.1 in
         let specifier = leaf_found c names s.0 place ty s.1 d in
         let r = derive place ty specified.0 (s.0, specified.1) in
         let to = within r.1.0 (each r.0 (type_named place) r.1.1) in
         let one = type_name_walk names place s specified.1 r.0 r.1 (later_of c names (IsFoundType c) s.1 specified specifier) (derive_walks names place ty specified.0 (s.0, specified.1) d specifier.found) in
-        let two = judge_walks names x to.1 (names_after names (λ taken x. IsFitType c x) s to one h) (typedefs_after names (λ taken x. IsFitType c x) s to one d) g in
+        let two = judge_walks names x to.1 (names_after names (λ taken x. IsFitType c x) s to one h) (typedefs_after names (λ taken x. IsFitType c x) s to one d) in
         walk_two c names (λ taken x. IsFitType c x) (IsJudged c) (IsJudged c) s to.0 to.1 (judge x to.1).0 (judge x to.1).1 (cast at) (λ taken later a back f. f) one two
         (λ a b f l. cast_judged c lawful names at a b (judge x to.1).1.1 f l)
-    judge_walks names (e.SizeOfValue' at _ (k.more_of-Expr x k.end_of-Expr)) s h d g =
-        size_walk c lawful names at s (judge x (s.0, apart s.1)).0 (judge x (s.0, apart s.1)).1 (judge_walks names x (s.0, apart s.1) h d g)
-    judge_walks names (e.SizeOfType' at _ (k.more_of-TypeName place ty k.end_of-TypeName)) s h d g =
+    judge_walks names (e.SizeOfValue' at _ (k.more_of-Expr x k.end_of-Expr)) s h d =
+        size_walk c lawful names at s (judge x (s.0, apart s.1)).0 (judge x (s.0, apart s.1)).1 (judge_walks names x (s.0, apart s.1) h d)
+    judge_walks names (e.SizeOfType' at _ (k.more_of-TypeName place ty k.end_of-TypeName)) s h d =
         let specified = leaf s.0 place ty s.1 in
         let specifier = leaf_found c names s.0 place ty s.1 d in
         let r = derive place ty specified.0 (s.0, specified.1) in
         let to = within r.1.0 (each r.0 (type_named place) r.1.1) in
         let one = type_name_walk names place s specified.1 r.0 r.1 (later_of c names (IsFoundType c) s.1 specified specifier) (derive_walks names place ty specified.0 (s.0, specified.1) d specifier.found) in
         walk_one c names (λ taken x. IsFitType c x) (IsJudged c) s to.0 to.1 (size_of_name at) one (λ a f. size_name_judged c lawful names at a to.1.1 f)
-    judge_walks names (e.Index' at _ (k.more_of-Expr x k.end_of-Expr) _ (k.more_of-Expr y k.end_of-Expr)) s h d g =
+    judge_walks names (e.Index' at _ (k.more_of-Expr x k.end_of-Expr) _ (k.more_of-Expr y k.end_of-Expr)) s h d =
         let u = (judge x s).1 in
-        let one = judge_walks names x s h d (λ v. (g v).0) in
-        let two = judge_walks names y u (names_after names (IsJudged c) s (judge x s) one h) (typedefs_after names (IsJudged c) s (judge x s) one d) (λ v. (g v).1) in
+        let one = judge_walks names x s h d in
+        let two = judge_walks names y u (names_after names (IsJudged c) s (judge x s) one h) (typedefs_after names (IsJudged c) s (judge x s) one d) in
         walk_two c names (IsJudged c) (IsJudged c) (IsJudged c) s (judge x s).0 u (judge y u).0 (judge y u).1 (element at) (judged_stays c) one two
         (λ a b f l. element_judged c lawful names at a b (judge y u).1.1 f l)
-    judge_walks names (e.Field' at _ (k.more_of-Expr x k.end_of-Expr) name) s h d g =
-        walk_one c names (IsJudged c) (IsJudged c) s (judge x s).0 (judge x s).1 (field_named at name) (judge_walks names x s h d g) (λ a f. field_judged c lawful names at name a (judge x s).1.1 f)
-    judge_walks names (e.Arrow' at _ (k.more_of-Expr x k.end_of-Expr) name) s h d g =
-        walk_one c names (IsJudged c) (IsJudged c) s (judge x s).0 (judge x s).1 (arrow_named at name) (judge_walks names x s h d g) (λ a f. arrow_judged c lawful names at name a (judge x s).1.1 f)
-    judge_walks names (e.Postfix' at op _ (k.more_of-Expr x k.end_of-Expr)) s h d g =
-        walk_one c names (IsJudged c) (IsJudged c) s (judge x s).0 (judge x s).1 (behind at op) (judge_walks names x s h d g) (λ a f. behind_judged c lawful names at op a (judge x s).1.1 f)
-    judge_walks names (e.Comma' at _ operands) s h d g =
-        comma_walk c lawful names at s (judge_row operands (Some []) s).0 (judge_row operands (Some []) s).1 (operands_walk names operands s h d g)
+    judge_walks names (e.Field' at _ (k.more_of-Expr x k.end_of-Expr) name) s h d =
+        walk_one c names (IsJudged c) (IsJudged c) s (judge x s).0 (judge x s).1 (field_named at name) (judge_walks names x s h d) (λ a f. field_judged c lawful names at name a (judge x s).1.1 f)
+    judge_walks names (e.Arrow' at _ (k.more_of-Expr x k.end_of-Expr) name) s h d =
+        walk_one c names (IsJudged c) (IsJudged c) s (judge x s).0 (judge x s).1 (arrow_named at name) (judge_walks names x s h d) (λ a f. arrow_judged c lawful names at name a (judge x s).1.1 f)
+    judge_walks names (e.Postfix' at op _ (k.more_of-Expr x k.end_of-Expr)) s h d =
+        walk_one c names (IsJudged c) (IsJudged c) s (judge x s).0 (judge x s).1 (behind at op) (judge_walks names x s h d) (λ a f. behind_judged c lawful names at op a (judge x s).1.1 f)
+    judge_walks names (e.Comma' at _ operands) s h d =
+        comma_walk c lawful names at s (judge_row operands (Some []) s).0 (judge_row operands (Some []) s).1
+        (judge_row_walks names operands (Some []) s h d (λ v k. tt))
 
-    -- of commas, which have two operands at least
-    operands_walk : (names : Type 0) {m : _} (xs : k.Row_of-Expr m) (s : State) → (names → HasNames c s.0) → (names → HasTypedefs c s.0.names) → (names → AreOperands xs)
-        → Walks c names (AreFound c TwoOrMore) s (judge_row xs (Some []) s)
-    operands_walk names k.end_of-Expr s h d g = record { env = refl; notes = record { first = refl; knows = λ k. k; takes = λ t. t; found = λ v k. absurd (g v) } }
-    operands_walk names (k.more_of-Expr x xs) s h d g =
+    pub judge_row_walks : (names : Type 0) {m : _} (xs : k.Row_of-Expr m) (found : Option (List TypedExpression)) (s : State) → (names → HasNames c s.0)
+        → (names → HasTypedefs c s.0.names) → (names → Knows c s.1 → IfSome found (AreJudged c (Takes c s.1))) → Walks c names (AreJudged c) s (judge_row xs found s)
+    judge_row_walks names k.end_of-Expr found s h d f = record { env = refl; notes = record { first = refl; knows = λ k. k; takes = λ t. t; found = f } }
+    judge_row_walks names (k.more_of-Expr x xs) found s h d f =
         let u = (judge x s).1 in
-        let one = judge_walks names x s h d (λ v. (g v).0) in
-        let rest = more_walk names xs (append_part (Some []) (judge x s).0) u (names_after names (IsJudged c) s (judge x s) one h) (typedefs_after names (IsJudged c) s (judge x s) one d) (λ v. (g v).1)
-        (λ v k. part_becomes c Any OneOrMore (Takes c s.1) (Takes c u.1) (Some []) (judge x s).0 one_becomes one.notes.takes (tt, tt) (one.notes.found v k)) in
-        walk_on c names (AreFound c TwoOrMore) s (judge x s) (judge_row xs (append_part (Some []) (judge x s).0) u) {P = IsJudged c} one rest
-
-    more_walk : (names : Type 0) {m : _} (xs : k.Row_of-Expr m) (found : Option (List TypedExpression)) (s : State) → (names → HasNames c s.0) → (names → HasTypedefs c s.0.names) → (names → HaveMore xs)
-        → (names → Knows c s.1 → IfSome found (AreFound c OneOrMore (Takes c s.1))) → Walks c names (AreFound c TwoOrMore) s (judge_row xs found s)
-    more_walk names k.end_of-Expr found s h d g f = record { env = refl; notes = record { first = refl; knows = λ k. k; takes = λ t. t; found = λ v k. absurd (g v) } }
-    more_walk names (k.more_of-Expr x xs) found s h d g f =
-        let u = (judge x s).1 in
-        let one = judge_walks names x s h d (λ v. (g v).0) in
-        let rest = judge_row_walks names TwoOrMore two_keeps xs (append_part found (judge x s).0) u (names_after names (IsJudged c) s (judge x s) one h) (typedefs_after names (IsJudged c) s (judge x s) one d) (λ v. (g v).1)
-        (λ v k. part_becomes c OneOrMore TwoOrMore (Takes c s.1) (Takes c u.1) found (judge x s).0 two_becomes one.notes.takes (f v (one.notes.knows k)) (one.notes.found v k)) in
-        walk_on c names (AreFound c TwoOrMore) s (judge x s) (judge_row xs (append_part found (judge x s).0) u) {P = IsJudged c} one rest
-
-    pub judge_row_walks : (names : Type 0) (K : List TypedExpression → Type 0) → Keeps K → {m : _} (xs : k.Row_of-Expr m) (found : Option (List TypedExpression)) (s : State) → (names → HasNames c s.0)
-        → (names → HasTypedefs c s.0.names) → (names → HaveCommas xs) → (names → Knows c s.1 → IfSome found (AreFound c K (Takes c s.1))) → Walks c names (AreFound c K) s (judge_row xs found s)
-    judge_row_walks names K keeps k.end_of-Expr found s h d g f = record { env = refl; notes = record { first = refl; knows = λ k. k; takes = λ t. t; found = f } }
-    judge_row_walks names K keeps (k.more_of-Expr x xs) found s h d g f =
-        let u = (judge x s).1 in
-        let one = judge_walks names x s h d (λ v. (g v).0) in
-        let rest = judge_row_walks names K keeps xs (append_part found (judge x s).0) u (names_after names (IsJudged c) s (judge x s) one h) (typedefs_after names (IsJudged c) s (judge x s) one d) (λ v. (g v).1)
-        (λ v k. part_becomes c K K (Takes c s.1) (Takes c u.1) found (judge x s).0 keeps one.notes.takes (f v (one.notes.knows k)) (one.notes.found v k)) in
-        walk_on c names (AreFound c K) s (judge x s) (judge_row xs (append_part found (judge x s).0) u) {P = IsJudged c} one rest
+        let one = judge_walks names x s h d in
+        let rest = judge_row_walks names xs (append_part found (judge x s).0) u (names_after names (IsJudged c) s (judge x s) one h) (typedefs_after names (IsJudged c) s (judge x s) one d)
+        (λ v k. part_becomes c (Takes c s.1) (Takes c u.1) found (judge x s).0 one.notes.takes (f v (one.notes.knows k)) (one.notes.found v k)) in
+        walk_on c names (AreJudged c) s (judge x s) (judge_row xs (append_part found (judge x s).0) u) {P = IsJudged c} one rest
 
     pub derive_walks : (names : Type 0) (at : ℕ) (node : t.TypeNode) (of : Option DeclaredType) (s : State) → (names → HasTypedefs c s.0.names) → (names → Knows c s.1 → IfSome of (IsTypeIn c))
         → Walks c names (IsFoundType c) s (derive at node of s)
@@ -189,7 +168,7 @@ module _ (c : Context) (lawful : IsLawfulContext c) where
     length_walks names (k.TypeNode-Array-1-Some' _ (k.more_of-Expr x k.end_of-Expr)) s =
         let r = judge x s in
         walk_one c names (λ taken a. Unit {0}) IsLength s r.0 r.1 given_length
-        (walk_any c names (IsJudged c) s r.0 r.1 (judge_walks ⊥ x s (λ v. absurd v) (λ v. absurd v) (λ v. absurd v))) (λ a f. given_found c names (length a) r.1.1)
+        (walk_any c names (IsJudged c) s r.0 r.1 (judge_walks ⊥ x s (λ v. absurd v) (λ v. absurd v))) (λ a f. given_found c names (length a) r.1.1)
 
     pub parameter_row_walks : (names : Type 0) {m : _} (xs : k.Row_of-Parameter m) (found : Option (List CType)) (s : State) → (names → HasTypedefs c s.0.names)
         → (names → Knows c s.1 → IfSome found (AreTypes c.structs)) → Declares c names (AreParameters c) s (parameter_row xs found s)
@@ -231,6 +210,6 @@ module _ (c : Context) (lawful : IsLawfulContext c) where
   typed_of taken None t h = tt
   typed_of taken (Some a) t h = h.typed t
 
-  pub expression_typed : (x : e.Expr) (s : State) → HasCommas x → HasNames c s.0 → HasTypedefs c s.0.names → Knows c (judge x s).1.1 → Takes c (judge x s).1.1 → IfSome (judge x s).0 (IsTypedIn c)
-  expression_typed x s g h d known taken =
-      typed_of (Takes c (judge x s).1.1) (judge x s).0 taken ((judge_walks (Unit {0}) x s (λ v. h) (λ v. d) (λ v. g)).notes.found tt known)
+  pub expression_typed : (x : e.Expr) (s : State) → HasNames c s.0 → HasTypedefs c s.0.names → Knows c (judge x s).1.1 → Takes c (judge x s).1.1 → IfSome (judge x s).0 (IsTypedIn c)
+  expression_typed x s h d known taken =
+      typed_of (Takes c (judge x s).1.1) (judge x s).0 taken ((judge_walks (Unit {0}) x s (λ v. h) (λ v. d)).notes.found tt known)

@@ -30,55 +30,15 @@ use Rattle.c_expression_laws.proofs.Walks.{later_of}
 
 -- ---- lists of what was judged
 
--- a property of lists that more elements keep
-abbrev pub Keeps : (List TypedExpression → Type 0) → Type 0
-Keeps K = (l : List TypedExpression) (x : TypedExpression) → K l → K (l ++ x ∷ [])
-
-abbrev pub AreFound : Context → (List TypedExpression → Type 0) → Type 0 → List TypedExpression → Type 0
-AreFound c K taken l = AreJudged c taken l × K l
-
 one_more : (c : Context) (taken : Type 0) (l : List TypedExpression) (x : TypedExpression) → AreJudged c taken l → IsJudged c taken x → AreJudged c taken (l ++ x ∷ [])
 one_more c taken [] x h g = (g, tt)
 one_more c taken (y ∷ ys) x h g = (h.0, one_more c taken ys x h.1 g)
 
-pub part_becomes : (c : Context) (K L : List TypedExpression → Type 0) (taken later : Type 0) (found : Option (List TypedExpression)) (q : Option TypedExpression)
-    → ((l : List TypedExpression) (x : TypedExpression) → K l → L (l ++ x ∷ [])) → (later → taken)
-    → IfSome found (AreFound c K taken) → IfSome q (IsJudged c later) → IfSome (append_part found q) (AreFound c L later)
-part_becomes c K L taken later None q more back h g = tt
-part_becomes c K L taken later (Some l) None more back h g = tt
-part_becomes c K L taken later (Some l) (Some x) more back h g = (one_more c later l x (judged_later c taken later l back h.0) g, more l x h.1)
-
--- any list, and one of two elements or more
-abbrev pub Any : List TypedExpression → Type 0
-Any l = Unit {0}
-
-pub any_keeps : Keeps Any
-any_keeps l x h = tt
-
-abbrev pub OneOrMore : List TypedExpression → Type 0
-OneOrMore [] = ⊥
-OneOrMore (a ∷ rest) = Unit {0}
-
-abbrev pub TwoOrMore : List TypedExpression → Type 0
-TwoOrMore [] = ⊥
-TwoOrMore (a ∷ rest) = OneOrMore rest
-
-one_keeps : Keeps OneOrMore
-one_keeps [] x h = tt
-one_keeps (a ∷ rest) x h = tt
-
-pub two_keeps : Keeps TwoOrMore
-two_keeps [] x h = absurd h
-two_keeps (a ∷ rest) x h = one_keeps rest x h
-
-pub one_becomes : (l : List TypedExpression) (x : TypedExpression) → Any l → OneOrMore (l ++ x ∷ [])
-one_becomes [] x h = tt
-one_becomes (a ∷ rest) x h = tt
-
-pub two_becomes : (l : List TypedExpression) (x : TypedExpression) → OneOrMore l → TwoOrMore (l ++ x ∷ [])
-two_becomes [] x h = absurd h
-two_becomes (a ∷ []) x h = tt
-two_becomes (a ∷ b ∷ rest) x h = tt
+pub part_becomes : (c : Context) (taken later : Type 0) (found : Option (List TypedExpression)) (q : Option TypedExpression)
+    → (later → taken) → IfSome found (AreJudged c taken) → IfSome q (IsJudged c later) → IfSome (append_part found q) (AreJudged c later)
+part_becomes c taken later None q back h g = tt
+part_becomes c taken later (Some l) None back h g = tt
+part_becomes c taken later (Some l) (Some x) back h g = one_more c later l x (judged_later c taken later l back h) g
 
 -- ---- names of parameters
 
@@ -200,21 +160,11 @@ module _ (c : Context) (names : Type 0) where
   given_found (Ok a) n = found_itself c names (λ taken a. Unit {0}) n (Some a) (λ v k. tt)
   given_found (Err f) n = found_none c names (λ taken a. Unit {0}) n (with_fault f.at f.kind n) (later_fault c f.at f.kind n)
 
-  firsts : (K : List TypedExpression → Type 0) (taken : Type 0) (o : Option (List TypedExpression)) → IfSome o (AreFound c K taken) → IfSome o (AreJudged c taken)
-  firsts K taken None h = tt
-  firsts K taken (Some l) h = h.0
-
 module _ (c : Context) (lawful : IsLawfulContext c) (names : Type 0) where
-  commas_found : (at : ℕ) (taken : Type 0) (o : Option (List TypedExpression)) → IfSome o (AreFound c TwoOrMore taken) → IfSome (commas at o) (IsJudged c taken)
-  commas_found at taken None h = tt
-  commas_found at taken (Some []) h = absurd h.1
-  commas_found at taken (Some (a ∷ [])) h = absurd h.1
-  commas_found at taken (Some (a ∷ b ∷ rest)) h = commas_judged c lawful names at taken a b rest h.0
-
-  pub comma_walk : (at : ℕ) (s : State) (o : Option (List TypedExpression)) (u : State) → Walks c names (AreFound c TwoOrMore) s (o, u) → Walks c names (IsJudged c) s (commas at o, u)
-  comma_walk at s o u h = record {
-    env = h.env;
-    notes = record { first = h.notes.first; knows = h.notes.knows; takes = h.notes.takes; found = λ v k. commas_found at (Takes c u.1) o (h.notes.found v k) };
+  pub comma_walk : (at : ℕ) (s : State) (o : Option (List TypedExpression)) (u : State) → Walks c names (AreJudged c) s (o, u) → Walks c names (IsJudged c) s (within u.0 (commas at o u.1))
+  comma_walk at s o u w = record {
+    env = w.env;
+    notes = found_later c names (IsJudged c) s.1 u.1 (commas at o u.1) (later_of c names (AreJudged c) s.1 (o, u.1) w.notes) (commas_judged c lawful names at o u.1 w.notes.found);
   }
 
   size_walk_found : (at : ℕ) (o : Option TypedExpression) (n : Notes) → (names → Knows c n → IfSome o (λ a. IsTrue (is_whole (type_view a.ty)))) → Judges c names (IsJudged c) n (each o (size_of_value at) n)
@@ -242,10 +192,10 @@ module _ (c : Context) (lawful : IsLawfulContext c) (names : Type 0) where
             (size_walk_found at o next (λ v k. whole_of (Takes c u.1) o (h.notes.found v k)));
       }
 
-  pub call_walk : (at : ℕ) (name : List ℕ) (s : State) (o : Option (List TypedExpression)) (u : State) → (names → HasNames c s.0) → Walks c names (AreFound c Any) s (o, u)
+  pub call_walk : (at : ℕ) (name : List ℕ) (s : State) (o : Option (List TypedExpression)) (u : State) → (names → HasNames c s.0) → Walks c names (AreJudged c) s (o, u)
       → Walks c names (IsJudged c) s (within u.0 (call_by_meaning at (meaning_of u.0 name) o u.1))
   call_walk at name s o u h w = record {
     env = w.env;
-    notes = found_later c names (IsJudged c) s.1 u.1 (call_by_meaning at (meaning_of u.0 name) o u.1) (later_of c names (AreFound c Any) s.1 (o, u.1) w.notes)
-        (call_judged c names at (meaning_of u.0 name) o u.1 (λ v. subst (HasNames c) (sym w.env) (h v) name) (λ v k. firsts c names Any (Takes c u.1) o (w.notes.found v k)));
+    notes = found_later c names (IsJudged c) s.1 u.1 (call_by_meaning at (meaning_of u.0 name) o u.1) (later_of c names (AreJudged c) s.1 (o, u.1) w.notes)
+        (call_judged c names at (meaning_of u.0 name) o u.1 (λ v. subst (HasNames c) (sym w.env) (h v) name) w.notes.found);
   }

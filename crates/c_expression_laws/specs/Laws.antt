@@ -10,7 +10,6 @@ use Rattle.c_expressions.specs.Expressions.{judge, derive, type_name}
 use Rattle.c_type_laws.specs.Typed.{IsTypedIn, IsFitType}
 use Rattle.c_judgement_laws.specs.Covers.{HasNames, Knows, Takes, IsLawfulContext, IsJudged}
 use Rattle.c_expression_laws.specs.Types.{IsTypeIn, HasTypedefs}
-use Rattle.c_expression_laws.specs.Commas.{HasCommas}
 use Rattle.c_expression_laws.specs.Walks.{Walks}
 
 -- what is asked of the names in scope
@@ -18,14 +17,10 @@ pub record HasScope (c : Context) (s : State) : Type 0 where
   pub names : HasNames c s.0
   pub typedefs : HasTypedefs c s.0.names
 
-pub record IsGiven (c : Context) (x : e.Expr) (s : State) : Type 0 where
-  pub scope : HasScope c s
-  pub commas : HasCommas x
-
 -- an expression is well typed in a lawful context that has the names in scope, the structs, and what was taken
 abbrev pub ExpressionIsTyped : Type 0
 ExpressionIsTyped =
-    (c : Context) → IsLawfulContext c → (x : e.Expr) (s : State) → IsGiven c x s →
+    (c : Context) → IsLawfulContext c → (x : e.Expr) (s : State) → HasScope c s →
     Knows c (judge x s).1.1 → Takes c (judge x s).1.1 → IfSome (judge x s).0 (IsTypedIn c)
 
 -- it leaves the names in scope as they were; what the context has behind it, it had before; and the types that it
@@ -33,7 +28,7 @@ ExpressionIsTyped =
 abbrev pub ExpressionWalks : Type 0
 ExpressionWalks =
     (c : Context) → IsLawfulContext c → (x : e.Expr) (s : State) →
-    Walks c (IsGiven c x s) (IsJudged c) s (judge x s)
+    Walks c (HasScope c s) (IsJudged c) s (judge x s)
 
 -- a type name gives a type that an expression may have
 abbrev pub TypeNameIsFit : Type 0

@@ -1,4 +1,3 @@
 pub mod Types
-pub mod Commas
 pub mod Walks
 pub mod Laws

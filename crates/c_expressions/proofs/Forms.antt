@@ -1,6 +1,5 @@
 -- What a form with a list answers, from what its parts answer.
 use Rattle.std.proofs.Common.{◌≡◌, ℕ, List, [], Option, Some, Result, Ok, Err, sym, ap, ◌∙◌}
-use Rattle.std.specs.Result.{IfOk}
 use Rattle.c_tree.specs.declared.expressions.Expr as e
 use Rattle.c_tree.specs.declared.types.TypeNode as t
 use Rattle.c_tree.specs.declared.types.Parameter.{Parameter}
@@ -10,7 +9,7 @@ use Rattle.c_type_rules.specs.declared.typed.TypedExpression.{TypedExpression}
 use Rattle.c_checks.specs.declared.env.Env.{Env}
 use Rattle.c_checks.specs.declared.meanings.Meaning.{Meaning}
 use Rattle.c_checks.specs.declared.notes.Notes.{Notes}
-use Rattle.c_checks.specs.Checks.{pure, and_then, both, walk, Finds}
+use Rattle.c_checks.specs.Checks.{and_then, both, walk, Finds}
 use Rattle.c_checks.specs.Scopes.{enter, leave, meaning_of}
 use Rattle.c_judgements.specs.Operators.{commas}
 use Rattle.c_judgements.specs.Calls.{call_by_meaning}
@@ -27,13 +26,13 @@ call_done v at name xs ys s env n n' found m (Ok a) form list parts meaning give
     ∙ (ap (λ k. within env (call_by_meaning at k found n)) (sym meaning) ∙ ap (within env) given)))
 call_done v at name xs ys s env n n' found m (Err f) form list parts meaning given = tt
 
-pub comma_done : {E : Type 0} (v : e.Expr) (at : ℕ) (xs ys : List e.Expr) (s : State) (env : Env) (n : Notes) (found : Option (List TypedExpression)) (r : Result (Option TypedExpression) E)
-    → v ≡ e.Comma at xs → ys ≡ xs → walk judge ys (Some []) s ≡ (found, (env, n)) → IfOk r (λ a. a ≡ commas at found) → Finds (judge v s) r (env, n)
-comma_done v at xs ys s env n found (Ok a) form list parts given =
+pub comma_done : {E : Type 0} (v : e.Expr) (at : ℕ) (xs ys : List e.Expr) (s : State) (env : Env) (n n' : Notes) (found : Option (List TypedExpression)) (r : Result (Option TypedExpression) E)
+    → v ≡ e.Comma at xs → ys ≡ xs → walk judge ys (Some []) s ≡ (found, (env, n)) → Finds (commas at found n) r n' → Finds (judge v s) r (env, n')
+comma_done v at xs ys s env n n' found (Ok a) form list parts given =
     ap (λ w. judge w s) form ∙ (judge-Comma at xs s
-    ∙ (ap (λ q. and_then q (λ vs. pure (commas at vs))) (ap (λ l. walk judge l (Some []) s) (sym list) ∙ parts)
-    ∙ ap (λ b. (b, (env, n))) (sym given)))
-comma_done v at xs ys s env n found (Err f) form list parts given = tt
+    ∙ (ap (λ q. and_then q (λ vs (u : State). within u.0 (commas at vs u.1))) (ap (λ l. walk judge l (Some []) s) (sym list) ∙ parts)
+    ∙ ap (within env) given))
+comma_done v at xs ys s env n n' found (Err f) form list parts given = tt
 
 pub takes_done : {E : Type 0} (v : t.TypeNode) (at : ℕ) (x : t.TypeNode) (list ys : List Parameter) (of : Option DeclaredType) (env env_e env_p env_l env_d : Env) (outside : ℕ) (n n_p n_d n_f : Notes)
     (found : Option (List CType)) (ty : Option DeclaredType) (r : Result (Option DeclaredType) E)

@@ -8,7 +8,7 @@ use Rattle.c_tree.specs.declared.expressions.Expr.TheBlock as k
 use Rattle.c_declared_types.specs.declared.declared.DeclaredType.{DeclaredType}
 use Rattle.c_typed_tree.specs.declared.types.CType.{CType}
 use Rattle.c_type_rules.specs.declared.typed.TypedExpression.{TypedExpression}
-use Rattle.c_checks.specs.Checks.{pure, and_then, both, walk, append_part}
+use Rattle.c_checks.specs.Checks.{and_then, both, walk, append_part}
 use Rattle.c_checks.specs.Scopes.{enter, leave, meaning_of}
 use Rattle.c_judgements.specs.Operators.{commas}
 use Rattle.c_judgements.specs.Calls.{call_by_meaning}
@@ -41,9 +41,9 @@ pub judge-Call : (at : ℕ) (name : List ℕ) (xs : List e.Expr) (s : State)
 unfolding opens
 judge-Call at name xs s = ap (λ q. and_then q (λ vs (u : State). within u.0 (call_by_meaning at (meaning_of u.0 name) vs u.1))) (judge_row-hidden xs (Some []) s)
 
-pub judge-Comma : (at : ℕ) (xs : List e.Expr) (s : State) → judge (e.Comma at xs) s ≡ and_then (walk judge xs (Some []) s) (λ vs. pure (commas at vs))
+pub judge-Comma : (at : ℕ) (xs : List e.Expr) (s : State) → judge (e.Comma at xs) s ≡ and_then (walk judge xs (Some []) s) (λ vs u. within u.0 (commas at vs u.1))
 unfolding opens
-judge-Comma at xs s = ap (λ q. and_then q (λ vs. pure (commas at vs))) (judge_row-hidden xs (Some []) s)
+judge-Comma at xs s = ap (λ q. and_then q (λ vs (u : State). within u.0 (commas at vs u.1))) (judge_row-hidden xs (Some []) s)
 
 pub derive-Array : (at : ℕ) (x : t.TypeNode) (length : Option e.Expr) (of : Option DeclaredType) (s : State)
     → derive at (t.Array x length) of s ≡ and_then (optional_length length s) (λ count u. and_then (derive at x of u) (λ ty v. within v.0 (both count ty (array at) v.1)))

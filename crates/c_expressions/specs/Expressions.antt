@@ -9,7 +9,7 @@ use Rattle.c_declared_types.specs.declared.declared.DeclaredType.{DeclaredType}
 use Rattle.c_typed_tree.specs.declared.types.CType.{CType}
 use Rattle.c_type_rules.specs.declared.typed.TypedExpression.{TypedExpression}
 use Rattle.c_primary_rules.specs.Primary.{integer_constant, character_constant}
-use Rattle.c_checks.specs.Checks.{pure, and_then, each, both, note_fault, append_part}
+use Rattle.c_checks.specs.Checks.{and_then, each, both, note_fault, append_part}
 use Rattle.c_checks.specs.Notes.{apart, rejoin}
 use Rattle.c_checks.specs.Scopes.{enter, leave, meaning_of}
 use Rattle.c_judgements.specs.Operators.{apply_prefix, between, assignment, element, choice_of, cast, size_of_value, size_of_name, behind, commas}
@@ -57,7 +57,8 @@ unfoldable mutual
       and_then (judge x s) (λ a u. within u.0 (each a (arrow_named at name) u.1))
   judge (e.Postfix' at op _ (k.more_of-Expr x k.end_of-Expr)) s =
       and_then (judge x s) (λ a u. within u.0 (each a (behind at op) u.1))
-  judge (e.Comma' at _ operands) s = and_then (judge_row operands (Some []) s) (λ vs. pure (commas at vs))
+  judge (e.Comma' at _ operands) s =
+      and_then (judge_row operands (Some []) s) (λ vs u. within u.0 (commas at vs u.1))
 
   pub judge_row : {m : _} → k.Row_of-Expr m → Option (List TypedExpression) → State → Option (List TypedExpression) × State
   judge_row k.end_of-Expr found s = (found, s)

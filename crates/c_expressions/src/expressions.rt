@@ -116,7 +116,7 @@ pub fn judge<'a>(
         }
         Expr::Comma { at, operands } => {
             let found = judges(alloc, operands.as_slice(), env, notes)?;
-            commas(alloc, *at, found)
+            commas(alloc, notes, *at, found)
         }
     }
 }

@@ -1,5 +1,5 @@
 -- Each form by its parts: operators, names, texts and members.
-use Rattle.std.proofs.Common.{◌≡◌, ℕ, nat_le, ◌==◌, ◌+◌, true, IsTrue, List, [], ◌∷◌, length, slice_get, Option, Some, None, IfOk, IfSome, refl}
+use Rattle.std.proofs.Common.{◌≡◌, ℕ, nat_le, ◌==◌, ◌+◌, Bool, true, false, if◌then◌else◌, IsTrue, List, [], ◌∷◌, length, slice_get, Option, Some, None, IfOk, IfSome, refl}
 use Rattle.c_arithmetic.specs.declared.integer_type.IntegerType.TheVariants as i
 use Rattle.c_tree.specs.declared.expressions.UnaryOp.{UnaryOp}
 use Rattle.c_tree.specs.declared.expressions.BinaryOp.{BinaryOp}
@@ -9,6 +9,8 @@ use Rattle.c_literals.specs.declared.integers.IntegerLiteral.{IntegerLiteral}
 use Rattle.c_literals.specs.Integers.{integer}
 use Rattle.c_literals.specs.Characters.{character}
 use Rattle.data_object.specs.declared.DataObject.{DataObject}
+use Rattle.data_object.specs.declared.TheConstants.{MOST_DATA}
+use Rattle.c_type_faults.specs.declared.faults.Kind.TheVariants.{BadType}
 use Rattle.c_typed_tree.specs.declared.types.CType.{CType}
 use Rattle.c_typed_tree.specs.declared.types.StructDef.{StructDef}
 use Rattle.c_typed_tree.specs.declared.types.Member.{Member}
@@ -23,6 +25,7 @@ use Rattle.c_type_rules.specs.declared.typed.TypedExpression.{TypedExpression}
 use Rattle.c_type_rules.specs.Conversions.{decay}
 use Rattle.c_place_rules.specs.Places.{step_behind}
 use Rattle.c_place_rules.specs.Members.{field, arrow, size}
+use Rattle.c_primary_rules.specs.Commas.{comma}
 use Rattle.c_primary_rules.specs.Primary.{literal, integer_constant, character_value, character_constant, enumeration_constant, local, object, text, text_type}
 use Rattle.c_operators.specs.Unary.{unary}
 use Rattle.c_operators.specs.Binary.{binary, subscript, conditional}
@@ -31,7 +34,7 @@ use Rattle.c_operators.specs.Casts.{cast_to, size_of_type}
 use Rattle.c_checks.specs.declared.meanings.Meaning.{Meaning}
 use Rattle.c_checks.specs.declared.meanings.Meaning.TheVariants as m
 use Rattle.c_checks.specs.declared.notes.Notes.{Notes}
-use Rattle.c_checks.specs.Checks.{note_fault}
+use Rattle.c_checks.specs.Checks.{pure, and_then, fault, note_fault}
 use Rattle.c_checks.specs.Notes.{with_use, new_text}
 use Rattle.c_judgements.specs.Operators as form
 use Rattle.c_judgements.specs.Names.{name_of}
@@ -189,11 +192,17 @@ module _ (c : Context) (lawful : IsLawfulContext c) (names : Type 0) where
   all_typed taken [] h t = tt
   all_typed taken (a ∷ rest) h t = (h.0.typed t, all_typed taken rest h.1 t)
 
-  pub commas_judged : (at : ℕ) (taken : Type 0) (a b : TypedExpression) (rest : List TypedExpression) → AreJudged c taken (a ∷ b ∷ rest) → IfSome (form.commas at (Some (a ∷ b ∷ rest))) (IsJudged c taken)
-  commas_judged at taken a b rest h = record {
+  comma_judged : (at : ℕ) (taken : Type 0) (a b : TypedExpression) (rest : List TypedExpression) → AreJudged c taken (a ∷ b ∷ rest) → IsJudged c taken (comma at (a ∷ b ∷ rest))
+  comma_judged at taken a b rest h = record {
     whole = comma_whole at (a ∷ b ∷ rest) (all_whole taken (a ∷ b ∷ rest) h);
     typed = λ t. comma_typed c at a b rest (h.0.typed t) (h.1.0.typed t) (all_typed taken rest h.1.1 t);
   }
+
+  pub commas_judged : (at : ℕ) (o : Option (List TypedExpression)) (n : Notes) → (names → Knows c n → IfSome o (AreJudged c (Takes c n))) → Judges c names (IsJudged c) n (form.commas at o n)
+  commas_judged at None n h = found_none c names (IsJudged c) n n (later_itself c n)
+  commas_judged at (Some []) n h = found_fault c names (IsJudged c) at _ n
+  commas_judged at (Some (a ∷ [])) n h = found_fault c names (IsJudged c) at _ n
+  commas_judged at (Some (a ∷ b ∷ rest)) n h = found_itself c names (IsJudged c) n (comma at (a ∷ b ∷ rest)) (λ v k. comma_judged at (Takes c n) a b rest (h v k))
 
   -- ---- constants, names and texts
 
@@ -228,12 +237,11 @@ module _ (c : Context) (lawful : IsLawfulContext c) (names : Type 0) where
   name_judged at (Some (m.Function callee result parameters)) n h = found_fault c names (IsJudged c) at _ n
   name_judged at (Some (m.Typedef ty)) n h = found_fault c names (IsJudged c) at _ n
 
-  pub string_judged : (at : ℕ) (spellings : List (List ℕ)) (n : Notes) → Judges c names (IsJudged c) n (string at spellings n)
-  string_judged at spellings n =
-      let bytes = bytes_of spellings in
+  text_judged : (at : ℕ) (bytes : List ℕ) (n : Notes) → Judges c names (IsJudged c) n (and_then (new_text bytes n) (λ number. pure (Some (text at number (length bytes)))))
+  text_judged at bytes n =
       let next = (new_text bytes n).1 in
       let number = n.first_text + length n.texts in
-      found_later c names (IsJudged c) n next (string at spellings n) (later_text c bytes n)
+      found_later c names (IsJudged c) n next (Some (text at number (length bytes)), next) (later_text c bytes n)
       (found_itself c names (IsJudged c) next (text at number (length bytes))
       (λ v k. record {
         whole = text_whole (length bytes);
@@ -242,6 +250,13 @@ module _ (c : Context) (lawful : IsLawfulContext c) (names : Type 0) where
             object_typed c at number (text_type (length bytes)) named
             (text_fit c.structs (length bytes) (global_object c.structs (slice_get c.globals number) (type_view (text_type (length bytes))) named)) (text_depth (length bytes));
       }))
+
+  pub string_judged : (at : ℕ) (spellings : List (List ℕ)) (n : Notes) → Judges c names (IsJudged c) n (string at spellings n)
+  string_judged at spellings n = choose (nat_le (length (bytes_of spellings)) MOST_DATA)
+    where
+      choose : (b : Bool) → Judges c names (IsJudged c) n (if b then and_then (new_text (bytes_of spellings) n) (λ number. pure (Some (text at number (length (bytes_of spellings))))) else fault at BadType n)
+      choose true = text_judged at (bytes_of spellings) n
+      choose false = found_fault c names (IsJudged c) at BadType n
 
   -- ---- members
 

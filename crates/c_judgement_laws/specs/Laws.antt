@@ -1,7 +1,7 @@
 -- What judgements find is well typed (C99 6.5): of each form by its parts, in a lawful context. What a form finds is well
 -- typed where the names in scope are those of the context, the structs of the notes are known there, and what was taken
 -- is there.
-use Rattle.std.specs.Prelude.{ℕ, IsTrue, List, ◌∷◌, Option, Some, IfSome}
+use Rattle.std.specs.Prelude.{ℕ, IsTrue, List, Option, IfSome}
 use Rattle.c_tree.specs.declared.expressions.UnaryOp.{UnaryOp}
 use Rattle.c_tree.specs.declared.expressions.BinaryOp.{BinaryOp}
 use Rattle.c_tree.specs.declared.expressions.AssignOp.{AssignOp}
@@ -62,8 +62,9 @@ StepIsJudged =
 
 abbrev pub CommaIsJudged : Type 0
 CommaIsJudged =
-    (c : Context) → IsLawfulContext c → (at : ℕ) (a b : TypedExpression) (rest : List TypedExpression) (n : Notes) →
-    AreJudged c (Takes c n) (a ∷ b ∷ rest) → IfSome (commas at (Some (a ∷ b ∷ rest))) (IsJudged c (Takes c n))
+    (c : Context) → IsLawfulContext c → (env : Env) (at : ℕ) (operands : Option (List TypedExpression)) (n : Notes) →
+    (HasNames c env → Knows c n → IfSome operands (AreJudged c (Takes c n))) →
+    Judges c (HasNames c env) (IsJudged c) n (commas at operands n)
 
 -- ---- casts and sizes. The operand of `sizeof` is not evaluated, so what it takes need not be there
 

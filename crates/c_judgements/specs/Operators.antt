@@ -1,11 +1,11 @@
 -- Operators, by their operands (C99 6.5). A form is judged only where its parts are without fault.
-use Rattle.std.specs.Prelude.{ℕ, List, Option, Some, None}
-use Rattle.std.specs.Option.{option_map}
+use Rattle.std.specs.Prelude.{ℕ, Bool, true, false, if◌then◌else◌, List, [], ◌∷◌, Option, Some, None}
 use Rattle.c_tree.specs.declared.expressions.UnaryOp.{UnaryOp}
 use Rattle.c_tree.specs.declared.expressions.UnaryOp.TheVariants as u
 use Rattle.c_tree.specs.declared.expressions.BinaryOp.{BinaryOp}
 use Rattle.c_tree.specs.declared.expressions.AssignOp.{AssignOp}
 use Rattle.c_tree.specs.declared.expressions.StepOp.{StepOp}
+use Rattle.c_type_faults.specs.declared.faults.Kind.TheVariants.{BadOperand}
 use Rattle.c_declared_types.specs.declared.declared.DeclaredType.{DeclaredType}
 use Rattle.c_type_rules.specs.declared.typed.Place.{Place}
 use Rattle.c_type_rules.specs.declared.typed.TypedExpression.{TypedExpression}
@@ -18,7 +18,7 @@ use Rattle.c_operators.specs.Assigned.{assign}
 use Rattle.c_operators.specs.Casts.{cast_to, size_of_type}
 use Rattle.c_checks.specs.declared.notes.Notes.{Notes}
 use Rattle.c_checks.specs.Notes.{with_address}
-use Rattle.c_checks.specs.Checks.{Check, both, note_fault}
+use Rattle.c_checks.specs.Checks.{Check, fault, each, both, note_fault}
 
 -- `&` takes the address of its operand, so a local that this is, or is a part of, is an object of memory
 abbrev pub taken_by : UnaryOp → Place → Notes → Notes
@@ -62,5 +62,14 @@ size_of_name at ty n = note_fault (size_of_type n.structs at ty) n
 abbrev pub behind : ℕ → StepOp → TypedExpression → Check (Option TypedExpression)
 behind at op a n = note_fault (step_behind n.structs at op a) n
 
-abbrev pub commas : ℕ → Option (List TypedExpression) → Option TypedExpression
-commas at operands = option_map (comma at) operands
+-- a comma stands between operands, so there are two at least; a tree with fewer comes from no text
+abbrev pub are_two_or_more : List TypedExpression → Bool
+are_two_or_more [] = false
+are_two_or_more (a ∷ []) = false
+are_two_or_more (a ∷ b ∷ rest) = true
+
+abbrev pub commas_between : ℕ → List TypedExpression → Check (Option TypedExpression)
+commas_between at operands n = if are_two_or_more operands then (Some (comma at operands), n) else fault at BadOperand n
+
+abbrev pub commas : ℕ → Option (List TypedExpression) → Check (Option TypedExpression)
+commas at operands n = each operands (commas_between at) n

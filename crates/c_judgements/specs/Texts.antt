@@ -1,10 +1,12 @@
 -- String literals (C99 6.4.5, 5.1.1.2): those that stand side by side are one, and a zero stands at the end of all.
 -- Each occurrence is an object of its own.
-use Rattle.std.specs.Prelude.{ℕ, List, [], ◌∷◌, ◌++◌, length, Option, Some}
+use Rattle.std.specs.Prelude.{ℕ, nat_le, if◌then◌else◌, List, [], ◌∷◌, ◌++◌, length, Option, Some}
+use Rattle.data_object.specs.declared.TheConstants.{MOST_DATA}
+use Rattle.c_type_faults.specs.declared.faults.Kind.TheVariants.{BadType}
 use Rattle.c_literals.specs.Texts.{text_bytes}
 use Rattle.c_primary_rules.specs.Primary.{text}
 use Rattle.c_type_rules.specs.declared.typed.TypedExpression.{TypedExpression}
-use Rattle.c_checks.specs.Checks.{Check, and_then, pure}
+use Rattle.c_checks.specs.Checks.{Check, and_then, pure, fault}
 use Rattle.c_checks.specs.Notes.{new_text}
 
 abbrev pub join_spellings : (spellings : List (List ℕ)) → List ℕ
@@ -14,6 +16,12 @@ join_spellings (s ∷ ss) = text_bytes s ++ join_spellings ss
 abbrev pub bytes_of : (spellings : List (List ℕ)) → List ℕ
 bytes_of spellings = join_spellings spellings ++ 0 ∷ []
 
+-- its array is no larger than the data may be
+abbrev pub string_of : ℕ → (bytes : List ℕ) → Check (Option TypedExpression)
+string_of at bytes n =
+    if nat_le (length bytes) MOST_DATA
+    then and_then (new_text bytes n) (λ number. pure (Some (text at number (length bytes))))
+    else fault at BadType n
+
 abbrev pub string : ℕ → (spellings : List (List ℕ)) → Check (Option TypedExpression)
-string at spellings n =
-    and_then (new_text (bytes_of spellings) n) (λ number. pure (Some (text at number (length (bytes_of spellings)))))
+string at spellings n = string_of at (bytes_of spellings) n

@@ -1,16 +1,17 @@
 //! Operators, by their operands.
 
-ghost use Rattle.std.specs.Prelude.{◌≡◌, OnOk, IfOk};
+ghost use Rattle.std.specs.Prelude.{◌≡◌, OnOk};
 ghost use Rattle.c_checks.specs.Checks.{Finds, each, both};
 ghost use Rattle.c_judgements.specs.Operators as spec;
 
-use c_checks::{Notes, note_fault, take_address};
+use c_checks::{Notes, note, note_fault, take_address};
 use c_declared_types::DeclaredType;
 use c_operators::{assign, binary, cast_to, conditional, size_of_type, subscript, unary};
 use c_place_rules::members::size;
 use c_place_rules::places::step_behind;
 use c_primary_rules::commas::comma;
 use c_tree::{AssignOp, BinaryOp, Seq, StepOp, UnaryOp};
+use c_type_faults::Kind;
 use c_type_rules::{Place, TypedExpression};
 use std::alloc::{AllocError, Global};
 
@@ -247,16 +248,34 @@ pub fn behind(
     }
 }
 
-/// Operands of commas.
+/// Whether there are two operands at least.
+fn are_two_or_more(operands: &[TypedExpression]) -> bool
+    ensures { result ≡ spec.are_two_or_more operands.now }
+{
+    match operands.split_first() {
+        None => false,
+        Some((_, rest)) => !rest.is_empty(),
+    }
+}
+
+/// Operands of commas. Fewer than two, as no text has them, are a fault at the comma.
 pub fn commas(
     alloc: Global,
+    notes: &mut Notes<'_>,
     at: u32,
     operands: Option<Seq<TypedExpression>>,
 ) -> Result<Option<TypedExpression>, AllocError>
-    ensures { IfOk result (λ r. r ≡ spec.commas at operands) }
+    ensures { Finds (spec.commas at operands notes.old) result notes.new }
 {
     match operands {
         None => Ok(None),
-        Some(operands) => Ok(Some(comma(alloc, at, operands)?)),
+        Some(operands) => {
+            if are_two_or_more(operands.as_slice()) {
+                Ok(Some(comma(alloc, at, operands)?))
+            } else {
+                note(notes, at, Kind::BadOperand)?;
+                Ok(None)
+            }
+        }
     }
 }

@@ -5,11 +5,13 @@ ghost use Rattle.c_checks.specs.Checks.{Finds, note_fault};
 ghost use Rattle.c_primary_rules.specs.Primary as rules;
 ghost use Rattle.c_judgements.specs.Texts as spec;
 
-use c_checks::{Notes, note_fault, note_text};
+use c_checks::{Notes, note, note_fault, note_text};
 use c_literals::put_text;
 use c_primary_rules::primary::{character_constant, integer_constant, text};
 use c_tree::{Name, Seq};
+use c_type_faults::Kind;
 use c_type_rules::TypedExpression;
+use data_object::MOST_DATA;
 use std::alloc::{AllocError, Global};
 
 /// An integer constant.
@@ -50,7 +52,26 @@ pub fn bytes_of(alloc: Global, spellings: &[Name]) -> Result<Seq<u8>, AllocError
     Ok(Seq::from_vec(bytes))
 }
 
-/// A text, which is an object of its own.
+/// A text of these bytes, which is an object of its own. It is no larger than the data may be.
+fn string_of(
+    alloc: Global,
+    notes: &mut Notes<'_>,
+    at: u32,
+    bytes: Seq<u8>,
+) -> Result<Option<TypedExpression>, AllocError>
+    ensures { Finds (spec.string_of at bytes notes.old) result notes.new }
+{
+    let length = bytes.len() as u64;
+    if length <= MOST_DATA {
+        let number = note_text(notes, bytes)?;
+        Ok(Some(text(alloc, at, number, length)?))
+    } else {
+        note(notes, at, Kind::BadType)?;
+        Ok(None)
+    }
+}
+
+/// A text, which is an object of its own, from the literals that it is written as.
 pub fn string(
     alloc: Global,
     notes: &mut Notes<'_>,
@@ -60,7 +81,5 @@ pub fn string(
     ensures { Finds (spec.string at spellings.now notes.old) result notes.new }
 {
     let bytes = bytes_of(alloc, spellings)?;
-    let length = bytes.len() as u64;
-    let number = note_text(notes, bytes)?;
-    Ok(Some(text(alloc, at, number, length)?))
+    string_of(alloc, notes, at, bytes)
 }

@@ -11,7 +11,7 @@ judge-returns-in_ok-found-in-Call t c =
 
 pub judge-returns-in_ok-found-in-Comma : goal.judge-returns-in_ok-found-in-Comma
 judge-returns-in_ok-found-in-Comma t c =
-    comma_done c.args.e.now c.in-Comma.at c.in-Comma.operands c.as_slice-in-Comma.result.now (c.args.env.now, c.args.notes.now) c.judges-in-Comma.new.env c.judges-in-Comma.new.notes _ c.commas.result
+    comma_done c.args.e.now c.in-Comma.at c.in-Comma.operands c.as_slice-in-Comma.result.now (c.args.env.now, c.args.notes.now) c.judges-in-Comma.new.env c.judges-in-Comma.new.notes c.commas.new.notes _ c.commas.result
     c.in-Comma.is c.as_slice-in-Comma.ensures c.in_ok-found-in-Comma.ensures c.commas.ensures
 
 pub derive-returns-in_ok-ty-in-Takes : goal.derive-returns-in_ok-ty-in-Takes

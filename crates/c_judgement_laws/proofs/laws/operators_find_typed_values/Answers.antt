@@ -1,4 +1,4 @@
-use Rattle.c_judgement_laws.specs.Covers.{HasNames, Takes}
+use Rattle.c_judgement_laws.specs.Covers.{HasNames}
 use Rattle.c_judgement_laws.proofs.Forms.{prefix_judged, between_judged, assignment_judged, element_judged, choice_judged, behind_judged, commas_judged}
 use Rattle.c_judgement_laws.proofs.laws.operators_find_typed_values.Goals as goal
 
@@ -21,4 +21,4 @@ pub returns-clause-steps : goal.returns-clause-steps
 returns-clause-steps c = λ k lawful env. behind_judged k lawful (HasNames k env)
 
 pub returns-clause-commas : goal.returns-clause-commas
-returns-clause-commas c = λ k lawful at a b rest n h. commas_judged k lawful (Unit {0}) at (Takes k n) a b rest h
+returns-clause-commas c = λ k lawful env. commas_judged k lawful (HasNames k env)
