@@ -10,7 +10,7 @@ use Rattle.suifvm_ir.specs.declared.insn.VmInsn.{VmInsn}
 use Rattle.suifvm_ir.specs.declared.insn.VmInsn.TheVariants as x
 use Rattle.selection_code.specs.Fields.{IsNumbered, HasNumbers}
 use Rattle.selection_code.specs.Functions.{function_blocks}
-use Rattle.selection_laws.proofs.Lengths.{code_short}
+use Rattle.selection_costs.proofs.Lengths.{code_short}
 use Rattle.selection_shapes.proofs.Lists.{all_nil, all_more, all_first, all_rest}
 use Rattle.alpha_select.specs.model.Limits.{IsWithinLimits}
 

@@ -21,8 +21,9 @@ use Rattle.suifvm_ir.specs.declared.program.VmProgram.{VmProgram}
 use Rattle.temp_ir.specs.declared.program.TempProgram.{TempProgram}
 use Rattle.selection_code.specs.Fields.{HasFields}
 use Rattle.selection_laws.specs.Selected.{selected_code, IsSelected}
-use Rattle.selection_laws.proofs.Lengths.{code_short}
-use Rattle.alpha_select.specs.Selection.{IsSelectedFunction, AreSelected}
+use Rattle.selection_costs.proofs.Lengths.{code_short}
+use Rattle.selection_costs.proofs.Costs.{costs_little}
+use Rattle.alpha_select.specs.Selection.{IsSelectedFunction, AreSelected, CostLittle}
 
 -- ---- lists
 
@@ -116,6 +117,14 @@ all_short [] (g ∷ gs) h = absurd h
 all_short (f ∷ fs) [] h = absurd h
 all_short (f ∷ fs) (g ∷ gs) h =
     omega (arith, one_short f g h.0, all_short fs gs h.1, sum_by-cons (λ (t : TempFn). 5 * length t.blocks + count_of t.blocks) g gs, sum_by-cons function_size f fs)
+
+-- ---- their cost
+
+pub all_cost : (fs : List VmFunction) (gs : List TempFn) → AreSelected fs gs → CostLittle fs gs
+all_cost [] [] h = tt
+all_cost [] (g ∷ gs) h = absurd h
+all_cost (f ∷ fs) [] h = absurd h
+all_cost (f ∷ fs) (g ∷ gs) h = (costs_little f g h.0.blocks, all_cost fs gs h.1)
 
 -- ---- the program
 

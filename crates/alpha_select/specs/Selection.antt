@@ -1,7 +1,9 @@
 -- What `select` gives.
-use Rattle.std.specs.Prelude.{◌≡◌, ◌+◌, List, [], ◌∷◌}
+use Rattle.std.specs.Prelude.{◌≡◌, ◌+◌, ◌≤◌, List, [], ◌∷◌}
 use Rattle.suifvm_ir.specs.Programs.{VmFunction}
+use Rattle.suifvm_ir.specs.Cost.{cost}
 use Rattle.temp_ir.specs.Programs.{TempFn}
+use Rattle.temp_ir.specs.Cost.{bulk_when_split}
 use Rattle.selection_code.specs.Functions.{function_blocks}
 
 -- the selected one of a function: its name, number of parameters and objects stay, and it has four temporaries more than
@@ -17,3 +19,10 @@ abbrev pub AreSelected : List VmFunction → List TempFn → Type 0
 AreSelected [] [] = Unit {0}
 AreSelected (f ∷ fs) (g ∷ gs) = IsSelectedFunction f g × AreSelected fs gs
 AreSelected _ _ = ⊥
+
+-- the bulk of each selected function, with all that splitting its edges may add, is at most the cost of the function
+-- that was given
+abbrev pub CostLittle : List VmFunction → List TempFn → Type 0
+CostLittle [] [] = Unit {0}
+CostLittle (f ∷ fs) (g ∷ gs) = (bulk_when_split g ≤ cost f) × CostLittle fs gs
+CostLittle _ _ = ⊥

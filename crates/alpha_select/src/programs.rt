@@ -6,7 +6,7 @@ ghost use Rattle.suifvm_ir.specs.Programs.{VmFunction, program_size};
 ghost use Rattle.temp_ir.specs.Programs.{TempFn};
 ghost use Rattle.selection_laws.specs.Selected.{IsSelected};
 ghost use Rattle.selection_laws.specs.Laws.{SelectionKeeps};
-ghost use Rattle.alpha_select.specs.Selection.{AreSelected};
+ghost use Rattle.alpha_select.specs.Selection.{AreSelected, CostLittle};
 
 use crate::copies::copy_globals;
 use crate::functions::select_functions;
@@ -15,7 +15,8 @@ use suifvm_ir::program::VmProgram;
 use temp_ir::program::TempProgram;
 
 /// The selected program: it has the endings of the program, unless they are Undefined, and no others. Its functions are
-/// settled, and their backward jumps go to blocks that begin with a mark. It fails only where memory is short.
+/// settled, and their backward jumps go to blocks that begin with a mark. The bulk of each, with all that splitting its
+/// edges may add, is at most the cost of the function that was given. It fails only where memory is short.
 pub fn select(alloc: Global, program: &VmProgram) -> Result<TempProgram, AllocError>
     requires size { program_size program.now.functions ≤ 2 ^ 24 }
     requires registers { All (λ (f : VmFunction). f.temps ≤ 2 ^ 24) program.now.functions }
@@ -23,6 +24,7 @@ pub fn select(alloc: Global, program: &VmProgram) -> Result<TempProgram, AllocEr
     ensures functions { IfOk result (λ p. AreSelected program.now.functions p.functions) }
     ensures globals { IfOk result (λ p. p.globals ≡ program.now.globals) }
     ensures keeps { IfOk result (λ p. SelectionKeeps program.now p) }
+    ensures costs { IfOk result (λ p. CostLittle program.now.functions p.functions) }
     ensures few { IfOk result (λ p.
         sum_by (λ (g : TempFn). 5 * length g.blocks + count_of g.blocks) p.functions < 2 ^ 30) }
 {

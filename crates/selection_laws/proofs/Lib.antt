@@ -7,4 +7,3 @@ pub mod Operations
 pub mod Builtins
 pub mod Calls
 pub mod Keeps
-pub mod Lengths

@@ -1,14 +1,11 @@
 -- Selection keeps the meaning.
-use Rattle.std.specs.Prelude.{◌≡◌, ℕ, ◌+◌, ◌*◌, ◌<◌, ◌≤◌, List, length, All}
+use Rattle.std.specs.Prelude.{◌≡◌, ℕ, ◌<◌, List, All}
 use Rattle.mem_model.specs.World.{Rooms}
 use Rattle.mem_model.specs.Ending.{Ending, Undefined}
 use Rattle.suifvm_ir.specs.declared.program.VmProgram.{VmProgram}
-use Rattle.suifvm_ir.specs.Functions.{count_of}
-use Rattle.suifvm_ir.specs.Programs.{VmFunction, function_size}
 use Rattle.temp_ir.specs.declared.program.TempProgram.{TempProgram}
 use Rattle.vm_meaning.specs.Behave.{behave_vm}
 use Rattle.alloc_model.specs.Temporaries.{TempsEnd}
-use Rattle.selection_code.specs.Functions.{function_blocks}
 use Rattle.selection_laws.specs.Selected.{IsSelected}
 
 -- an ending that is not for want of a meaning
@@ -30,12 +27,3 @@ SelectionKeeps program selected =
 
 abbrev pub SelectedPrograms : Type 0
 SelectedPrograms = (program : VmProgram) (selected : TempProgram) → IsSelected program selected → SelectionKeeps program selected
-
--- Five times the blocks of a selected function, and its instructions, are at most 13 times the size of the function that
--- was given; it has as many blocks
-pub record IsShort (f : VmFunction) : Type 0 where
-  pub blocks : length (function_blocks f.params f.blocks) ≡ length f.blocks
-  pub count : 5 * length (function_blocks f.params f.blocks) + count_of (function_blocks f.params f.blocks) ≤ 13 * function_size f
-
-abbrev pub CodeIsShort : Type 0
-CodeIsShort = (f : VmFunction) → IsShort f

@@ -23,13 +23,13 @@ append_nil : {A : Type 0} (xs : List A) → xs ++ [] ≡ xs
 append_nil [] = refl
 append_nil (x ∷ xs) = ap (λ l. x ∷ l) (append_nil xs)
 
-front_more : {A : Type 0} (x y : A) (xs : List A) → front_of (x ∷ y ∷ xs) ≡ x ∷ front_of (y ∷ xs)
+pub front_more : {A : Type 0} (x y : A) (xs : List A) → front_of (x ∷ y ∷ xs) ≡ x ∷ front_of (y ∷ xs)
 front_more x y xs = let e : length (x ∷ y ∷ xs) - 1 ≡ suc (length (y ∷ xs) - 1) = omega arith in ap (λ k. take k (x ∷ y ∷ xs)) e
 
-last_more : {A : Type 0} (x y : A) (xs : List A) → last_of (x ∷ y ∷ xs) ≡ last_of (y ∷ xs)
+pub last_more : {A : Type 0} (x y : A) (xs : List A) → last_of (x ∷ y ∷ xs) ≡ last_of (y ∷ xs)
 last_more x y xs = let e : length (x ∷ y ∷ xs) - 1 ≡ suc (length (y ∷ xs) - 1) = omega arith in ap (λ k. slice_get (x ∷ y ∷ xs) k) e
 
-last_push : {A : Type 0} (xs : List A) (z : A) → last_of (xs ++ z ∷ []) ≡ Some z
+pub last_push : {A : Type 0} (xs : List A) (z : A) → last_of (xs ++ z ∷ []) ≡ Some z
 last_push [] z = refl
 last_push (x ∷ []) z = last_more x z []
 last_push (x ∷ y ∷ xs) z = last_more x y (xs ++ z ∷ []) ∙ last_push (y ∷ xs) z

@@ -6,7 +6,7 @@ use Rattle.temp_ir.specs.Programs.{IsLawfulFunction}
 use Rattle.selection_code.specs.Fields.{HasFields}
 use Rattle.selection_laws.proofs.Keeps.{selected_programs}
 use Rattle.alpha_select.specs.Selection.{AreSelected}
-use Rattle.alpha_select.proofs.Lawful.{same_length, same_mains, all_lawful, all_short, selected_is}
+use Rattle.alpha_select.proofs.Lawful.{same_length, same_mains, all_lawful, all_short, all_cost, selected_is}
 use Rattle.alpha_select.proofs.programs.select.Goals as goal
 
 pub invariant_of-result : goal.invariant_of-result
@@ -38,3 +38,7 @@ pub returns-clause-few : goal.returns-clause-few
 returns-clause-few c =
     let p = c.args.program.now in
     omega (arith, all_short p.functions c.in_ok-functions.functions (subst (λ l. AreSelected l c.in_ok-functions.functions) c.as_slice.ensures c.in_ok-functions.ensures.selected), c.requires.size)
+
+pub returns-clause-costs : goal.returns-clause-costs
+returns-clause-costs c =
+    all_cost c.args.program.now.functions c.in_ok-functions.functions (subst (λ l. AreSelected l c.in_ok-functions.functions) c.as_slice.ensures c.in_ok-functions.ensures.selected)

@@ -23,6 +23,7 @@ use Rattle.suifvm_ir.specs.declared.insn.VmInsn.{VmInsn}
 use Rattle.suifvm_ir.specs.declared.insn.VmInsn.TheVariants as x
 use Rattle.suifvm_ir.specs.Functions.{count_of}
 use Rattle.suifvm_ir.specs.Programs.{weight_of}
+use Rattle.suifvm_ir.specs.Cost.{most_insns}
 use Rattle.temp_ir.specs.declared.operation.Operation.TheVariants.{Addq}
 use Rattle.temp_ir.specs.declared.insn.Source.TheVariants as source
 use Rattle.temp_ir.specs.declared.insn.Operand.TheVariants as operand
@@ -35,7 +36,7 @@ use Rattle.alpha_forms.proofs.Making as making
 use Rattle.alpha_copies.proofs.Copying.{copies_short}
 use Rattle.selection_code.specs.Instructions.{temp_of, pass_items, take_items, result_items, byte_items, put_char_items, exit_items, builtin_items, call_items, return_items, insn_items}
 use Rattle.selection_code.specs.Functions.{insns_items, parameter_items, in_front, function_blocks}
-use Rattle.selection_laws.specs.Laws.{CodeIsShort}
+use Rattle.selection_costs.specs.Costs.{CodeIsShort}
 
 -- ---- instructions
 
@@ -67,7 +68,7 @@ store_short ty p plus a = by_fit (fits w16 plus)
     by_fit true = omega arith
     by_fit false = omega (arith, length-append (far_items p plus) (near_store ty a 0 (pos 0)), far_short p plus)
 
-binary_short : (op : BinaryOp) (ty : VmType) (d a b : ℕ) → length (binary_items op ty d a b) ≤ 8
+binary_short : (op : BinaryOp) (ty : VmType) (d a b : ℕ) → length (binary_items op ty d a b) ≤ 4
 binary_short Add ty d a b = omega arith
 binary_short Subtract ty d a b = omega arith
 binary_short Multiply ty d a b = omega arith
@@ -77,20 +78,20 @@ binary_short And ty d a b = omega arith
 binary_short Or ty d a b = omega arith
 binary_short ExclusiveOr ty d a b = omega arith
 
-left_short : (narrow : Bool) (d a b : ℕ) → length (left_items narrow d a b) ≤ 8
+left_short : (narrow : Bool) (d a b : ℕ) → length (left_items narrow d a b) ≤ 3
 left_short true d a b = omega arith
 left_short false d a b = omega arith
 
-right_short : (narrow : Bool) (d a b : ℕ) → length (logical_right_items narrow d a b) ≤ 8
+right_short : (narrow : Bool) (d a b : ℕ) → length (logical_right_items narrow d a b) ≤ 3
 right_short true d a b = omega arith
 right_short false d a b = omega arith
 
-shift_short : (op : ShiftOp) (ty : VmType) (d a b : ℕ) → length (shift_items op ty d a b) ≤ 8
+shift_short : (op : ShiftOp) (ty : VmType) (d a b : ℕ) → length (shift_items op ty d a b) ≤ 3
 shift_short ArithmeticRight ty d a b = omega arith
 shift_short Left ty d a b = left_short (is_narrow ty) d a b
 shift_short LogicalRight ty d a b = right_short (is_narrow ty) d a b
 
-compare_short : (op : CompareOp) (ty : VmType) (d a b : ℕ) → length (compare_items op ty d a b) ≤ 8
+compare_short : (op : CompareOp) (ty : VmType) (d a b : ℕ) → length (compare_items op ty d a b) ≤ 2
 compare_short Equal ty d a b = omega arith
 compare_short NotEqual ty d a b = omega arith
 compare_short Less ty d a b = omega arith
@@ -108,29 +109,29 @@ byte_short : (d : Option ℕ) (a : ℕ) → length (byte_items d a) ≤ 1
 byte_short None a = omega arith
 byte_short (Some d) a = omega arith
 
-put_char_short : (d : Option ℕ) (arguments : List ℕ) → length (put_char_items d arguments) ≤ 8
+put_char_short : (d : Option ℕ) (arguments : List ℕ) → length (put_char_items d arguments) ≤ 4
 put_char_short d [] = omega arith
 put_char_short d (a ∷ arguments) = omega (arith, byte_short d a)
 
-exit_short : (arguments : List ℕ) → length (exit_items arguments) ≤ 8
+exit_short : (arguments : List ℕ) → length (exit_items arguments) ≤ 4
 exit_short [] = omega arith
 exit_short (a ∷ arguments) = omega arith
 
-builtin_short : (d : Option ℕ) (b : Builtin) (arguments : List ℕ) → length (builtin_items d b arguments) ≤ 8
+builtin_short : (d : Option ℕ) (b : Builtin) (arguments : List ℕ) → length (builtin_items d b arguments) ≤ 4
 builtin_short d PutChar arguments = put_char_short d arguments
 builtin_short d GetChar arguments = omega (arith, result_short d)
 builtin_short d Abort arguments = omega arith
 builtin_short d Exit arguments = exit_short arguments
 
-call_short : (d : Option ℕ) (c : Callee) (arguments : List ℕ) → length (call_items d c arguments) ≤ 8 + 4 * length arguments
+call_short : (d : Option ℕ) (c : Callee) (arguments : List ℕ) → length (call_items d c arguments) ≤ 4 + length arguments
 call_short d (callee.Function k) arguments = omega (arith, length-append (pass_items 0 arguments) (Call k (length arguments) ∷ result_items d), length-pass 0 arguments, result_short d)
 call_short d (callee.Builtin b) arguments = omega (arith, builtin_short d b arguments)
 
-return_short : (value : Option TypedRegister) → length (return_items value) ≤ 8
+return_short : (value : Option TypedRegister) → length (return_items value) ≤ 2
 return_short None = omega arith
 return_short (Some value) = omega arith
 
-pub insn_short : (y : VmInsn) → length (insn_items y) ≤ 8 + 4 * weight_of y
+pub insn_short : (y : VmInsn) → length (insn_items y) ≤ most_insns y
 insn_short (x.LoadConstant ty d word) = omega (arith, making.short (temp_of d) word)
 insn_short (x.LoadAddress d place plus) = omega arith
 insn_short (x.Load ty d p plus) = omega (arith, load_short ty (temp_of d) (temp_of p) plus)
@@ -148,11 +149,30 @@ insn_short (x.Return value) = omega (arith, return_short value)
 insn_short x.Mark = omega arith
 insn_short x.Nop = omega arith
 
+-- the most that an instruction becomes, by what counts for it
+most_short : (y : VmInsn) → most_insns y ≤ 8 + 4 * weight_of y
+most_short (x.LoadConstant ty d word) = omega arith
+most_short (x.LoadAddress d place plus) = omega arith
+most_short (x.Load ty d p plus) = omega arith
+most_short (x.Store ty p plus a) = omega arith
+most_short (x.Copy to from size align) = omega arith
+most_short (x.Unary op ty d a) = omega arith
+most_short (x.Binary op ty d a b) = omega arith
+most_short (x.Shift op ty d a b) = omega arith
+most_short (x.Convert from to d a) = omega arith
+most_short (x.Compare op ty d a b) = omega arith
+most_short (x.Branch op ty a block) = omega arith
+most_short (x.Jump block) = omega arith
+most_short (x.Call d c arguments) = omega arith
+most_short (x.Return value) = omega arith
+most_short x.Mark = omega arith
+most_short x.Nop = omega arith
+
 -- ---- blocks and functions
 
 insns_short : (insns : List VmInsn) → length (insns_items insns) ≤ 8 * length insns + 4 * sum_by weight_of insns
 insns_short [] = omega arith
-insns_short (y ∷ insns) = omega (arith, length-append (insn_items y) (insns_items insns), insn_short y, insns_short insns, sum_by-cons weight_of y insns)
+insns_short (y ∷ insns) = omega (arith, length-append (insn_items y) (insns_items insns), insn_short y, most_short y, insns_short insns, sum_by-cons weight_of y insns)
 
 blocks_short : (blocks : List (List VmInsn)) → count_of (map insns_items blocks) ≤ 8 * count_of blocks + 4 * sum_by (λ block. sum_by weight_of block) blocks
 blocks_short [] = omega arith
@@ -175,7 +195,7 @@ length-front : (xs : List TempInsn) (blocks : List (List TempInsn)) → length (
 length-front xs [] = refl
 length-front xs (block ∷ blocks) = refl
 
-length-take_items : (k count : ℕ) → length (take_items k count) ≡ count
+pub length-take_items : (k count : ℕ) → length (take_items k count) ≡ count
 length-take_items k zero = refl
 length-take_items k (suc count) = ap suc (length-take_items (suc k) count)
 

@@ -1,0 +1,4 @@
+pub mod Lengths
+mod Calls
+mod Edges
+pub mod Costs
