@@ -1,3 +1,3 @@
-mod Holding
-mod Fits
-mod Tops
+pub mod Holding
+pub mod Fits
+pub mod Tops

@@ -1,0 +1,5 @@
+use Rattle.flat_globals.proofs.Stands.{globals_stand, data_has_owners}
+use Rattle.flat_globals.proofs.laws.globals_stand.Goals as goal
+
+pub returns : goal.returns
+returns c = record { memory = globals_stand; owners = data_has_owners }

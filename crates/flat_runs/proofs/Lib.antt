@@ -1,0 +1,4 @@
+pub mod Machines
+pub mod Turns
+pub mod Forward
+pub mod Only

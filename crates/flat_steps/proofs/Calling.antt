@@ -1,0 +1,242 @@
+-- A step at a call of a function, and one at a return.
+use Rattle.std.proofs.Common.{◌≡◌, ℕ, suc, ◌+◌, ◌-◌, ◌≤◌, Bool, List, [], ◌∷◌, Option, Some, None, length, refl, sym, ap, ◌∙◌, subst, arith, inl}
+use Rattle.std.specs.Prelude.{slice_get}
+use Rattle.alpha_isa.specs.State.{State}
+use Rattle.mem_model.specs.World.{Outer, Meter, room_of, enter_call, leave_call}
+use Rattle.machine_model.specs.Code.{Site, entry_point}
+use Rattle.machine_model.specs.Machine as machine
+use Rattle.machine_model.specs.Machine.{Frame, Config, Goes, world_of, begin_locals, end_locals, frame_after, resume, status_ending, return_to, act_on}
+use Rattle.temp_ir.specs.declared.insn.TempInsn.{TempInsn}
+use Rattle.temp_ir.specs.declared.insn.TempInsn.TheVariants as i
+use Rattle.alloc_model.specs.Contents.{Content}
+use Rattle.alloc_model.specs.Effect.{widest_call}
+use Rattle.alloc_model.specs.Temporaries.{sizes_in, status_of, is_left_at, site_or_next}
+use Rattle.alloc_model.specs.Places.{Places, Plan, transfers_at, registers_at, functions_of, do_all, placed_site, placed_code}
+use Rattle.flat_memory.proofs.Objects.{extents_grow}
+use Rattle.flat_frames.specs.Shapes.{Shape, frame_size, objects_at}
+use Rattle.frame_transfers.specs.Laws.{StandsFor}
+use Rattle.instruction_items.specs.Items.{Setting}
+use Rattle.instruction_items.specs.Laws.{usable, HasOuter, store_behind}
+use Rattle.instruction_items.proofs.Runs.{no-registers}
+use Rattle.call_stacks.specs.Stacks.{Waiting, StackIs}
+use Rattle.call_entries.specs.Entering.{extents_from, called_sp, called, waits, HasRoom, EntryIs}
+use Rattle.call_exits.specs.Leaving.{caller_of, resumed, ExitIs}
+use Rattle.stack_rooms.specs.Rooms.{frames_size}
+use Rattle.stack_rooms.proofs.Rooms.{frames_fill_stack, room_is_there}
+use Rattle.call_steps.proofs.Calls.{calls_are_done, returns_are_done, last_returns_are_done}
+use Rattle.function_shapes.specs.Shapes.{shape_of}
+use Rattle.function_shapes.proofs.Fits.{plans_fit}
+use Rattle.flat_steps.specs.Builds.{Build, IsBuilt}
+use Rattle.flat_steps.specs.Matching.{items_from, WaitsFor, AreWaiting, rooms_of, Matches, FitsStack, StepIsDone}
+use Rattle.flat_steps.proofs.Lists.{get-below, stands-at, get-map, insn-is, width-fits}
+use Rattle.flat_steps.proofs.Points.{site-is}
+use Rattle.flat_steps.proofs.Meters.{IsMetered, rooms-hold, small-frame}
+use Rattle.flat_steps.proofs.Matched.{built, same-shape, few, is-insn, may, stated, rest, stands-plain}
+
+-- the frames of calls hold that of the first one
+frames-hold : (s : Shape) (gs : List Waiting) → frame_size s ≤ frames_size s gs
+frames-hold s [] = omega arith
+frames-hold s (g ∷ gs) = omega arith
+
+module _ (b : Build) (ok : IsBuilt b) (k : Config Places) (s : State) (m : Matches b k s) where
+  -- what stands there
+  abbrev site : TempInsn → Site Content Places
+  site x = placed_site (widest_call m.plan.function.blocks) (transfers_at m.plan k.here.point.block k.here.point.at) (registers_at m.plan k.here.point.block k.here.point.at) x
+
+  abbrev held : Places
+  held = do_all (transfers_at m.plan k.here.point.block k.here.point.at) k.here.store
+
+  -- ---- a call
+
+  module _ (function arguments : ℕ) (there : slice_get m.insns k.here.point.at ≡ Some (i.Call function arguments)) (a : Plan) (is : slice_get b.plans function ≡ Some a) (t : Meter) (metered : IsMetered k.world.meter t) where
+    abbrev f : Setting
+    f = b.setting function
+
+    abbrev contents : List Content
+    contents = (site (i.Call function arguments)).fetch k.here.store
+
+    -- the config behind the call
+    abbrev inside : Config Places
+    inside = record {
+      here = record { point = entry_point function; own = length k.world.outer.memory; store = (placed_code b.plans).entry function contents };
+      callers = k.here ∷ k.callers;
+      world = world_of (begin_locals k.world.outer (sizes_in (slice_get (functions_of b.plans) function))) (enter_call b.rooms function t);
+    }
+
+    sizes-are : f.shape.sizes ≡ sizes_in (slice_get (functions_of b.plans) function)
+    sizes-are = ap (λ (z : Shape). z.sizes) (ok.functions function a is).shape ∙ ap sizes_in (sym (get-map (λ (z : Plan). z.function) b.plans function a is))
+
+    room : FitsStack b (Goes inside) → HasRoom b.program m.call f.shape
+    room fits =
+        let callee = ok.functions function a is in
+        let same = callee.shape in
+        let small = callee.small in
+        let own = callee.room in
+        let hold = rooms-hold b ok k.here m.plan m.insns m.call.shape k.callers m.waiting m.is_in m.shape m.waits in
+        let sum = m.room in
+        let turn = metered.room in
+        let here = small-frame b ok k.here.point m.plan m.insns m.call.shape m.is_in m.shape in
+        subst (λ z. HasRoom b.program m.call z) (sym callee.shape)
+        (room_is_there b.program b.there b.start m.call m.waiting k.here.store s (shape_of a) m.stack (omega (arith, own, hold, sum, turn, fits)) (omega (arith, small, here)))
+
+    narrow : arguments ≤ m.call.shape.outgoing + 6
+    narrow =
+        let width = width-fits m.plan.function.blocks k.here.point.block k.here.point.at m.insns (i.Call function arguments) m.is_in.block there in
+        let fit = few b ok k s m in
+        omega (arith, width, fit)
+
+    matched-inside : (insns : List TempInsn) → slice_get a.function.blocks 0 ≡ Some insns → (d : EntryIs b.program b.there b.start (items_from b a (entry_point function) insns) b.end m.call (called m.call f.shape (length k.world.outer.memory)) m.waiting k.world.outer held ((placed_code b.plans).entry function contents) (rest b ok k s m (i.Call function arguments) there) b.end s) → Matches b inside d.to
+    matched-inside insns first d =
+        let turn = metered.room in
+        let sum = m.room in
+        record {
+          call = called m.call f.shape (length k.world.outer.memory);
+          waiting = waits m.call held (rest b ok k s m (i.Call function arguments) there) b.end ∷ m.waiting;
+          plan = a;
+          insns = insns;
+          is_in = record { plan = is; block = first; within = omega arith };
+          shape = (ok.functions function a is).shape;
+          own = refl;
+          is_call = d.is_call;
+          globals = λ n e there-is. extents_grow m.call.extents (extents_from (called_sp m.call f.shape + objects_at f.shape) f.shape.sizes) n e (m.globals n e there-is);
+          stands = subst (λ l. StandsFor b.program b.there (items_from b a (entry_point function) insns) b.end (called m.call f.shape (length k.world.outer.memory)) (begin_locals k.world.outer l).memory usable ((placed_code b.plans).entry function contents) d.to) sizes-are d.stands;
+          stack = d.stack;
+          outer = subst (λ l. HasOuter (begin_locals k.world.outer l) d.to) sizes-are d.outer;
+          waits = (
+            record {
+              plan = m.plan;
+              insns = m.insns;
+              is_in = m.is_in;
+              function = function;
+              arguments = arguments;
+              stands = there;
+              shape = m.shape;
+              own = m.own;
+              held = refl;
+              behind = refl;
+              end = refl;
+            },
+            m.waits,
+          );
+          room = (let e : t.room + room_of b.rooms function ≡ room_of b.rooms function + rooms_of b.rooms (k.here ∷ k.callers) = omega (arith, turn, sum) in e);
+          peak = omega arith;
+        }
+
+    entering : FitsStack b (Goes inside) → StepIsDone b k s (Goes inside)
+    entering fits =
+        let callee = ok.functions function a is in
+        let first = stands-at a.function.blocks 0 callee.edges.entry in
+        let rs = registers_at m.plan k.here.point.block k.here.point.at in
+        let none = no-registers rs (stated b ok k s m (i.Call function arguments) there).count in
+        let d = calls_are_done b.program b.there b.start (b.setting k.here.point.function) (rest b ok k s m (i.Call function arguments) there) b.end m.call m.waiting k.world.outer k.here.store s m.is_call m.stack m.outer (transfers_at m.plan k.here.point.block k.here.point.at) (may b ok k s m (i.Call function arguments) there) (widest_call m.plan.function.blocks) function arguments rs none narrow a (b.setting function) (b.behind function) b.end callee.stands first.one first.is callee.edges.first (room fits) (stands-plain b ok k s m (i.Call function arguments) there refl) in
+        record { to = d.to; comes = d.comes; matches = matched-inside first.one first.is d; moves = inl d.some }
+
+  pub call-step : (function arguments : ℕ) (there : slice_get m.insns k.here.point.at ≡ Some (i.Call function arguments)) (t : Meter) → IsMetered k.world.meter t → FitsStack b (act_on Content Places b.rooms (placed_code b.plans) k t (site (i.Call function arguments)) ((site (i.Call function arguments)).does k.here.own ((site (i.Call function arguments)).fetch k.here.store) k.world.outer)) → StepIsDone b k s (act_on Content Places b.rooms (placed_code b.plans) k t (site (i.Call function arguments)) ((site (i.Call function arguments)).does k.here.own ((site (i.Call function arguments)).fetch k.here.store) k.world.outer))
+  call-step function arguments there t metered fits =
+      let z = stands-at b.plans function ((built b ok k s m).calls k.here.point.block k.here.point.at function arguments (is-insn b ok k s m (i.Call function arguments) there)) in
+      entering function arguments there z.one z.is t metered fits
+
+  -- ---- a return
+
+  module _ (with_value : Bool) (there : slice_get m.insns k.here.point.at ≡ Some (i.Return with_value)) (t : Meter) (metered : IsMetered k.world.meter t) where
+    abbrev returned : List Content
+    returned = (site (i.Return with_value)).fetch k.here.store
+
+    -- the outer part behind it
+    abbrev outer-behind : Outer
+    outer-behind = end_locals k.world.outer k.here.own (length ((placed_code b.plans).locals k.here.point.function))
+
+    abbrev meter-behind : Meter
+    meter-behind = leave_call b.rooms k.here.point.function t
+
+    sizes-there : m.call.shape.sizes ≡ (placed_code b.plans).locals k.here.point.function
+    sizes-there = ap (λ (z : Shape). z.sizes) m.shape ∙ ap sizes_in (sym (get-map (λ (z : Plan). z.function) b.plans k.here.point.function m.plan m.is_in.plan))
+
+    -- what the law of returns says of the outer part
+    same-outer : end_locals k.world.outer m.call.own (length m.call.shape.sizes) ≡ outer-behind
+    same-outer = ap (λ n. end_locals k.world.outer n (length m.call.shape.sizes)) m.own ∙ ap (λ l. end_locals k.world.outer k.here.own (length l)) sizes-there
+
+    empty-registers : registers_at m.plan k.here.point.block k.here.point.at ≡ []
+    empty-registers = no-registers (registers_at m.plan k.here.point.block k.here.point.at) (stated b ok k s m (i.Return with_value) there).count
+
+    last : m.waiting ≡ [] → (o : Option ℕ) → status_of returned ≡ o → StepIsDone b k s (machine.Over (status_ending Content Places b.rooms (placed_code b.plans) ((placed_code b.plans).number k.here.point) (world_of outer-behind meter-behind) o))
+    last alone None e = tt
+    last alone (Some status) e =
+        let stack = subst (λ gs. StackIs b.program b.there b.start m.call gs k.here.store s) alone m.stack in
+        let d = last_returns_are_done b.program b.there b.start (b.setting k.here.point.function) (rest b ok k s m (i.Return with_value) there) b.end m.call k.world.outer k.here.store s m.is_call (same-shape b ok k s m) stack m.outer ok.ending (transfers_at m.plan k.here.point.block k.here.point.at) (may b ok k s m (i.Return with_value) there) (widest_call m.plan.function.blocks) k.here.point.function status with_value (registers_at m.plan k.here.point.block k.here.point.at) empty-registers m.plan (b.behind k.here.point.function) b.end (built b ok k s m).stands e (stands-plain b ok k s m (i.Return with_value) there refl) in
+        record { steps = d.steps; last = d.last; run = d.run; output = d.output }
+
+    -- to a call that waits
+    module _ (fr : Frame Places) (fs : List (Frame Places)) (w : Waiting) (gs : List Waiting) (callers : k.callers ≡ fr ∷ fs) (waiting : m.waiting ≡ w ∷ gs) (h : WaitsFor b fr w) (above : AreWaiting b fs gs) where
+      abbrev caller-site : Site Content Places
+      caller-site = placed_site (widest_call h.plan.function.blocks) (transfers_at h.plan fr.point.block fr.point.at) (registers_at h.plan fr.point.block fr.point.at) (i.Call h.function h.arguments)
+
+      abbrev outside : Config Places
+      outside = record {
+        here = frame_after Content Places b.rooms (placed_code b.plans) caller-site returned fr;
+        callers = fs;
+        world = world_of outer-behind meter-behind;
+      }
+
+      caller-registers : registers_at h.plan fr.point.block fr.point.at ≡ []
+      caller-registers = no-registers (registers_at h.plan fr.point.block fr.point.at) ((plans_fit h.plan (ok.functions fr.point.function h.plan h.is_in.plan).faithful.lists).points fr.point.block fr.point.at (i.Call h.function h.arguments) (insn-is h.plan.function.blocks fr.point.block fr.point.at h.insns (i.Call h.function h.arguments) h.is_in.block h.stands)).stated.count
+
+      -- what it holds then
+      same-store : resumed h.function h.arguments w returned ≡ caller-site.put returned fr.store
+      same-store =
+          ap (λ z. store_behind [] (i.Call h.function h.arguments) z returned) h.held
+          ∙ ap (λ rs. store_behind rs (i.Call h.function h.arguments) (do_all (transfers_at h.plan fr.point.block fr.point.at) fr.store) returned) (sym caller-registers)
+
+      stack-here : StackIs b.program b.there b.start m.call (w ∷ gs) k.here.store s
+      stack-here = subst (λ l. StackIs b.program b.there b.start m.call l k.here.store s) waiting m.stack
+
+      matched-outside : (d : ExitIs b.program b.there b.start w gs (caller_of m.call (length gs) w) (end_locals k.world.outer m.call.own (length m.call.shape.sizes)) (resumed h.function h.arguments w returned) s) → Matches b outside d.to
+      matched-outside d =
+          let below = get-below h.insns fr.point.at (i.Call h.function h.arguments) h.stands in
+          let fill = frames_fill_stack b.program b.there b.start (caller_of m.call (length gs) w) gs (resumed h.function h.arguments w returned) d.to d.stack in
+          let least = frames-hold w.shape gs in
+          let small = small-frame b ok fr.point h.plan h.insns w.shape h.is_in h.shape in
+          let top = ok.top in
+          let turn = metered.room in
+          let same = metered.peak in
+          let peak = m.peak in
+          let sum = m.room ∙ ap (λ l. room_of b.rooms k.here.point.function + rooms_of b.rooms l) callers in
+          record {
+            call = caller_of m.call (length gs) w;
+            waiting = gs;
+            plan = h.plan;
+            insns = h.insns;
+            is_in = record { plan = h.is_in.plan; block = h.is_in.block; within = omega (arith, below) };
+            shape = h.shape;
+            own = h.own;
+            is_call = record { small = omega (arith, fill, least, top); near = omega (arith, small) };
+            globals = m.globals;
+            stands = subst (λ o. StandsFor b.program b.there (items_from b h.plan (record fr.point { at = suc fr.point.at }) h.insns) b.end (caller_of m.call (length gs) w) o.memory usable (caller-site.put returned fr.store) d.to) same-outer
+                (subst (λ z. StandsFor b.program b.there (items_from b h.plan (record fr.point { at = suc fr.point.at }) h.insns) b.end (caller_of m.call (length gs) w) (end_locals k.world.outer m.call.own (length m.call.shape.sizes)).memory usable z d.to) same-store
+                (subst (λ n. StandsFor b.program b.there (items_from b h.plan (record fr.point { at = suc fr.point.at }) h.insns) n (caller_of m.call (length gs) w) (end_locals k.world.outer m.call.own (length m.call.shape.sizes)).memory usable (resumed h.function h.arguments w returned) d.to) h.end
+                (subst (λ l. StandsFor b.program b.there l w.end (caller_of m.call (length gs) w) (end_locals k.world.outer m.call.own (length m.call.shape.sizes)).memory usable (resumed h.function h.arguments w returned) d.to) h.behind d.stands)));
+            stack = subst (λ z. StackIs b.program b.there b.start (caller_of m.call (length gs) w) gs z d.to) same-store d.stack;
+            outer = subst (λ o. HasOuter o d.to) same-outer d.outer;
+            waits = above;
+            room = (let e : t.room - room_of b.rooms k.here.point.function ≡ rooms_of b.rooms (fr ∷ fs) = omega (arith, turn, sum) in e);
+            peak = omega (arith, turn, same, peak);
+          }
+
+      leaving : StepIsDone b k s (Goes outside)
+      leaving =
+          let d = returns_are_done b.program b.there b.start (b.setting k.here.point.function) (rest b ok k s m (i.Return with_value) there) b.end m.call w gs k.world.outer k.here.store s m.is_call (same-shape b ok k s m) stack-here m.outer (transfers_at m.plan k.here.point.block k.here.point.at) (may b ok k s m (i.Return with_value) there) (widest_call m.plan.function.blocks) h.function h.arguments k.here.point.function with_value (registers_at m.plan k.here.point.block k.here.point.at) empty-registers m.plan (b.behind k.here.point.function) b.end (built b ok k s m).stands (stands-plain b ok k s m (i.Return with_value) there refl) in
+          record { to = d.to; comes = d.comes; matches = matched-outside d; moves = inl d.some }
+
+      resuming : StepIsDone b k s (resume Content Places b.rooms (placed_code b.plans) fr fs (world_of outer-behind meter-behind) returned ((placed_code b.plans).site fr.point))
+      resuming =
+          let is = site-is b fr.point h.plan h.insns h.is_in ∙ ap (site_or_next (placed_site (widest_call h.plan.function.blocks) (transfers_at h.plan fr.point.block fr.point.at) (registers_at h.plan fr.point.block fr.point.at)) fr.point.block (is_left_at h.insns fr.point.at)) h.stands in
+          subst (λ o. StepIsDone b k s (resume Content Places b.rooms (placed_code b.plans) fr fs (world_of outer-behind meter-behind) returned o)) (sym is) leaving
+
+    returning : (fs : List (Frame Places)) (gs : List Waiting) → k.callers ≡ fs → m.waiting ≡ gs → AreWaiting b fs gs → StepIsDone b k s (return_to Content Places b.rooms (placed_code b.plans) ((placed_code b.plans).number k.here.point) returned (world_of outer-behind meter-behind) fs)
+    returning [] [] callers waiting h = last waiting (status_of returned) refl
+    returning (fr ∷ fs) (w ∷ gs) callers waiting h = resuming fr fs w gs callers waiting h.0 h.1
+    returning [] (w ∷ gs) callers waiting h = absurd h
+    returning (fr ∷ fs) [] callers waiting h = absurd h
+
+  pub return-step : (with_value : Bool) (there : slice_get m.insns k.here.point.at ≡ Some (i.Return with_value)) (t : Meter) → IsMetered k.world.meter t → StepIsDone b k s (act_on Content Places b.rooms (placed_code b.plans) k t (site (i.Return with_value)) ((site (i.Return with_value)).does k.here.own ((site (i.Return with_value)).fetch k.here.store) k.world.outer))
+  return-step with_value there t metered = returning with_value there t metered k.callers m.waiting refl refl m.waits

@@ -1,0 +1,9 @@
+pub mod Lists
+pub mod Points
+pub mod Meters
+pub mod Matched
+pub mod Naming
+pub mod Local
+pub mod Going
+pub mod Calling
+pub mod Steps

@@ -1,0 +1,125 @@
+-- When the machine stands for a run over registers and slots, and that it follows each step of the run.
+use Rattle.std.specs.Prelude.{◌≡◌, ℕ, suc, ◌+◌, ◌≤◌, ◌⊎◌, List, [], ◌∷◌, drop, length, Option, Some, None, slice_get}
+use Rattle.alpha_isa.specs.Program.{stack_start}
+use Rattle.alpha_isa.specs.State.{State}
+use Rattle.alpha_isa.specs.Step as step
+use Rattle.alpha_items.specs.declared.item.AsmItem.{AsmItem}
+use Rattle.item_steps.specs.Steps.{Comes}
+use Rattle.mem_model.specs.World.{Rooms, room_of}
+use Rattle.mem_model.specs.Ending.{Done, Trap, Undefined, More}
+use Rattle.machine_model.specs.Code.{Point}
+use Rattle.machine_model.specs.Machine as machine
+use Rattle.machine_model.specs.Machine.{Frame, Config, Next, Goes, Over}
+use Rattle.machine_model.specs.Laws.{next_world}
+use Rattle.temp_ir.specs.declared.insn.TempInsn.{TempInsn}
+use Rattle.temp_ir.specs.declared.insn.TempInsn.TheVariants as i
+use Rattle.alloc_model.specs.Contents.{Content}
+use Rattle.alloc_model.specs.Places.{Places, Plan, linear_number, transfers_at, do_all, placed_code}
+use Rattle.flat_memory.specs.Laws.{MoreExtents}
+use Rattle.frame_transfers.specs.Items.{items_of_transfers}
+use Rattle.frame_transfers.specs.Laws.{Call, IsCall, StandsFor}
+use Rattle.instruction_items.specs.Laws.{usable, HasOuter, IsOver}
+use Rattle.call_stacks.specs.Stacks.{Waiting, StackIs}
+use Rattle.function_items.specs.Items.{insns_items, end_transfers, blocks_items, exit_items}
+use Rattle.function_shapes.specs.Shapes.{shape_of}
+use Rattle.flat_steps.specs.Builds.{Build, IsBuilt}
+
+-- ---- places
+
+-- a point stands in a block of a plan, or at its end
+pub record IsIn (b : Build) (p : Point) (a : Plan) (insns : List TempInsn) : Type 0 where
+  pub plan : slice_get b.plans p.function ≡ Some a
+  pub block : slice_get a.function.blocks p.block ≡ Some insns
+  pub within : p.at ≤ length insns
+
+-- the items of its function from it on
+abbrev pub items_from : Build → Plan → Point → List TempInsn → List AsmItem
+items_from b a p insns =
+    insns_items a (b.setting p.function) p.block p.at (drop p.at insns)
+    (items_of_transfers (b.setting p.function).shape (end_transfers a p.block insns)
+    (blocks_items a (b.setting p.function) (suc p.block) (drop (suc p.block) a.function.blocks)
+    (exit_items (b.setting p.function) (b.behind p.function))))
+
+-- ---- calls that wait
+
+-- a call that waits stands at a call, and is kept on the stack as it is once the transfers before that are done
+pub record WaitsFor (b : Build) (f : Frame Places) (g : Waiting) : Type 0 where
+  pub plan : Plan
+  pub insns : List TempInsn
+  pub is_in : IsIn b f.point plan insns
+  pub function : ℕ
+  pub arguments : ℕ
+  pub stands : slice_get insns f.point.at ≡ Some (i.Call function arguments)
+  pub shape : g.shape ≡ shape_of plan
+  pub own : g.own ≡ f.own
+  pub held : g.held ≡ do_all (transfers_at plan f.point.block f.point.at) f.store
+  pub behind : g.behind ≡ items_from b plan (record f.point { at = suc f.point.at }) insns
+  pub end : g.end ≡ b.end
+
+abbrev pub AreWaiting : Build → List (Frame Places) → List Waiting → Type 0
+AreWaiting b [] [] = Unit {0}
+AreWaiting b (f ∷ fs) (g ∷ gs) = WaitsFor b f g × AreWaiting b fs gs
+AreWaiting b _ _ = ⊥
+
+-- the sum of the rooms of calls
+abbrev pub rooms_of : Rooms → List (Frame Places) → ℕ
+rooms_of rooms [] = 0
+rooms_of rooms (f ∷ fs) = room_of rooms f.point.function + rooms_of rooms fs
+
+-- ---- the machine stands for a run
+
+pub record Matches (b : Build) (k : Config Places) (s : State) : Type 0 where
+  pub call : Call
+  pub waiting : List Waiting
+  pub plan : Plan
+  pub insns : List TempInsn
+  pub is_in : IsIn b k.here.point plan insns
+  pub shape : call.shape ≡ shape_of plan
+  pub own : call.own ≡ k.here.own
+  pub is_call : IsCall call
+  pub globals : MoreExtents b.globals call.extents
+  pub stands : StandsFor b.program b.there (items_from b plan k.here.point insns) b.end call k.world.outer.memory usable
+      k.here.store s
+  pub stack : StackIs b.program b.there b.start call waiting k.here.store s
+  pub outer : HasOuter k.world.outer s
+  pub waits : AreWaiting b k.callers waiting
+  pub room : k.world.meter.room ≡ rooms_of b.rooms (k.here ∷ k.callers)
+  pub peak : k.world.meter.room ≤ k.world.meter.peak
+
+-- ---- steps
+
+-- how many instructions and blocks of its function stand before a point
+abbrev pub place_in : Option Plan → Point → ℕ
+place_in None p = 0
+place_in (Some a) p = linear_number a.function.blocks p.block p.at + p.block
+
+abbrev pub place_of : Build → Point → ℕ
+place_of b p = place_in (slice_get b.plans p.function) p
+
+-- the machine comes to where it stands for what a step leads to; where it takes no step itself, the run goes on by one
+-- place
+pub record IsFollowed (b : Build) (k d : Config Places) (s : State) : Type 0 where
+  pub to : State
+  pub comes : Comes b.program s to
+  pub matches : Matches b d to
+  pub moves : (1 ≤ comes.steps) ⊎ (place_of b d.here.point ≡ suc (place_of b k.here.point))
+
+-- so much of the stack is used as there is
+abbrev pub FitsStack : Build → Next Places → Type 0
+FitsStack b n = stack_start b.program + (next_world n).meter.peak ≤ b.start.top
+
+-- the machine does what a step comes to, unless that is Undefined
+abbrev pub StepIsDone : Build → Config Places → State → Next Places → Type 0
+StepIsDone b k s (Goes d) = IsFollowed b k d s
+StepIsDone b k s (Over (Done w status)) = IsOver b.program w.outer (step.Done status) s
+StepIsDone b k s (Over (Trap w code)) = IsOver b.program w.outer (step.Trap code) s
+StepIsDone b k s (Over (Undefined w at)) = Unit {0}
+StepIsDone b k s (Over (More w)) = (k.world.meter.turns ≡ 0) × (w.outer.output ≡ s.output)
+
+abbrev pub step_of : Build → Config Places → Next Places
+step_of b k = machine.step Content Places b.rooms (placed_code b.plans) k
+
+abbrev pub StepsAreDone : Type 0
+StepsAreDone =
+    (b : Build) → IsBuilt b → (k : Config Places) (s : State) → Matches b k s → FitsStack b (step_of b k) →
+    StepIsDone b k s (step_of b k)
