@@ -25,7 +25,7 @@ use Rattle.c_expressions.specs.Expressions.{judge, judge_row, derive, length_hel
 use Rattle.c_tree.specs.declared.types.TypeName.{TypeName}
 use Rattle.c_expressions.specs.Expressions.{type_name}
 use Rattle.c_type_laws.specs.Typed.{IsFitType, IsTypedIn}
-use Rattle.c_judgement_laws.specs.Covers.{HasNames, Knows, Takes, IsLawfulContext, IsJudged}
+use Rattle.c_judgement_laws.specs.Covers.{HasNames, Knows, Takes, IsLawfulContext, IsJudged, AreJudged}
 use Rattle.c_judgement_laws.proofs.Notes.{Later, later_then, found_itself, found_later}
 use Rattle.c_judgement_laws.proofs.Forms.{prefix_judged, between_judged, assignment_judged, element_judged, choice_judged, cast_judged, size_name_judged, behind_judged, integer_judged, character_judged, name_judged, string_judged, field_judged, arrow_judged}
 use Rattle.c_expression_laws.specs.Types.{AreTypes, IsTypeIn, HasTypedefs}
