@@ -7,3 +7,4 @@ mod Given
 mod Faithfulness
 mod Counts
 mod Loops
+mod Lean

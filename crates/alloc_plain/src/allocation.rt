@@ -5,6 +5,7 @@ ghost use Rattle.temp_ir.specs.Fixed.{is_settled};
 ghost use Rattle.alloc_model.specs.Temporaries.{code_of};
 ghost use Rattle.alloc_model.specs.Places.{plan_of};
 ghost use Rattle.alloc_model.specs.Faithful.{Faithful};
+ghost use Rattle.alloc_rules.specs.Lean.{IsLean};
 ghost use Rattle.alloc_plain.specs.Plain.{plain_plan};
 
 use crate::blocks::{all_registers, all_transfers, empty_maps};
@@ -49,6 +50,7 @@ fn plain_lists(alloc: Global, f: &Func<TempInsn>) -> Result<Allocation, AllocErr
 pub fn plain(alloc: Global, f: &Func<TempInsn>) -> Result<Allocation, AllocError>
     requires { IsTrue (is_settled f.now.params f.now.blocks) }
     ensures faithful { IfOk result (λ a. Faithful (plan_of a)) }
+    ensures lean { IfOk result (λ a. IsLean (plan_of a)) }
     ensures plan { IfOk result (λ a. plan_of a ≡ plain_plan (code_of f.now) f.now.params f.now.temps) }
     ensures name { IfOk result (λ a. a.func.name ≡ f.now.name) }
     ensures params { IfOk result (λ a. a.func.params ≡ f.now.params) }

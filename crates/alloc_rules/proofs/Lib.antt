@@ -2,3 +2,5 @@ mod FrugalExamples
 mod Sets
 mod Unique
 mod WrongPlacements
+mod WrongReplays
+mod Journals

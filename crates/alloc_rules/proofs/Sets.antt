@@ -11,7 +11,7 @@ pub one_more : (sets : List (List Bool)) (count bound : ℕ) → sets ≡ replic
     sets ++ replicate bound false ∷ [] ≡ replicate (count + 1) (replicate bound false)
 one_more sets count bound e = ap (λ s. s ++ replicate bound false ∷ []) e ∙ replicate_more count (replicate bound false)
 
-same_bool : (x y : Bool) → (x ≡ true → y ≡ true) → (y ≡ true → x ≡ true) → x ≡ y
+pub same_bool : (x y : Bool) → (x ≡ true → y ≡ true) → (y ≡ true → x ≡ true) → x ≡ y
 same_bool true y there back = sym (there refl)
 same_bool false true there back = back refl
 same_bool false false there back = refl

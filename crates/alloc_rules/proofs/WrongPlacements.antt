@@ -46,7 +46,7 @@ differ e = cc
 not_given : (r : ℕ) → has_number given_registers r ≡ false → IsGiven r → ⊥
 not_given r none given = differ (sym none ∙ is_there given_registers r given)
 
-not_scratch : IsGiven 28 → ⊥
+pub not_scratch : IsGiven 28 → ⊥
 not_scratch = not_given 28 refl
 
 not_stack : IsGiven 30 → ⊥
@@ -55,11 +55,11 @@ not_stack = not_given 30 refl
 -- ---- what stands where behind the first instruction, which writes temporary 0 into register 1
 
 -- two claims of a set that was changed by one write of temporary 0
-lost_slot : (h : Type 0) → ((h × (Temp 0 ≢ Temp 0)) × (Slot 0 ≢ Reg 1)) ⊎ ((Temp 0 ≡ Temp 0) × (Slot 0 ≡ Reg 1)) → ⊥
+pub lost_slot : (h : Type 0) → ((h × (Temp 0 ≢ Temp 0)) × (Slot 0 ≢ Reg 1)) ⊎ ((Temp 0 ≡ Temp 0) × (Slot 0 ≡ Reg 1)) → ⊥
 lost_slot h (inl ((k, ne), other)) = ne refl
 lost_slot h (inr (same, e)) = slot_apart 0 1 e
 
-lost_register : (h : Type 0) → ((h × (Temp 0 ≢ Temp 0)) × (Reg 2 ≢ Reg 1)) ⊎ ((Temp 0 ≡ Temp 0) × (Reg 2 ≡ Reg 1)) → ⊥
+pub lost_register : (h : Type 0) → ((h × (Temp 0 ≢ Temp 0)) × (Reg 2 ≢ Reg 1)) ⊎ ((Temp 0 ≡ Temp 0) × (Reg 2 ≡ Reg 1)) → ⊥
 lost_register h (inl ((k, ne), other)) = ne refl
 lost_register h (inr (same, e)) = registers_apart 2 1 (λ e. omega (arith, e)) e
 
@@ -74,7 +74,7 @@ lost_value h (inl (k, ne)) = ne refl
 lost_value h (inr (same, e)) = temporary_apart 0 0 same
 
 -- a move of temporary 0 into register 2 takes it from temporary 1
-temps_apart : (a b : ℕ) → a ≢ b → Temp a ≡ Temp b → ⊥
+pub temps_apart : (a b : ℕ) → a ≢ b → Temp a ≡ Temp b → ⊥
 temps_apart a b ne e = ne (cc)
 
 lost_by_move : (h : Type 0) → (h × (Reg 2 ≢ Reg 2)) ⊎ ((Temp 1 ≡ Temp 0) × (Reg 2 ≡ Reg 2)) → ⊥

@@ -1,6 +1,9 @@
 -- The journal of an allocation, by the replay of the finished function: for each instruction in linear order its visit,
--- and then what was done there.
-use Rattle.std.specs.Prelude.{ℕ, suc, ◌+◌, ◌*◌, Bool, List, [], ◌∷◌, ◌++◌, map, zip, flat_map, Option, Some, None, if◌then◌else◌}
+-- and then what was done there: each temporary that leaves a register for its slot, by rising number; the transfers
+-- before the instruction, in their order; each temporary that gets a register by a load or a write, reads before writes;
+-- and each temporary that is written. A temporary keeps its place until something takes its register, in holes of its
+-- lifetime too, so it leaves there wherever its lifetime covers the point. A write that keeps its register gives none.
+use Rattle.std.specs.Prelude.{◌≡◌, ℕ, suc, ◌+◌, ◌*◌, Bool, List, [], ◌∷◌, ◌++◌, map, zip, flat_map, Option, Some, None, if◌then◌else◌}
 use Rattle.temp_ir.specs.declared.insn.TempInsn.{TempInsn}
 use Rattle.temp_ir.specs.Insns.{writes_of}
 use Rattle.alloc_model.specs.declared.allocation.Transfer.{Transfer}
@@ -8,7 +11,7 @@ use Rattle.alloc_model.specs.declared.allocation.Transfer.TheVariants.{Store, Lo
 use Rattle.alloc_model.specs.declared.allocation.Event.{Event}
 use Rattle.alloc_model.specs.declared.allocation.Event.TheVariants as event
 use Rattle.alloc_model.specs.Places.{Plan, linear_number, transfers_at, registers_at}
-use Rattle.alloc_rules.specs.Visits.{Wants, Homes, homes_behind_moves, homes_left, registers_written, homes_before, all_temps, register_of}
+use Rattle.alloc_rules.specs.Visits.{Wants, AreWants, Homes, homes_behind_moves, homes_left, registers_written, homes_before, all_temps, register_of}
 use Rattle.alloc_rules.specs.Frugal.{is_covered}
 
 -- a temporary whose lifetime covers a point leaves a register for its slot there
@@ -68,3 +71,13 @@ blocks_events a wants block (insns ∷ blocks) =
 
 abbrev pub journal_of : Plan → Wants → List Event
 journal_of a wants = blocks_events a wants 0 a.function.blocks
+
+-- the journal of an allocation, with the temporaries wanted where its function wants them
+pub record IsJournal (a : Plan) (journal : List Event) : Type 0 where
+  pub wants : Wants
+  pub are_wants : AreWants a wants
+  pub is : journal ≡ journal_of a wants
+
+-- an allocation has one journal at most
+abbrev pub JournalsAreUnique : Type 0
+JournalsAreUnique = (a : Plan) (journal other : List Event) → IsJournal a journal → IsJournal a other → journal ≡ other

@@ -1,5 +1,6 @@
 use Rattle.std.proofs.lemmas.Result.{IfOk-weaker}
 use Rattle.alloc_plain.proofs.Faithfulness.{faithful_by_plan, slots_by_plan}
+use Rattle.alloc_plain.proofs.Lean.{lean_by_plan}
 use Rattle.alloc_plain.proofs.allocation.plain.Goals as goal
 
 pub returns-clause-faithful : goal.returns-clause-faithful
@@ -8,3 +9,6 @@ returns-clause-faithful c =
 
 pub returns-clause-slots : goal.returns-clause-slots
 returns-clause-slots c = IfOk-weaker c.plain_lists.result _ _ (slots_by_plan c.args.f.now) c.plain_lists.ensures.plan
+
+pub returns-clause-lean : goal.returns-clause-lean
+returns-clause-lean c = IfOk-weaker c.plain_lists.result _ _ (lean_by_plan c.args.f.now) c.plain_lists.ensures.plan
