@@ -1,1 +1,4 @@
+pub mod Counts
+pub mod Begun
 pub mod Declarations
+pub mod ForLoops

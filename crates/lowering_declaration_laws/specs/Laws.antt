@@ -1,36 +1,66 @@
--- What is said of the code of blocks and declarations whose locals stand in registers (C99 6.7.8, 6.8.2).
-use Rattle.std.specs.Prelude.{◌≡◌, ℕ, false, List, [], ◌∷◌, slice_get, Some, None}
+-- What is said of the code of blocks, of declarations, and of a `for` that declares (C99 6.7.8, 6.8.2, 6.8.5.3).
+use Rattle.std.specs.Prelude.{◌≡◌, ◌≤◌, ℕ, true, List, [], ◌∷◌, slice_get, Option, Some, None}
+use Rattle.data_object.specs.declared.TheConstants.{MOST_DATA}
+use Rattle.c_typed_tree.specs.declared.types.StructDef.{StructDef}
 use Rattle.c_typed_tree.specs.declared.units.Local.{Local}
+use Rattle.c_typed_tree.specs.Types.{Struct}
 use Rattle.c_typed_tree.specs.View.{type_view}
+use Rattle.c_typed_tree.specs.Layout.{size_of}
 use Rattle.c_typed_tree.specs.Expressions.{Expr, type_of}
-use Rattle.c_typed_tree.specs.Statements.{Stmt, Stmts, Block, Declare}
+use Rattle.c_typed_tree.specs.Statements.{LocalDeclaration, Stmt, Stmts, Block, Declare, For, Locals}
+use Rattle.c_typed_tree.specs.Declarations.{declarations, stmts_declarations}
 use Rattle.c_semantics.specs.Runs.{Run}
 use Rattle.c_semantics.specs.Objects.{Scope}
-use Rattle.c_semantics.specs.Executes.{Flow, declared_in}
+use Rattle.c_semantics.specs.Executes.{Flow, declared_in, declared_first}
 use Rattle.lowering_expression_laws.specs.Parts.{Setting, ExprMeets}
 use Rattle.lowering_expression_laws.specs.Laws.{IsScalarType}
+use Rattle.lowering_access_laws.specs.Laws.{IsWholeStruct}
 use Rattle.lowering_statement_laws.specs.Parts.{StmtMeets, StmtsMeet}
+use Rattle.lowering_loop_laws.specs.Laws.{Levels, at_level, AreLevels}
+use Rattle.lowering_for_laws.specs.Laws.{StepMeets, ConditionMeets}
 
--- a local that is no object
-pub record IsInRegister (locals : List Local) (k : ℕ) : Type 0 where
+-- a local is there, and no larger than the data may be where it is an object
+pub record MayDeclare (structs : List StructDef) (locals : List Local) (k : ℕ) : Type 0 where
   pub local : Local
   pub found : slice_get locals k ≡ Some local
-  pub register : local.in_memory ≡ false
+  pub small : local.in_memory ≡ true → size_of structs (type_view local.ty) ≤ MOST_DATA
 
-abbrev pub AreInRegisters : List Local → List ℕ → Type 0
-AreInRegisters locals [] = Unit {0}
-AreInRegisters locals (k ∷ ks) = IsInRegister locals k × AreInRegisters locals ks
+abbrev pub MayDeclareAll : List StructDef → List Local → List ℕ → Type 0
+MayDeclareAll structs locals [] = Unit {0}
+MayDeclareAll structs locals (k ∷ ks) = MayDeclare structs locals k × MayDeclareAll structs locals ks
+
+-- the code of each declaration does what it does
+abbrev pub AllMeet : (c : Setting) → (Scope → Stmt → Run Flow) → List LocalDeclaration → Type 0
+AllMeet c again [] = Unit {0}
+AllMeet c again (d ∷ ds) = StmtMeets c again (Declare d) × AllMeet c again ds
 
 pub record Declarations (c : Setting) (again : Scope → Stmt → Run Flow) : Type 0 where
-  pub blocks : (ss : Stmts) → AreInRegisters c.locals (declared_in ss) → StmtsMeet c again ss
-      → StmtMeets c again (Block ss)
-  pub without_value : (k : ℕ) → IsInRegister c.locals k
+  -- a block declares each local once at most
+  pub blocks : (ss : Stmts) → MayDeclareAll c.structs c.locals (declared_in ss) → ((k : ℕ) → stmts_declarations k ss ≤ 1)
+      → StmtsMeet c again ss → StmtMeets c again (Block ss)
+  pub without_value : (k : ℕ) (l : Local) → slice_get c.locals k ≡ Some l
       → StmtMeets c again (Declare (record { number = k; init = None }))
-  pub with_value : (k : ℕ) (here : IsInRegister c.locals k) (x : Expr) → IsScalarType (type_view here.local.ty)
-      → type_of x ≡ type_view here.local.ty → ExprMeets c x
+  pub with_scalar : (k : ℕ) (l : Local) (x : Expr) → slice_get c.locals k ≡ Some l → IsScalarType (type_view l.ty)
+      → type_of x ≡ type_view l.ty → ExprMeets c x
+      → StmtMeets c again (Declare (record { number = k; init = Some x }))
+  -- a struct stands in memory
+  pub with_struct : (k : ℕ) (l : Local) (x : Expr) (number : ℕ) → slice_get c.locals k ≡ Some l → l.in_memory ≡ true
+      → type_view l.ty ≡ Struct number → type_of x ≡ type_view l.ty → IsWholeStruct c number → ExprMeets c x
       → StmtMeets c again (Declare (record { number = k; init = Some x }))
 
 abbrev pub DeclarationsMeet : Type 0
 DeclarationsMeet =
     (c : Setting) (again : Scope → Stmt → Run Flow) → slice_get c.functions c.number ≡ Some c.code
     → Declarations c again
+
+-- a `for` whose first part declares locals, each once at most in the whole of it
+abbrev pub DeclaringForLoopsMeet : Type 0
+DeclaringForLoopsMeet =
+    (c : Setting) (levels : Levels) → slice_get c.functions c.number ≡ Some c.code → AreLevels c levels →
+    (ds : List LocalDeclaration) (condition step : Option Expr) (body : Stmt) →
+    MayDeclareAll c.structs c.locals (declared_first (Locals ds)) →
+    ((k : ℕ) → declarations k (For (Locals ds) condition step body) ≤ 1) →
+    ((k : ℕ) → AllMeet (at_level c levels k) (levels.statements k) ds) →
+    ((k : ℕ) → ConditionMeets (at_level c levels k) condition) → ((k : ℕ) → StepMeets (at_level c levels k) step) →
+    ((k : ℕ) → StmtMeets (at_level c levels k) (levels.statements k) body) → (k : ℕ) →
+    StmtMeets (at_level c levels k) (levels.statements k) (For (Locals ds) condition step body)

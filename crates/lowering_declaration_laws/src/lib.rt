@@ -1,4 +1,4 @@
-//! What the code of blocks and declarations does, where their locals stand in registers.
+//! What the code of blocks, of declarations, and of a `for` that declares does.
 #![tactic(auto)]
 
 pub mod laws;

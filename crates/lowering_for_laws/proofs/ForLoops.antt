@@ -27,7 +27,8 @@ use Rattle.lowering_expression_places.proofs.Behind.{at_start}
 use Rattle.lowering_expression_laws.specs.Parts.{Setting, count, EndsSo, Stands, Fit, Aft}
 use Rattle.lowering_expression_laws.proofs.Forms.{bound}
 use Rattle.lowering_expression_laws.proofs.Choices.{at_block}
-use Rattle.lowering_statement_laws.specs.Parts.{Onward, StmtMeets}
+use Rattle.lowering_statement_laws.specs.Parts.{IsApart, Onward, StmtMeets}
+use Rattle.lowering_statement_laws.proofs.Apart.{inner_least}
 use Rattle.lowering_statement_laws.proofs.Behind.{at_loop, left_stmt}
 use Rattle.lowering_loop_laws.specs.Laws.{Levels, at_level, AreLevels}
 use Rattle.lowering_for_laws.specs.Laws.{StepMeets, ConditionMeets, ForLoops, ForLoopsMeet}
@@ -84,14 +85,14 @@ module _ (c : Setting) (levels : Levels) (found : slice_get c.functions c.number
     -- what a loop does at a level, from its condition on
     abbrev Rounds : ℕ → Type 0
     Rounds k =
-        (p : Place) (f : Names) (scope : Scope) (r : Registers) (s : State) (m : Memory) (K : Flow → State → Observation) (brk con : ℕ) → Stands c (head ∷ heads) p test_items → Fit c f scope r s m → s.world.meter.turns ≤ k
+        (p : Place) (f : Names) (scope : Scope) (r : Registers) (s : State) (m : Memory) (K : Flow → State → Observation) (brk con : ℕ) → IsApart scope body → Stands c (head ∷ heads) p test_items → Fit c f scope r s m → s.world.meter.turns ≤ k
         → Onward c scope f s m K heads rest brk con → EndsSo c (finish (loop_run k scope s) K) p r s.world m
 
     -- the step and the next round, one level down
-    again_meets : (k : ℕ) → ((i : ℕ) → suc i ≡ k → Rounds i) → (p : Place) (f : Names) (scope : Scope) (r : Registers) (s : State) (m : Memory) (K : Flow → State → Observation) (brk con : ℕ) → Stands c (head ∷ heads) p step_items → Fit c f scope r s m → s.world.meter.turns < k
+    again_meets : (k : ℕ) → ((i : ℕ) → suc i ≡ k → Rounds i) → (p : Place) (f : Names) (scope : Scope) (r : Registers) (s : State) (m : Memory) (K : Flow → State → Observation) (brk con : ℕ) → IsApart scope body → Stands c (head ∷ heads) p step_items → Fit c f scope r s m → s.world.meter.turns < k
         → Onward c scope f s m K heads rest brk con → EndsSo c (finish (again_run k scope s) K) p r s.world m
     unfolding opens
-    again_meets k below p f scope r s m K brk con at fit low way =
+    again_meets k below p f scope r s m K brk con apart at fit low way =
         step_leads (at_level c levels k) found step (hs k) (levels.statements k scope loop) test_items (head ∷ heads) f scope r s m K
         (λ q1 g t r1 m1 at1 aft fit1. next_round k refl q1 g t r1 m1 at1 aft fit1) p at fit (omega (arith, low))
       where
@@ -99,13 +100,13 @@ module _ (c : Setting) (levels : Levels) (found : slice_get c.functions c.number
         next_round zero e q1 g t r1 m1 at1 aft fit1 = absurd (omega (arith, e, low))
         next_round (suc i) e q1 g t r1 m1 at1 aft fit1 =
             meets_same c.rooms c.functions (ap (λ z. finish (z t) K) (are i scope loop))
-            (below i e q1 g scope r1 t m1 K brk con at1 fit1 (omega (arith, e, low, aft.turned)) (onward_on aft way))
+            (below i e q1 g scope r1 t m1 K brk con apart at1 fit1 (omega (arith, e, low, aft.turned)) (onward_on aft way))
 
     -- a round, from its mark on
-    round_meets : Places → (k : ℕ) → ((i : ℕ) → suc i ≡ k → Rounds i) → (f : Names) (scope : Scope) (r : Registers) (s : State) (m : Memory) (K : Flow → State → Observation) (brk con : ℕ) → Fit c f scope r s m → s.world.meter.turns ≤ k
+    round_meets : Places → (k : ℕ) → ((i : ℕ) → suc i ≡ k → Rounds i) → (f : Names) (scope : Scope) (r : Registers) (s : State) (m : Memory) (K : Flow → State → Observation) (brk con : ℕ) → IsApart scope body → Fit c f scope r s m → s.world.meter.turns ≤ k
         → Onward c scope f s m K heads rest brk con → EndsSo c (finish (round_run k scope s) K) (start_of_block head) r s.world m
     unfolding opens
-    round_meets here k below f scope r s m K brk con fit low way =
+    round_meets here k below f scope r s m K brk con apart fit low way =
         let go_on : Run Flow = exec c.structs c.locals (levels.functions k) (levels.statements k) scope body >>= after_body (again_run k scope) in
         bound c found (turn s) (λ _. go_on) K (start_of_block head) r s.world m
         (turn_meets c.rooms c.functions s (λ _ t1. finish (go_on t1) K) _
@@ -115,25 +116,25 @@ module _ (c : Setting) (levels : Levels) (found : slice_get c.functions c.number
         let aft1 : Aft c f s m f t1 m = record { names = λ o a e. e; lives = λ o. refl; sizes = λ o l. refl; locals = λ a size h. h; turned = omega (arith, less) } in
         turning c.rooms c.functions c.number c.code found c.own c.waiting n.Mark (start_of_block head) r s.world t1.world m m mt [] here.mark refl some refl refl
         (bound c found (exec c.structs c.locals (levels.functions k) (levels.statements k) scope body t1) (after_body (again_run k scope)) K (next_place (start_of_block head)) r t1.world m
-        ((hb k).by (items.count rest) (items.count step_items) (Start ∷ step_items) (head ∷ heads) (next_place (start_of_block head)) f scope r t1 m (λ z u. finish (after_body (again_run k scope) z u) K) here.body_at fit (omega (arith, less, low))
+        ((hb k).by (items.count rest) (items.count step_items) (Start ∷ step_items) (head ∷ heads) (next_place (start_of_block head)) f scope r t1 m (λ z u. finish (after_body (again_run k scope) z u) K) apart here.body_at fit (omega (arith, less, low))
         (record {
           goes = λ q2 h u r2 m2 at2 aft2 fit2.
               fall c.rooms c.functions c.number c.code found c.own c.waiting q2 r2 u.world m2 at2.has.0
-              (again_meets k below (next_block q2) h scope r2 u m2 K brk con (at_start c.code.blocks c.last c.end at2) fit2 (omega (arith, aft2.turned, less, low)) (onward_on (after_on aft1 aft2) way));
+              (again_meets k below (next_block q2) h scope r2 u m2 K brk con apart (at_start c.code.blocks c.last c.end at2) fit2 (omega (arith, aft2.turned, less, low)) (onward_on (after_on aft1 aft2) way));
           breaks = λ h u r2 m2 aft2 fit2.
               at_block c found r2 u.world m2 here.rest_block (c.last - items.count rest) (let size = here.rest_at.size in omega (arith, size)) (way.goes (start_of_block here.rest_block) h u r2 m2 here.rest_at (after_on aft1 aft2) fit2);
           continues = λ h u r2 m2 aft2 fit2.
               at_block c found r2 u.world m2 here.step_block (c.last - items.count step_items) (let size = here.step_at.size in omega (arith, size))
-              (again_meets k below (start_of_block here.step_block) h scope r2 u m2 K brk con here.step_at fit2 (omega (arith, aft2.turned, less, low)) (onward_on (after_on aft1 aft2) way));
+              (again_meets k below (start_of_block here.step_block) h scope r2 u m2 K brk con apart here.step_at fit2 (omega (arith, aft2.turned, less, low)) (onward_on (after_on aft1 aft2) way));
           returns = λ v1 ws h u r2 m2 aft2 fit2 ret. way.returns v1 ws h u r2 m2 (after_on aft1 aft2) fit2 ret;
         }))))
         (λ none. no_turn c.rooms c.functions c.number c.code found c.own c.waiting n.Mark (start_of_block head) r s.world m here.mark refl none refl))
 
     round_on : Places → (k : ℕ) → ((i : ℕ) → suc i ≡ k → Rounds i) → Rounds k
     unfolding opens
-    round_on here k below p f scope r s m K brk con at fit low way =
+    round_on here k below p f scope r s m K brk con apart at fit low way =
         condition_leads (at_level c levels k) found (round_run k scope) rest heads head f scope r s m K
-        (λ g t r1 m1 aft fit1. round_meets here k below g scope r1 t m1 K brk con fit1 (omega (arith, aft.turned, low)) (onward_on aft way))
+        (λ g t r1 m1 aft fit1. round_meets here k below g scope r1 t m1 K brk con apart fit1 (omega (arith, aft.turned, low)) (onward_on aft way))
         (λ q1 g t r1 m1 at1 aft fit1. way.goes q1 g t r1 m1 at1 aft fit1)
         test (ht k) p at fit low
 
@@ -148,9 +149,9 @@ module _ (c : Setting) (levels : Levels) (found : slice_get c.functions c.number
   abbrev loop_items : List CodeItem → List CodeItem
   loop_items rest = Loop (items.count (test_items rest [] 0)) ∷ body_items rest [] 0
 
-  enters : (k : ℕ) (rest : List CodeItem) (heads : List ℕ) (p : Place) (f : Names) (scope : Scope) (r : Registers) (s : State) (m : Memory) (K : Flow → State → Observation) (brk con : ℕ) → Stands c heads p (loop_items rest) → Fit c f scope r s m → s.world.meter.turns ≤ k
+  pub enters : (k : ℕ) (rest : List CodeItem) (heads : List ℕ) (p : Place) (f : Names) (scope : Scope) (r : Registers) (s : State) (m : Memory) (K : Flow → State → Observation) (brk con : ℕ) → IsApart scope body → Stands c heads p (loop_items rest) → Fit c f scope r s m → s.world.meter.turns ≤ k
       → Onward c scope f s m K heads rest brk con → EndsSo c (finish (loop_run k scope s) K) p r s.world m
-  enters k rest heads p f scope r s m K brk con at fit low way =
+  enters k rest heads p f scope r s m K brk con apart at fit low way =
       let head : ℕ = suc p.block in
       let tests = test_code L c.structs c.locals test rest in
       let steps = after_code L c.structs c.locals step tests in
@@ -170,19 +171,19 @@ module _ (c : Setting) (levels : Levels) (found : slice_get c.functions c.number
       } in
       jump c.rooms c.functions c.number c.code found c.own c.waiting (c.last - items.count tests) p r s.world m at.has.0
       (at_block c found r s.world m test_at.0 (c.last - items.count tests) (let size = test_at.1.size in omega (arith, size))
-      (rounds rest heads head here k (start_of_block test_at.0) f scope r s m K brk con test_at.1 fit low way))
+      (rounds rest heads head here k (start_of_block test_at.0) f scope r s m K brk con apart test_at.1 fit low way))
 
   loops : ForLoops c levels test step body
   unfolding opens
   loops = record {
-    without_first = λ k. record { by = λ brk con rest heads p f scope r s m K at fit low way. enters k rest heads p f scope r s m K brk con at fit low (record { goes = way.goes; breaks = way.breaks; continues = way.continues; returns = way.returns }) };
+    without_first = λ k. record { by = λ brk con rest heads p f scope r s m K apart at fit low way. enters k rest heads p f scope r s m K brk con (λ j lt. apart j (let h = inner_least j body in omega (arith, lt, h))) at fit low (record { goes = way.goes; breaks = way.breaks; continues = way.continues; returns = way.returns }) };
     with_value = λ x k hx. record {
-      by = λ brk con rest heads p f scope r s m K at fit low way.
+      by = λ brk con rest heads p f scope r s m K apart at fit low way.
           bound c found (and_then (eval c.structs c.locals (levels.functions k) scope x s) (λ _. pure tt)) (λ _. loop_run k scope) K p r s.world m
           (bound c found (eval c.structs c.locals (levels.functions k) scope x s) (λ _. pure tt) (λ _ t. finish (loop_run k scope t) K) p r s.world m
           (hx.by 0 (loop_items rest) heads p f scope r s m (λ _ t. finish (loop_run k scope t) K) at fit low
           (λ q1 v g t r1 m1 at1 aft fit1 kept held stands.
-          enters k rest heads q1 g scope r1 t m1 K brk con at1 fit1 (omega (arith, aft.turned, low))
+          enters k rest heads q1 g scope r1 t m1 K brk con (λ j lt. apart j (let h = inner_least j body in omega (arith, lt, h))) at1 fit1 (omega (arith, aft.turned, low))
           (onward_on {s = s} {t = t} aft (record { goes = way.goes; breaks = way.breaks; continues = way.continues; returns = way.returns })))));
     };
   }

@@ -30,7 +30,8 @@ use Rattle.lowering_expression_laws.specs.Parts.{Setting, count, EndsSo, Stands,
 use Rattle.lowering_expression_laws.specs.Laws.{IsScalarType}
 use Rattle.lowering_expression_laws.proofs.Forms.{bound}
 use Rattle.lowering_expression_laws.proofs.Choices.{holds_there, test_meets, at_block}
-use Rattle.lowering_statement_laws.specs.Parts.{Onward, StmtMeets}
+use Rattle.lowering_statement_laws.specs.Parts.{IsApart, Onward, StmtMeets}
+use Rattle.lowering_statement_laws.proofs.Apart.{inner_least}
 use Rattle.lowering_statement_laws.proofs.Behind.{at_enter, at_again, left_stmt}
 use Rattle.lowering_loop_laws.specs.Laws.{Levels, at_level, AreLevels, DoLoopsMeet}
 
@@ -64,14 +65,14 @@ module _ (c : Setting) (levels : Levels) (found : slice_get c.functions c.number
     -- what a loop does at a level, from its mark on
     abbrev Rounds : ℕ → Type 0
     Rounds k =
-        (f : Names) (scope : Scope) (r : Registers) (s : State) (m : Memory) (K : Flow → State → Observation) (brk con : ℕ) → Fit c f scope r s m → s.world.meter.turns ≤ k
+        (f : Names) (scope : Scope) (r : Registers) (s : State) (m : Memory) (K : Flow → State → Observation) (brk con : ℕ) → IsApart scope body → Fit c f scope r s m → s.world.meter.turns ≤ k
         → Onward c scope f s m K heads rest brk con → EndsSo c (finish (loop_run k scope s) K) (start_of_block head) r s.world m
 
     -- the test, where a turn was taken
-    ask_meets : Places → (k : ℕ) → ((i : ℕ) → suc i ≡ k → Rounds i) → (q : Place) (f : Names) (scope : Scope) (r : Registers) (s : State) (m : Memory) (K : Flow → State → Observation) (brk con : ℕ) → Stands c (head ∷ heads) q test_items → Fit c f scope r s m
+    ask_meets : Places → (k : ℕ) → ((i : ℕ) → suc i ≡ k → Rounds i) → (q : Place) (f : Names) (scope : Scope) (r : Registers) (s : State) (m : Memory) (K : Flow → State → Observation) (brk con : ℕ) → IsApart scope body → Stands c (head ∷ heads) q test_items → Fit c f scope r s m
         → s.world.meter.turns < k → Onward c scope f s m K heads rest brk con → EndsSo c (finish (ask k scope s) K) q r s.world m
     unfolding opens
-    ask_meets here k below q f scope r s m K brk con at fit low way =
+    ask_meets here k below q f scope r s m K brk con apart at fit low way =
         let reg = value_register L 0 (type_of x) in
         let run : Bool → Run Flow = choose (levels.statements k scope (Do body x)) (pure Goes) in
         bound c found (and_then (eval c.structs c.locals (levels.functions k) scope x s) test) run K q r s.world m
@@ -95,7 +96,7 @@ module _ (c : Setting) (levels : Levels) (found : slice_get c.functions c.number
             next_round zero e = absurd (omega (arith, e, low))
             next_round (suc i) e =
                 meets_same c.rooms c.functions (ap (λ z. finish (z t) K) (are i scope (Do body x)))
-                (below i e g scope r1 t m1 K brk con fit1 (omega (arith, e, low, aft.turned)) (record {
+                (below i e g scope r1 t m1 K brk con apart fit1 (omega (arith, e, low, aft.turned)) (record {
                   goes = λ q3 g3 t3 r3 m3 at3 aft3 fit3. way.goes q3 g3 t3 r3 m3 at3 (after_on aft aft3) fit3;
                   breaks = λ g3 t3 r3 m3 aft3 fit3. way.breaks g3 t3 r3 m3 (after_on aft aft3) fit3;
                   continues = λ g3 t3 r3 m3 aft3 fit3. way.continues g3 t3 r3 m3 (after_on aft aft3) fit3;
@@ -104,7 +105,7 @@ module _ (c : Setting) (levels : Levels) (found : slice_get c.functions c.number
 
     round_on : Places → (k : ℕ) → ((i : ℕ) → suc i ≡ k → Rounds i) → Rounds k
     unfolding opens
-    round_on here k below f scope r s m K brk con fit low way =
+    round_on here k below f scope r s m K brk con apart fit low way =
         let go_on : Run Flow = exec c.structs c.locals (levels.functions k) (levels.statements k) scope body >>= after_body (ask k scope) in
         bound c found (turn s) (λ _. go_on) K (start_of_block head) r s.world m
         (turn_meets c.rooms c.functions s (λ _ t1. finish (go_on t1) K) _
@@ -114,16 +115,16 @@ module _ (c : Setting) (levels : Levels) (found : slice_get c.functions c.number
         let aft1 : Aft c f s m f t1 m = record { names = λ o a e. e; lives = λ o. refl; sizes = λ o l. refl; locals = λ a size h. h; turned = omega (arith, less) } in
         turning c.rooms c.functions c.number c.code found c.own c.waiting n.Mark (start_of_block head) r s.world t1.world m m mt [] here.mark refl some refl refl
         (bound c found (exec c.structs c.locals (levels.functions k) (levels.statements k) scope body t1) (after_body (ask k scope)) K (next_place (start_of_block head)) r t1.world m
-        ((hb k).by (items.count rest) (items.count test_items) (Start ∷ test_items) (head ∷ heads) (next_place (start_of_block head)) f scope r t1 m (λ z u. finish (after_body (ask k scope) z u) K) here.body_at fit (omega (arith, less, low))
+        ((hb k).by (items.count rest) (items.count test_items) (Start ∷ test_items) (head ∷ heads) (next_place (start_of_block head)) f scope r t1 m (λ z u. finish (after_body (ask k scope) z u) K) apart here.body_at fit (omega (arith, less, low))
         (record {
           goes = λ q2 h u r2 m2 at2 aft2 fit2.
               fall c.rooms c.functions c.number c.code found c.own c.waiting q2 r2 u.world m2 at2.has.0
-              (ask_meets here k below (next_block q2) h scope r2 u m2 K brk con (at_start c.code.blocks c.last c.end at2) fit2 (omega (arith, aft2.turned, less, low)) (later (after_on aft1 aft2)));
+              (ask_meets here k below (next_block q2) h scope r2 u m2 K brk con apart (at_start c.code.blocks c.last c.end at2) fit2 (omega (arith, aft2.turned, less, low)) (later (after_on aft1 aft2)));
           breaks = λ h u r2 m2 aft2 fit2.
               at_block c found r2 u.world m2 here.rest_block (c.last - items.count rest) (let size = here.rest_at.size in omega (arith, size)) (way.goes (start_of_block here.rest_block) h u r2 m2 here.rest_at (after_on aft1 aft2) fit2);
           continues = λ h u r2 m2 aft2 fit2.
               at_block c found r2 u.world m2 here.test_block (c.last - items.count test_items) (let size = here.test_at.size in omega (arith, size))
-              (ask_meets here k below (start_of_block here.test_block) h scope r2 u m2 K brk con here.test_at fit2 (omega (arith, aft2.turned, less, low)) (later (after_on aft1 aft2)));
+              (ask_meets here k below (start_of_block here.test_block) h scope r2 u m2 K brk con apart here.test_at fit2 (omega (arith, aft2.turned, less, low)) (later (after_on aft1 aft2)));
           returns = λ v1 ws h u r2 m2 aft2 fit2 ret. way.returns v1 ws h u r2 m2 (after_on aft1 aft2) fit2 ret;
         }))))
         (λ none. no_turn c.rooms c.functions c.number c.code found c.own c.waiting n.Mark (start_of_block head) r s.world m here.mark refl none refl))
@@ -145,7 +146,7 @@ module _ (c : Setting) (levels : Levels) (found : slice_get c.functions c.number
 
   dos : (k : ℕ) → StmtMeets (at_level c levels k) (levels.statements k) (Do body x)
   dos k = record {
-    by = λ brk con rest heads p f scope r s m K at fit low way.
+    by = λ brk con rest heads p f scope r s m K apart at fit low way.
         let head : ℕ = suc p.block in
         let test = again_code L c.structs c.locals x rest in
         let body_at = at_enter c.code.blocks c.last c.end at in
@@ -162,7 +163,7 @@ module _ (c : Setting) (levels : Levels) (found : slice_get c.functions c.number
           body_at = body_at;
         } in
         fall c.rooms c.functions c.number c.code found c.own c.waiting p r s.world m at.has.0
-        (rounds rest heads head here k f scope r s m K brk con fit low (record { goes = way.goes; breaks = way.breaks; continues = way.continues; returns = way.returns }));
+        (rounds rest heads head here k f scope r s m K brk con (λ j lt. apart j (let h = inner_least j body in omega (arith, lt, h))) fit low (record { goes = way.goes; breaks = way.breaks; continues = way.continues; returns = way.returns }));
   }
 
 pub do_loops_meet : DoLoopsMeet

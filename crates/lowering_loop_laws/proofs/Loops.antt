@@ -31,7 +31,8 @@ use Rattle.lowering_expression_laws.specs.Parts.{Setting, count, EndsSo, Stands,
 use Rattle.lowering_expression_laws.specs.Laws.{IsScalarType}
 use Rattle.lowering_expression_laws.proofs.Forms.{bound}
 use Rattle.lowering_expression_laws.proofs.Choices.{holds_there, test_meets, at_block}
-use Rattle.lowering_statement_laws.specs.Parts.{Onward, StmtMeets}
+use Rattle.lowering_statement_laws.specs.Parts.{IsApart, Onward, StmtMeets}
+use Rattle.lowering_statement_laws.proofs.Apart.{inner_least}
 use Rattle.lowering_statement_laws.proofs.Behind.{at_loop, at_again, left_stmt}
 use Rattle.lowering_loop_laws.specs.Laws.{Levels, at_level, AreLevels, LoopsMeet}
 
@@ -63,12 +64,12 @@ module _ (c : Setting) (levels : Levels) (found : slice_get c.functions c.number
     -- what a loop does at a level, from its test on
     abbrev Rounds : ℕ → Type 0
     Rounds k =
-        (q : Place) (f : Names) (scope : Scope) (r : Registers) (s : State) (m : Memory) (K : Flow → State → Observation) (brk con : ℕ) → Stands c (head ∷ heads) q test_items → Fit c f scope r s m → s.world.meter.turns ≤ k
+        (q : Place) (f : Names) (scope : Scope) (r : Registers) (s : State) (m : Memory) (K : Flow → State → Observation) (brk con : ℕ) → IsApart scope body → Stands c (head ∷ heads) q test_items → Fit c f scope r s m → s.world.meter.turns ≤ k
         → Onward c scope f s m K heads rest brk con → EndsSo c (finish (loop_run k scope s) K) q r s.world m
 
     round_on : Places → (k : ℕ) → ((i : ℕ) → suc i ≡ k → Rounds i) → Rounds k
     unfolding opens
-    round_on here k below q f scope r s m K brk con at fit low way =
+    round_on here k below q f scope r s m K brk con apart at fit low way =
         let reg = value_register L 0 (type_of x) in
         let go_round : Run Flow = turn >> (exec c.structs c.locals (levels.functions k) (levels.statements k) scope body >>= after_body (levels.statements k scope (While x body))) in
         bound c found (and_then (eval c.structs c.locals (levels.functions k) scope x s) test) (choose go_round (pure Goes)) K q r s.world m
@@ -95,7 +96,7 @@ module _ (c : Setting) (levels : Levels) (found : slice_get c.functions c.number
             let aft1 : Aft c f s m g t1 m1 = record { names = aft.names; lives = aft.lives; sizes = aft.sizes; locals = aft.locals; turned = omega (arith, aft.turned, less) } in
             turning c.rooms c.functions c.number c.code found c.own c.waiting n.Mark (start_of_block head) r1 t.world t1.world m1 m1 mt [] here.mark refl some refl refl
             (bound c found (exec c.structs c.locals (levels.functions k) (levels.statements k) scope body t1) (after_body (levels.statements k scope (While x body))) K (next_place (start_of_block head)) r1 t1.world m1
-            ((hb k).by (items.count rest) (items.count test_items) (Start ∷ test_items) (head ∷ heads) (next_place (start_of_block head)) g scope r1 t1 m1 (λ z u. finish (after_body (levels.statements k scope (While x body)) z u) K) here.body_at fit1 (omega (arith, aft.turned, less, low))
+            ((hb k).by (items.count rest) (items.count test_items) (Start ∷ test_items) (head ∷ heads) (next_place (start_of_block head)) g scope r1 t1 m1 (λ z u. finish (after_body (levels.statements k scope (While x body)) z u) K) apart here.body_at fit1 (omega (arith, aft.turned, less, low))
             (record {
               goes = λ q2 h u r2 m2 at2 aft2 fit2.
                   fall c.rooms c.functions c.number c.code found c.own c.waiting q2 r2 u.world m2 at2.has.0
@@ -115,7 +116,7 @@ module _ (c : Setting) (levels : Levels) (found : slice_get c.functions c.number
             next_round zero e q2 h u r2 m2 at2 aft2 fit2 lt = absurd (omega (arith, e, lt))
             next_round (suc i) e q2 h u r2 m2 at2 aft2 fit2 lt =
                 meets_same c.rooms c.functions (ap (λ z. finish (z u) K) (are i scope (While x body)))
-                (below i e q2 h scope r2 u m2 K brk con at2 fit2 (omega (arith, e, lt)) (record {
+                (below i e q2 h scope r2 u m2 K brk con apart at2 fit2 (omega (arith, e, lt)) (record {
                   goes = λ q3 g3 t3 r3 m3 at3 aft3 fit3. way.goes q3 g3 t3 r3 m3 at3 (after_on aft2 aft3) fit3;
                   breaks = λ g3 t3 r3 m3 aft3 fit3. way.breaks g3 t3 r3 m3 (after_on aft2 aft3) fit3;
                   continues = λ g3 t3 r3 m3 aft3 fit3. way.continues g3 t3 r3 m3 (after_on aft2 aft3) fit3;
@@ -131,7 +132,7 @@ module _ (c : Setting) (levels : Levels) (found : slice_get c.functions c.number
 
   whiles : (k : ℕ) → StmtMeets (at_level c levels k) (levels.statements k) (While x body)
   whiles k = record {
-    by = λ brk con rest heads p f scope r s m K at fit low way.
+    by = λ brk con rest heads p f scope r s m K apart at fit low way.
         let head : ℕ = suc p.block in
         let test = again_code L c.structs c.locals x rest in
         let body_at = at_loop c.code.blocks c.last c.end (items.count test) at in
@@ -149,7 +150,7 @@ module _ (c : Setting) (levels : Levels) (found : slice_get c.functions c.number
         } in
         jump c.rooms c.functions c.number c.code found c.own c.waiting (c.last - items.count test) p r s.world m at.has.0
         (at_block c found r s.world m block (c.last - items.count test) (omega (arith, test_at.size))
-        (rounds rest heads head here k (start_of_block block) f scope r s m K brk con test_at fit low (record { goes = way.goes; breaks = way.breaks; continues = way.continues; returns = way.returns })));
+        (rounds rest heads head here k (start_of_block block) f scope r s m K brk con (λ j lt. apart j (let h = inner_least j body in omega (arith, lt, h))) test_at fit low (record { goes = way.goes; breaks = way.breaks; continues = way.continues; returns = way.returns })));
   }
 
 pub loops_meet : LoopsMeet

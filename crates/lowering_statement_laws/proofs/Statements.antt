@@ -40,6 +40,7 @@ use Rattle.lowering_expression_laws.specs.Laws.{IsScalarType}
 use Rattle.lowering_expression_laws.proofs.Forms.{word_held, value_of_word, bound}
 use Rattle.lowering_expression_laws.proofs.Choices.{TestIs, test_meets, at_block, goes, passes}
 use Rattle.lowering_statement_laws.specs.Parts.{Onward, StmtMeets, StmtsMeet}
+use Rattle.lowering_statement_laws.proofs.Apart.{inner_least}
 use Rattle.lowering_statement_laws.proofs.Behind.{left_stmt}
 
 -- a value that is set may be returned in the register of its type
@@ -64,7 +65,7 @@ module _ (c : Setting) (found : slice_get c.functions c.number ≡ Some c.code) 
   L = count c
 
   -- what follows, from a later state
-  onward_on : {scope : Scope} {f g : Names} {s t : State} {m m1 : Memory} {K : Flow → State → Observation} {heads : List ℕ} {rest : List CodeItem} {brk con : ℕ} → Aft c f s m g t m1 → Onward c scope f s m K heads rest brk con → Onward c scope g t m1 K heads rest brk con
+  pub onward_on : {scope : Scope} {f g : Names} {s t : State} {m m1 : Memory} {K : Flow → State → Observation} {heads : List ℕ} {rest : List CodeItem} {brk con : ℕ} → Aft c f s m g t m1 → Onward c scope f s m K heads rest brk con → Onward c scope g t m1 K heads rest brk con
   onward_on x way = record {
     goes = λ q h u r n at a fit. way.goes q h u r n at (after_on x a) fit;
     breaks = λ h u r n a fit. way.breaks h u r n (after_on x a) fit;
@@ -80,34 +81,34 @@ module _ (c : Setting) (found : slice_get c.functions c.number ≡ Some c.code) 
   pub expressions : (x : Expr) → ExprMeets c x → StmtMeets c again (q.Expression x)
   unfolding opens
   expressions x hx = record {
-    by = λ brk con rest heads p f scope r s m K at fit low way.
+    by = λ brk con rest heads p f scope r s m K apart at fit low way.
         bound c found (eval c.structs c.locals c.calls scope x s) (λ _. pure Goes) K p r s.world m
         (hx.by 0 rest heads p f scope r s m (λ _ t. K Goes t) at fit low (λ q v g t q1 m1 at1 aft fit1 kept held stands. way.goes q g t q1 m1 at1 aft fit1));
   }
 
   pub empty : StmtMeets c again q.Empty
   unfolding opens
-  empty = record { by = λ brk con rest heads p f scope r s m K at fit low way. way.goes p f s r m at after_same fit }
+  empty = record { by = λ brk con rest heads p f scope r s m K apart at fit low way. way.goes p f s r m at after_same fit }
 
   pub breaks : StmtMeets c again q.Break
   unfolding opens
-  breaks = record { by = λ brk con rest heads p f scope r s m K at fit low way. jump c.rooms c.functions c.number c.code found c.own c.waiting (c.last - brk) p r s.world m at.has.0 (way.breaks f s r m after_same fit) }
+  breaks = record { by = λ brk con rest heads p f scope r s m K apart at fit low way. jump c.rooms c.functions c.number c.code found c.own c.waiting (c.last - brk) p r s.world m at.has.0 (way.breaks f s r m after_same fit) }
 
   pub continues : StmtMeets c again q.Continue
   unfolding opens
-  continues = record { by = λ brk con rest heads p f scope r s m K at fit low way. jump c.rooms c.functions c.number c.code found c.own c.waiting (c.last - con) p r s.world m at.has.0 (way.continues f s r m after_same fit) }
+  continues = record { by = λ brk con rest heads p f scope r s m K apart at fit low way. jump c.rooms c.functions c.number c.code found c.own c.waiting (c.last - con) p r s.world m at.has.0 (way.continues f s r m after_same fit) }
 
   pub returns : StmtMeets c again (q.Return None)
   unfolding opens
   returns = record {
-    by = λ brk con rest heads p f scope r s m K at fit low way.
+    by = λ brk con rest heads p f scope r s m K apart at fit low way.
         returning c.rooms c.functions c.number c.code found c.own c.waiting (n.Return None) p r s.world m [] at.has.0 refl refl (way.returns None [] f s r m after_same fit refl);
   }
 
   pub values : (x : Expr) → IsScalarType (type_of x) → ExprMeets c x → StmtMeets c again (q.Return (Some x))
   unfolding opens
   values x scalar hx = record {
-    by = λ brk con rest heads p f scope r s m K at fit low way.
+    by = λ brk con rest heads p f scope r s m K apart at fit low way.
         let reg = value_register L 0 (type_of x) in
         let value : TypedRegister = record { ty = register_type (type_of x); register = reg } in
         bound c found (and_then (eval c.structs c.locals c.calls scope x s) (use_value UsesNoValue)) (λ v. pure (Returns (Some v))) K p r s.world m
@@ -147,10 +148,10 @@ module _ (c : Setting) (found : slice_get c.functions c.number ≡ Some c.code) 
   pub conditions : (x : Expr) (a : Stmt) → IsScalarType (type_of x) → ExprMeets c x → StmtMeets c again a → StmtMeets c again (q.If x a no_else)
   unfolding opens
   conditions x a scalar hx ha = record {
-    by = λ brk con rest heads p f scope r s m K at fit low way.
+    by = λ brk con rest heads p f scope r s m K apart at fit low way.
         test_leads x scalar hx (items.count rest) (stmt_code L c.structs c.locals brk con a (Start ∷ rest)) heads f scope r s m K (choose (exec c.structs c.locals c.calls again scope a) (pure Goes))
         (λ q g t q1 m1 at1 aft fit1.
-        ha.by brk con (Start ∷ rest) heads q g scope q1 t m1 K at1 fit1 (omega (arith, aft.turned, low))
+        ha.by brk con (Start ∷ rest) heads q g scope q1 t m1 K (λ k lt. apart k (let h = inner_least k a in omega (arith, lt, h))) at1 fit1 (omega (arith, aft.turned, low))
         (onward_to (onward_on aft way) (λ q2 h u q3 m2 at2 aft2 fit2.
         fall c.rooms c.functions c.number c.code found c.own c.waiting q2 q3 u.world m2 at2.has.0 (way.goes (next_block q2) h u q3 m2 (at_start c.code.blocks c.last c.end at2) (after_on aft aft2) fit2))))
         (λ q g t q1 m1 at1 aft fit1.
@@ -163,11 +164,11 @@ module _ (c : Setting) (found : slice_get c.functions c.number ≡ Some c.code) 
   pub choices : (x : Expr) (a b : Stmt) → IsScalarType (type_of x) → ExprMeets c x → StmtMeets c again a → StmtMeets c again b → StmtMeets c again (q.If x a (else_stmt b))
   unfolding opens
   choices x a b scalar hx ha hb = record {
-    by = λ brk con rest heads p f scope r s m K at fit low way.
+    by = λ brk con rest heads p f scope r s m K apart at fit low way.
         let fails = stmt_code L c.structs c.locals brk con b (Start ∷ rest) in
         test_leads x scalar hx (items.count fails) (stmt_code L c.structs c.locals brk con a (Jump (items.count rest) ∷ fails)) heads f scope r s m K (choose (exec c.structs c.locals c.calls again scope a) (exec c.structs c.locals c.calls again scope b))
         (λ q g t q1 m1 at1 aft fit1.
-        ha.by brk con (Jump (items.count rest) ∷ fails) heads q g scope q1 t m1 K at1 fit1 (omega (arith, aft.turned, low))
+        ha.by brk con (Jump (items.count rest) ∷ fails) heads q g scope q1 t m1 K (λ k lt. apart k (let h = inner_least k a in omega (arith, lt, h))) at1 fit1 (omega (arith, aft.turned, low))
         (onward_to (onward_on aft way) (λ q2 h u q3 m2 at2 aft2 fit2.
         let behind : Somewhere c.code.blocks c.last c.end heads (Start ∷ rest) = left_stmt c.code.blocks c.last c.end L c.structs c.locals b brk con heads (Start ∷ rest) (record { place = next_block q2; at = at_jump c.code.blocks c.last c.end (items.count rest) at2 }) in
         let there = at_start c.code.blocks c.last c.end behind.at in
@@ -180,7 +181,7 @@ module _ (c : Setting) (found : slice_get c.functions c.number ≡ Some c.code) 
           suc behind.place.block,
           (
             there.size,
-            hb.by brk con (Start ∷ rest) heads (start_of_block (suc behind.place.block)) g scope q1 t m1 K there fit1 (omega (arith, aft.turned, low))
+            hb.by brk con (Start ∷ rest) heads (start_of_block (suc behind.place.block)) g scope q1 t m1 K (λ k lt. apart k (let h = inner_least k b in omega (arith, lt, h))) there fit1 (omega (arith, aft.turned, low))
                 (onward_to (onward_on aft way) (λ q2 h u q3 m2 at2 aft2 fit2.
                 fall c.rooms c.functions c.number c.code found c.own c.waiting q2 q3 u.world m2 at2.has.0 (way.goes (next_block q2) h u q3 m2 (at_start c.code.blocks c.last c.end at2) (after_on aft aft2) fit2))),
           ),
@@ -190,17 +191,17 @@ module _ (c : Setting) (found : slice_get c.functions c.number ≡ Some c.code) 
 
   pub none : StmtsMeet c again no_stmts
   unfolding opens
-  none = record { by = λ brk con rest heads p f scope r s m K at fit low way. way.goes p f s r m at after_same fit }
+  none = record { by = λ brk con rest heads p f scope r s m K apart at fit low way. way.goes p f s r m at after_same fit }
 
   pub more : (a : Stmt) (as1 : Stmts) → StmtMeets c again a → StmtsMeet c again as1 → StmtsMeet c again (more_stmts a as1)
   unfolding opens
   more a as1 ha has1 = record {
-    by = λ brk con rest heads p f scope r s m K at fit low way.
+    by = λ brk con rest heads p f scope r s m K apart at fit low way.
         let run = execs c.structs c.locals c.calls again scope as1 in
         bound c found (exec c.structs c.locals c.calls again scope a s) (and_next run) K p r s.world m
-        (ha.by brk con (stmts_code L c.structs c.locals brk con as1 rest) heads p f scope r s m (λ z t. finish (and_next run z t) K) at fit low
+        (ha.by brk con (stmts_code L c.structs c.locals brk con as1 rest) heads p f scope r s m (λ z t. finish (and_next run z t) K) (λ k lt. apart k (omega (arith, lt))) at fit low
         (record {
-          goes = λ q g t q1 m1 at1 aft fit1. has1.by brk con rest heads q g scope q1 t m1 K at1 fit1 (omega (arith, aft.turned, low)) (onward_on aft way);
+          goes = λ q g t q1 m1 at1 aft fit1. has1.by brk con rest heads q g scope q1 t m1 K (λ k lt. apart k (omega (arith, lt))) at1 fit1 (omega (arith, aft.turned, low)) (onward_on aft way);
           breaks = way.breaks;
           continues = way.continues;
           returns = way.returns;

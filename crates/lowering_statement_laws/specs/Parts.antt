@@ -2,13 +2,14 @@
 --
 -- A statement goes on behind its code, or leaves it by a jump to the block with the one name for a `break` or the other
 -- one for a `continue`, or by a return to the calls that wait.
-use Rattle.std.specs.Prelude.{◌≡◌, ◌≤◌, ◌-◌, ℕ, List, [], ◌∷◌, length, Option, Some, None}
+use Rattle.std.specs.Prelude.{◌≡◌, ◌<◌, ◌≤◌, ◌+◌, ◌-◌, ℕ, List, [], ◌∷◌, length, Option, Some, None}
 use Rattle.mem_model.specs.declared.value.Value.{Value}
 use Rattle.mem_model.specs.Memory.{Memory, end_objects}
 use Rattle.mem_model.specs.World.{World, with_memory, with_meter, leave_call}
 use Rattle.mem_model.specs.Related.{Names, IsValueOf}
 use Rattle.vm_meaning.specs.Behave.{Registers}
-use Rattle.c_typed_tree.specs.Statements.{Stmt, Stmts}
+use Rattle.c_typed_tree.specs.Statements.{Stmt, Declare, Stmts, no_stmts, more_stmts}
+use Rattle.c_typed_tree.specs.Declarations.{declarations}
 use Rattle.c_semantics.specs.Runs.{State, Run}
 use Rattle.c_semantics.specs.Objects.{Scope}
 use Rattle.c_semantics.specs.Executes.{Flow, Goes, Breaks, Continues, Returns, exec, execs}
@@ -17,6 +18,26 @@ use Rattle.lowering_code.specs.Statements.{stmt_code, stmts_code}
 use Rattle.lowering_states.specs.Places.{Place, start_of_block}
 use Rattle.lowering_states.specs.Runs.{Observation, finish, Resumes}
 use Rattle.lowering_expression_laws.specs.Parts.{Setting, count, EndsSo, Stands, Fit, Aft}
+
+-- ---- locals that are objects
+
+-- how often a statement declares the local with a number within itself, and not in the block in which it stands
+abbrev pub inner_declarations : (number : ℕ) → Stmt → ℕ
+inner_declarations number (Declare d) = 0
+inner_declarations number x = declarations number x
+
+abbrev pub inner_of_all : (number : ℕ) → Stmts → ℕ
+inner_of_all number no_stmts = 0
+inner_of_all number (more_stmts x xs) = inner_declarations number x + inner_of_all number xs
+
+-- a scope has no object of a local that is declared within a statement: it begins when the statement is done
+abbrev pub IsApart : Scope → Stmt → Type 0
+IsApart scope x = (number : ℕ) → 0 < inner_declarations number x → scope number ≡ None
+
+abbrev pub AreApart : Scope → Stmts → Type 0
+AreApart scope xs = (number : ℕ) → 0 < inner_of_all number xs → scope number ≡ None
+
+-- ---- what a statement does
 
 -- what a call returns on both sides
 abbrev pub IsReturned : Names → Option Value → List Value → Type 0
@@ -46,14 +67,14 @@ module _ (c : Setting) where
   module _ (again : Scope → Stmt → Run Flow) where
     pub record StmtMeets (x : Stmt) : Type 0 where
       pub by : (break_to continue_to : ℕ) (rest : List CodeItem) (heads : List ℕ) (p : Place) (f : Names) (scope : Scope)
-          (r : Registers) (s : State) (n : Memory) (K : Flow → State → Observation) →
+          (r : Registers) (s : State) (n : Memory) (K : Flow → State → Observation) → IsApart scope x →
           Stands c heads p (stmt_code (count c) c.structs c.locals break_to continue_to x rest) → Fit c f scope r s n
           → s.world.meter.turns ≤ c.level → Onward scope f s n K heads rest break_to continue_to
           → EndsSo c (finish (exec c.structs c.locals c.calls again scope x s) K) p r s.world n
 
     pub record StmtsMeet (xs : Stmts) : Type 0 where
       pub by : (break_to continue_to : ℕ) (rest : List CodeItem) (heads : List ℕ) (p : Place) (f : Names) (scope : Scope)
-          (r : Registers) (s : State) (n : Memory) (K : Flow → State → Observation) →
+          (r : Registers) (s : State) (n : Memory) (K : Flow → State → Observation) → AreApart scope xs →
           Stands c heads p (stmts_code (count c) c.structs c.locals break_to continue_to xs rest) → Fit c f scope r s n
           → s.world.meter.turns ≤ c.level → Onward scope f s n K heads rest break_to continue_to
           → EndsSo c (finish (execs c.structs c.locals c.calls again scope xs s) K) p r s.world n
