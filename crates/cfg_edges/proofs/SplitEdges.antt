@@ -1,15 +1,16 @@
 -- What the blocks are after each block with a critical edge was split.
-use Rattle.std.proofs.Common.{◌≡◌, ℕ, zero, suc, ◌+◌, ◌<◌, ◌≤◌, ◌⊎◌, ◌&&◌, ◌||◌, Bool, true, false, cond, List, [], ◌∷◌, ◌++◌, map, length, get_or, Option, Some, None, slice_index_or, if◌then◌else◌, refl, sym, ap, subst, ◌∙◌, inl, inr, arith, length-append}
+use Rattle.std.proofs.Common.{◌≡◌, ℕ, zero, suc, ◌+◌, ◌*◌, ◌<◌, ◌≤◌, ◌⊎◌, ◌&&◌, ◌||◌, Bool, true, false, cond, List, [], ◌∷◌, ◌++◌, map, length, get_or, Option, Some, None, slice_index_or, if◌then◌else◌, refl, sym, ap, subst, ◌∙◌, inl, inr, arith, length-append}
 use Rattle.std.specs.Prelude.{All, IsTrue, filter, nat_lt}
 use Rattle.std.specs.List.{Contains, list_any}
 use Rattle.std.proofs.lemmas.Bool.Decides.{leb_tells}
+use Rattle.std.proofs.lemmas.List.Sums.{sum_by-cons}
 use Rattle.std.proofs.lemmas.Option.{slice_get_within, get_or_from_slice_get, same_Some}
 use Rattle.std.proofs.lemmas.List.{get_or-map}
 use Rattle.std.proofs.lemmas.List.Elements.{All-head, All-tail, All-contains, Contains-get_or, filter-append}
 use Rattle.std.proofs.lemmas.List.FromFn.{get_or-map-range_with_len}
 use Rattle.pass_core.specs.Insns.{InsnLaws}
 use Rattle.suifvm_ir.specs.Functions.{AllInsns, GoesToBlocks, EndsLate, last_of, stops, successors_after, successors_of}
-use Rattle.cfg.specs.Edges.{successors_from, edges_to, edges_from, sources_of, predecessors}
+use Rattle.cfg.specs.Edges.{successors_from, edges_to, edges_from, sources_of, predecessors, edge_count}
 use Rattle.cfg.specs.Walks.{block_at}
 use Rattle.cfg.specs.Renumber.{renumber}
 use Rattle.cfg.specs.model.Search.{marked_count}
@@ -54,6 +55,16 @@ more_false n is = elim (leb_tells 2 n) [
   | inl holds ↦ let clash : true ≡ false = sym holds.0 ∙ is in let never : ⊥ = cc in absurd never
   | inr fails ↦ omega (arith, fails.1)
 ]
+
+-- a block that is split has two edges, and twice as many blocks come in for it
+few_by : (sources : List (List ℕ)) (nexts : List ℕ) (lists : List (List ℕ)) (split : Bool) (marks : List Bool) → is_split sources nexts ≡ split → 2 * marked_count marks ≤ edge_count lists → 2 * marked_count (split ∷ marks) ≤ length nexts + edge_count lists
+few_by sources nexts lists false marks is most = omega (arith, most)
+few_by sources nexts lists true marks is most = omega (arith, most, more_true (length nexts) (and_left (nat_lt 1 (length nexts)) (list_any (is_join sources) nexts) is))
+
+splits_few : (sources lists : List (List ℕ)) → 2 * marked_count (map (is_split sources) lists) ≤ edge_count lists
+splits_few sources [] = omega arith
+splits_few sources (nexts ∷ lists) =
+    omega (arith, few_by sources nexts lists (is_split sources nexts) (map (is_split sources) lists) refl (splits_few sources lists), sum_by-cons (λ (ns : List ℕ). length ns) nexts lists)
 
 get_true : (marks : List Bool) (b : ℕ) → get_or marks b false ≡ true → b < length marks
 get_true [] b is = let clash : ⊥ = cc in absurd clash
@@ -268,6 +279,7 @@ module _ {I : Type 0} (reads writes targets : I → List ℕ) (with_target : I �
         most_insns = omega (arith, insns, most, count);
         blocks = omega (arith, long, splits_most);
         insns = omega (arith, insns, splits_most);
+        edges = omega (arith, long, splits_few sources followers);
       }
 
   -- what the code made of lists that are these

@@ -2,7 +2,7 @@
 
 ghost use Rattle.std.specs.Prelude.{◌≡◌, ◌≤◌, ◌<◌, ◌+◌, ◌*◌, ◌^◌, All, IsTrue, length, map, IfOk};
 ghost use Rattle.suifvm_ir.specs.Functions.{AllInsns, GoesToBlocks, EndsLate, stops, count_of};
-ghost use Rattle.cfg.specs.Edges.{successors_from, predecessors};
+ghost use Rattle.cfg.specs.Edges.{successors_from, predecessors, edge_count};
 ghost use Rattle.cfg.specs.Walks.{SameWalks};
 ghost use Rattle.cfg.specs.Paths.{AllReached};
 ghost use Rattle.cfg.specs.Contents.{KeepsBlocks, KeepsBack};
@@ -58,6 +58,8 @@ pub fn split_edges<I: Insn>(alloc: Global, f: Func<I>) -> Result<Func<I>, AllocE
         length g.blocks ≤ length f.blocks + 2 * critical_count I.targets I.flows_on f.blocks) }
     ensures insns { IfOk result (λ g.
         count_of g.blocks ≤ count_of f.blocks + 2 * critical_count I.targets I.flows_on f.blocks) }
+    ensures edges { IfOk result (λ g.
+        length g.blocks ≤ length f.blocks + edge_count (successors_from I.targets I.flows_on 0 f.blocks)) }
     ensures name { IfOk result (λ g. g.name ≡ f.name) }
     ensures params { IfOk result (λ g. g.params ≡ f.params) }
     ensures temps { IfOk result (λ g. g.temps ≡ f.temps) }

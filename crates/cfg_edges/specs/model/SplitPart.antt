@@ -1,6 +1,7 @@
 -- What blocks of which some are split keep of those before.
 use Rattle.std.specs.Prelude.{ℕ, ◌≤◌, ◌+◌, ◌*◌, Bool, List, All, IsTrue, length}
 use Rattle.suifvm_ir.specs.Functions.{AllInsns, GoesToBlocks, EndsLate, UsesRegisters, stops, count_of}
+use Rattle.cfg.specs.Edges.{successors_from, edge_count}
 use Rattle.cfg.specs.Walks.{SameWalks}
 use Rattle.cfg.specs.Paths.{AllReached}
 use Rattle.cfg.specs.Contents.{KeepsBlocks, KeepsBack}
@@ -24,3 +25,4 @@ pub record IsSplitPart {I : Type 0} (reads writes targets : I → List ℕ) (wit
   pub most_insns : count_of after ≤ count_of before + 2 * length before
   pub blocks : length after ≤ length before + 2 * critical_count targets flows_on before
   pub insns : count_of after ≤ count_of before + 2 * critical_count targets flows_on before
+  pub edges : length after ≤ length before + edge_count (successors_from targets flows_on 0 before)

@@ -1,0 +1,6 @@
+mod Bare
+mod Splits
+mod Forms
+mod Settled
+mod Names
+mod Marks

@@ -1,0 +1,25 @@
+//! The laws, each the contract of a function that does nothing. They speak of blocks that keep the contents of others,
+//! as `remove_unreachable` (`cfg`) and `split_edges` (`cfg_edges`) give them.
+
+ghost use Rattle.back_laws.specs.Kept.{SettledIsKept, NamesAreKept, MarksAreKept};
+ghost use Rattle.back_laws.specs.Bulks.{SplitsKeepBulk};
+
+/// Each fixed register that is read was written as fixed before, where it was so in the blocks before.
+pub fn settled_is_kept()
+    ensures { SettledIsKept }
+{}
+
+/// What the blocks name is there, where what those before name is.
+pub fn names_are_kept()
+    ensures { NamesAreKept }
+{}
+
+/// A jump back goes to a block that begins with a mark, where each of the blocks before does.
+pub fn marks_are_kept()
+    ensures { MarksAreKept }
+{}
+
+/// A function whose edges were split is no larger than was counted for it before.
+pub fn splits_keep_the_bulk()
+    ensures { SplitsKeepBulk }
+{}
