@@ -2,7 +2,7 @@
 use Rattle.std.proofs.Common.{◌≡◌, ℕ, suc, ◌+◌, IsTrue, List, [], ◌∷◌, ◌++◌, length, slice_get, Option, Some, None, Ok, Err, IfOk, refl, ◌∙◌, subst, arith}
 use Rattle.c_tree.specs.declared.expressions.UnaryOp.{UnaryOp}
 use Rattle.c_tree.specs.declared.expressions.UnaryOp.TheVariants as u
-use Rattle.c_typed_tree.specs.Typing.{Context, is_memory_local}
+use Rattle.c_typed_tree.specs.Typing.{Context}
 use Rattle.c_type_faults.specs.declared.faults.Kind.{Kind}
 use Rattle.c_type_rules.specs.declared.typed.Place.{Place}
 use Rattle.c_type_rules.specs.declared.typed.Place.TheVariants as p
@@ -13,7 +13,7 @@ use Rattle.c_checks.specs.declared.notes.Notes.{Notes}
 use Rattle.c_checks.specs.Checks.{fault, note_fault}
 use Rattle.c_checks.specs.Notes.{with_address, with_fault, with_use, new_text}
 use Rattle.c_judgements.specs.Operators.{taken_by}
-use Rattle.c_type_laws.specs.Typed.{is_memory, IsTypedIn, TakesMemory}
+use Rattle.c_type_laws.specs.Typed.{may_be_memory, is_memory, IsTypedIn, TakesMemory}
 use Rattle.c_type_laws.proofs.Truth.{no_true}
 use Rattle.c_judgement_laws.specs.Covers.{AreInMemory, HasText, HaveTexts, Knows, Takes, IsJudged, Judges}
 use Rattle.c_judgement_laws.proofs.Whole.{V}
@@ -24,7 +24,7 @@ memory_front : (c : Context) (xs ys : List ℕ) → AreInMemory c (xs ++ ys) →
 memory_front c [] ys h = tt
 memory_front c (x ∷ xs) ys h = (h.0, memory_front c xs ys h.1)
 
-memory_last : (c : Context) (xs : List ℕ) (x : ℕ) → AreInMemory c (xs ++ x ∷ []) → IsTrue (is_memory_local (slice_get c.locals x))
+memory_last : (c : Context) (xs : List ℕ) (x : ℕ) → AreInMemory c (xs ++ x ∷ []) → IsTrue (may_be_memory (slice_get c.locals x))
 memory_last c [] x h = h.0
 memory_last c (y ∷ ys) x h = memory_last c ys x h.1
 

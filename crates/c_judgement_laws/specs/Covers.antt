@@ -9,7 +9,7 @@ use Rattle.c_typed_tree.specs.Types as t
 use Rattle.c_typed_tree.specs.Types.{PlainType}
 use Rattle.c_typed_tree.specs.View.{type_view}
 use Rattle.c_typed_tree.specs.Constants.{is_integer}
-use Rattle.c_typed_tree.specs.Typing.{Context, is_fit, is_memory_local, has_local_type, has_global_type, depth_behind, most_depth}
+use Rattle.c_typed_tree.specs.Typing.{Context, is_fit, has_local_type, has_global_type, depth_behind, most_depth}
 use Rattle.c_typed_tree.specs.Lawful.{IsLawfulStruct}
 use Rattle.c_type_rules.specs.declared.typed.TypedExpression.{TypedExpression}
 use Rattle.c_primary_rules.specs.Primary.{text_type}
@@ -22,7 +22,7 @@ use Rattle.c_checks.specs.declared.meanings.Tag.TheVariants as g
 use Rattle.c_checks.specs.declared.meanings.UntaggedStruct.{UntaggedStruct}
 use Rattle.c_checks.specs.declared.notes.Notes.{Notes}
 use Rattle.c_checks.specs.Scopes.{meaning_of}
-use Rattle.c_type_laws.specs.Typed.{IsTypedIn, IsFunctionOf, AreKnown}
+use Rattle.c_type_laws.specs.Typed.{may_be_memory, IsTypedIn, IsFunctionOf, AreKnown}
 
 -- ---- names
 
@@ -71,10 +71,10 @@ pub record HasStructs (c : Context) (structs : List StructDef) : Type 0 where
   pub complete : AreKnown structs c.structs
   pub members : (number : ℕ) (d : StructDef) → slice_get structs number ≡ Some d → IsFalse d.complete → d.members ≡ []
 
--- each local of these is in memory
+-- each local of these that is there is in memory
 abbrev pub AreInMemory : Context → List ℕ → Type 0
 AreInMemory c [] = Unit {0}
-AreInMemory c (number ∷ rest) = IsTrue (is_memory_local (slice_get c.locals number)) × AreInMemory c rest
+AreInMemory c (number ∷ rest) = IsTrue (may_be_memory (slice_get c.locals number)) × AreInMemory c rest
 
 -- an object of so many bytes, as a string literal is
 abbrev pub HasText : Context → (number length : ℕ) → Type 0

@@ -19,6 +19,7 @@ use Rattle.std.specs.List.{prefix_len}
 use Rattle.c_lexer.specs.declared.literals.Item.{Item}
 use Rattle.c_type_faults.specs.declared.faults.Fault.{Fault}
 use Rattle.c_typed_tree.specs.declared.types.CType as t
+use Rattle.c_typed_tree.specs.declared.units.Local.{Local}
 use Rattle.c_typed_tree.specs.declared.expressions.Callee.{Callee}
 use Rattle.c_typed_tree.specs.declared.expressions.TExpr as e
 use Rattle.c_typed_tree.specs.Types.{PlainType}
@@ -27,7 +28,7 @@ use Rattle.c_typed_tree.specs.Expressions.{Expr, Exprs, no_exprs, more_exprs, ty
 use Rattle.c_typed_tree.specs.View.{type_view, expr_view}
 use Rattle.c_typed_tree.specs.model.View.{exprs_view, opens}
 use Rattle.c_typed_tree.proofs.Views.{view_call, view_comma}
-use Rattle.c_typed_tree.specs.Typing.{Context, is_same_type, is_array, is_fit, has_local_type, has_global_type, are_arguments, is_call, has_last_type, are_operands, has_rule, is_typed, are_typed, depth_behind, most_depth}
+use Rattle.c_typed_tree.specs.Typing.{Context, is_same_type, is_array, is_fit, has_local_type, has_global_type, are_arguments, is_call, has_last_type, are_operands, has_rule, is_memory_local, is_typed, are_typed, depth_behind, most_depth}
 use Rattle.c_type_rules.specs.declared.typed.TypedExpression.{TypedExpression}
 use Rattle.c_type_rules.specs.Values.{integer}
 use Rattle.c_type_rules.specs.Conversions.{decay}
@@ -37,8 +38,8 @@ use Rattle.c_primary_rules.specs.Calls.{call}
 use Rattle.c_primary_rules.specs.Commas.{nothing, with_value, gathered_from, comma_of, comma}
 use Rattle.c_primary_rules.specs.Switches.{switched_of, switch_operand}
 use Rattle.c_primary_rules.specs.declared.commas.CommaOperands.{CommaOperands}
-use Rattle.c_type_laws.specs.Typed.{IsTypedIn, AreTypedIn, AreOfTypes, IsFunctionOf, IsSwitched}
-use Rattle.c_type_laws.proofs.Truth.{also, three, along}
+use Rattle.c_type_laws.specs.Typed.{may_be_memory, IsTypedIn, AreTypedIn, AreOfTypes, IsFunctionOf, IsSwitched}
+use Rattle.c_type_laws.proofs.Truth.{no_true, also, three, along}
 use Rattle.c_type_laws.proofs.Types.{alike, equal, promote_promoted, promoted}
 use Rattle.c_type_laws.proofs.Values.{IsValueIn, fit_in, value_typed, integer_operand, decay_typed}
 use Rattle.c_type_laws.proofs.Places.{number_typed}
@@ -124,13 +125,18 @@ module _ (c : Context) where
 
   -- ---- names
 
+  -- a local of a type is there
+  there_in_memory : (o : Option Local) (ty : PlainType) → IsTrue (has_local_type o ty) → IsTrue (may_be_memory o) → IsTrue (is_memory_local o)
+  there_in_memory None ty h m = no_true h
+  there_in_memory (Some l) ty h m = m
+
   pub local_typed : (at number : ℕ) (ty : t.CType) → IsTrue (has_local_type (slice_get c.locals number) (type_view ty)) → IsTrue (is_fit c.structs (type_view ty)) → IsTrue (nat_le (depth_behind (type_view ty)) most_depth)
       → IsTypedIn c (local at number ty)
   unfolding opens
   local_typed at number ty rule fit depth = record {
     tree = also (is_fit c.structs (type_view ty)) (has_rule c (form.Local (type_view ty) number)) fit rule;
     type = refl;
-    place = λ s. record { place = refl; memory = λ m. m; depth = depth };
+    place = λ s. record { place = refl; memory = λ m. there_in_memory (slice_get c.locals number) (type_view ty) rule m; depth = depth };
     array = λ y. refl;
   }
 

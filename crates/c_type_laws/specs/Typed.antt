@@ -1,6 +1,6 @@
 -- What is well typed of what a rule gives (C99 6.5): the tree of an expression is well typed in a context, it has the
 -- type that the expression has, and where the expression is a place, so is the tree.
-use Rattle.std.specs.Prelude.{◌≡◌, ℕ, ◌<◌, ◌^◌, nat_le, Bool, true, false, IsTrue, IsFalse, List, [], ◌∷◌, map, slice_get, Some}
+use Rattle.std.specs.Prelude.{◌≡◌, ℕ, ◌<◌, ◌^◌, nat_le, Bool, true, false, IsTrue, IsFalse, List, [], ◌∷◌, map, slice_get, Option, Some, None}
 use Rattle.c_tree.specs.declared.expressions.UnaryOp.{UnaryOp}
 use Rattle.c_tree.specs.declared.expressions.UnaryOp.TheVariants as u
 use Rattle.c_declared_types.specs.declared.declared.DeclaredType.{DeclaredType}
@@ -14,7 +14,7 @@ use Rattle.c_typed_tree.specs.Types.{PlainType}
 use Rattle.c_typed_tree.specs.Expressions.{Expr, type_of}
 use Rattle.c_typed_tree.specs.View.{type_view, expr_view}
 use Rattle.c_typed_tree.specs.Layout.{is_complete, is_object, size_of}
-use Rattle.c_typed_tree.specs.Typing.{Context, callee_signature, is_promoted, is_scalar, is_array, is_fit, is_member, is_place, is_memory_local, is_in_memory, is_typed, depth_behind, most_depth}
+use Rattle.c_typed_tree.specs.Typing.{Context, callee_signature, is_promoted, is_scalar, is_array, is_fit, is_member, is_place, is_in_memory, is_typed, depth_behind, most_depth}
 use Rattle.c_type_rules.specs.declared.typed.Place.{Place}
 use Rattle.c_type_rules.specs.declared.typed.Place.TheVariants as p
 use Rattle.c_type_rules.specs.declared.typed.TypedExpression.{TypedExpression}
@@ -23,10 +23,15 @@ use Rattle.c_primary_rules.specs.declared.switches.SwitchValue.{SwitchValue}
 use Rattle.c_place_rules.specs.declared.members.FoundMember.{FoundMember}
 use Rattle.c_place_rules.specs.Places.{is_somewhere}
 
+-- a local is in memory where it is there
+abbrev pub may_be_memory : Option Local → Bool
+may_be_memory None = true
+may_be_memory (Some l) = l.in_memory
+
 -- a place that is an object of memory or a part of one, where each local is as the list says
 abbrev pub is_memory : List Local → Place → Bool
 is_memory locals p.Nowhere = false
-is_memory locals (p.Local number) = is_memory_local (slice_get locals number)
+is_memory locals (p.Local number) = may_be_memory (slice_get locals number)
 is_memory locals (p.Global number) = true
 is_memory locals p.Elsewhere = true
 
