@@ -92,4 +92,5 @@ def main():
         print(f"{word:x} => {'; '.join(line(*item) for item in code)}")
 
 
-main()
+if __name__ == "__main__":
+    main()

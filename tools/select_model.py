@@ -3,11 +3,13 @@
 usage: tools/select_model.py < FILE
 
 FILE is `crates/vm_rows/data/selected.rows`. It is printed again with what the model says is due of each row, so that
-nothing has changed where the rows are right. The model is the table of `docs/selection.md`. Constants that one
-instruction makes it makes so; others it makes too, but not in the shortest way, so no row of that file has any.
+nothing has changed where the rows are right. The model is the table of `docs/selection.md`; constants are made as the
+model in `tools/alpha_constants.py` has them.
 """
 import re
 import sys
+
+from alpha_constants import MASK, shortest
 
 CHECKED = {"s32": "l/v", "u32": "l", "s64": "q/v", "u64": "q", "p64": "q"}
 DIVISIONS = {"s32": "l", "u32": "lu", "s64": "q", "u64": "qu"}
@@ -21,28 +23,13 @@ def temp(register):
     return f"t{int(register[1:]) + 4}"
 
 
-def low_half(n):
-    """The number from -2^15 on that has the low 16 bits, and what is left above it."""
-    low = (n + 32768) % 65536 - 32768
-    return low, (n - low) >> 16
-
-
 def constant(n, d):
-    """The code of a number."""
-    low, rest = low_half(n)
-    high, rest = low_half(rest)
-    if n == 0:
-        return [f"bis $31, 0, {d}"]
-    if rest == 0 and high == 0:
-        return [f"lda {d}, {low}($31)"]
-    if rest == 0 and low == 0:
-        return [f"ldah {d}, {high}($31)"]
-    if rest == 0:
-        return [f"ldah {d}, {high}($31)", f"lda {d}, {low}({d})"]
-    low2, rest = low_half(rest)
-    high2, rest = low_half(rest)
-    return [f"ldah {d}, {high2}($31)", f"lda {d}, {low2}({d})", f"sll {d}, 32, {d}", f"ldah {d}, {high}({d})",
-            f"lda {d}, {low}({d})"]
+    """The code of a number: the shortest, by the model of constants."""
+    code = []
+    for name, number, base in shortest(n & MASK):
+        base = base if base == "$31" else d
+        code.append(f"{name} {d}, {number}({base})" if name in ("lda", "ldah") else f"{name} {base}, {number}, {d}")
+    return code
 
 
 def near(n, pointer):

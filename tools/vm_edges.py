@@ -7,6 +7,7 @@ usage: tools/vm_edges.py >> crates/vm_rows/data/vm_runs.rows
 """
 import random
 
+from alpha_constants import WORDS
 from vm_model import BITS, End, Program, Run, escape
 
 random.seed(20001231)
@@ -191,6 +192,72 @@ def calls():
                      'ret.s32 v0'], turns)
 
 
+NINE = ['func nine', 'params 9', 'registers 10', 'B0:'] + [f'cal -, putchar, v{k}' for k in range(9)] + ['ret.s32 v8']
+
+
+def constants():
+    """The words of the rows of constants, ten in a row."""
+    for first in range(0, len(WORDS), 10):
+        body = []
+        for number in WORDS[first:first + 10]:
+            body += [f'ldc.u64 v0, {word("s64", number)}'] + show('u64', 0)
+        row(SHOW + main_of(body))
+
+
+def arguments():
+    """Nine arguments, of a call whose value is taken and of one whose value is dropped."""
+    put = [f'ldc.s32 v{k}, {65 + k}' for k in range(9)]
+    names = ', '.join(f'v{k}' for k in range(9))
+    back = ', '.join(f'v{k}' for k in reversed(range(9)))
+    main = ['func main', 'params 0', 'registers 10', 'B0:'] + put
+    row(NINE + main + [f'cal v9, nine, {names}', 'cal -, putchar, v9', f'cal -, nine, {back}', 'cal -, putchar, v9',
+                       'ret.s32 v9'])
+    row(NINE + main + [f'cal -, nine, {names}', 'ret.s32 v8'], 9)
+    shift = ['func turned', 'params 9', 'registers 10', 'B0:'] + [
+        'cal v9, nine, v8, v0, v1, v2, v3, v4, v5, v6, v7', 'cal -, nine, v7, v8, v0, v1, v2, v3, v4, v5, v6', 'ret.s32 v9']
+    row(NINE + shift + main + [f'cal v9, turned, {names}', 'ret.s32 v9'])
+
+
+def far():
+    """Displacements at the ends of what an access reaches, and past them."""
+    places = (32767, -32768, 32768, -32769, 65535, 65536, -65536, -65537, 69992, -70000)
+    body = ['lda v1, g0+70000']
+    for k, plus in enumerate(places):
+        body += [f'ldc.s32 v0, {97 + k}', f'str.u8 v1, {plus}, v0']
+    for plus in places:
+        body += [f'lod.u8 v0, v1, {plus}', 'cal -, putchar, v0', f'lod.s8 v0, v1, {plus}', 'cal -, putchar, v0']
+    row(['global 140000 8 writable'] + main_of(body))
+    wide = (('u16', 32766), ('s16', -32768), ('s32', 32768), ('u32', 32764), ('s64', 65536), ('u64', -65544))
+    body = ['lda v1, g0+70000']
+    for ty, plus in wide:
+        to = {'u16': 's32', 's16': 's32'}.get(ty, ty)
+        body += [f'ldc.{to} v0, {word(to, 0x7654321089abcdef)}', f'str.{ty} v1, {plus}, v0', f'lod.{ty} v2, v1, {plus}']
+        body += show(to, 2)
+    row(['global 140000 8 writable'] + SHOW + main_of(body))
+
+
+def copies():
+    """Copies at each alignment, of a number, a pointer, bytes that were never written, and another number."""
+    fill = ['lda v0, m0+0', 'lda v1, m1+0', 'lda v2, g0+1', 'ldc.s32 v3, 1094861636', 'str.s32 v0, 0, v3', 'str.p64 v0, 8, v2',
+            'str.s16 v0, 16, v3']
+    seen = ['lod.s32 v4, v1, 0', 'cal -, putchar, v4', 'lod.p64 v5, v1, 8', 'lod.u8 v4, v5, 0', 'cal -, putchar, v4',
+            'lod.u8 v4, v5, -1', 'cal -, putchar, v4', 'lod.u8 v4, v1, 17', 'cal -, putchar, v4']
+    main = main_of([])
+    objects = main[:3] + ['object 32 8', 'object 48 8', 'B0:']
+    for align in (1, 2, 4, 8):
+        row(['global 4 4 writable abcd'] + objects + fill + [f'mcpy v1, v0, 24, {align}'] + seen + main[4:])
+    # a pointer in pieces at places that are none of its own, and back, and a copy onto itself
+    torn = ['lda v6, m1+1', 'mcpy v6, v0, 24, 1', 'mcpy v0, v6, 24, 1', 'mcpy v0, v0, 24, 2', 'mcpy v1, v0, 24, 2']
+    row(['global 4 4 writable abcd'] + objects + fill + torn + seen + main[4:])
+    # past the reach of one pointer
+    long = ['lda v0, g0+0', 'lda v1, g1+0', 'ldc.s32 v2, 65', 'ldc.s32 v3, 90']
+    for align in (1, 2, 4, 8):
+        ends = ['str.u8 v0, 0, v2', 'str.u8 v0, 16384, v3', 'str.u8 v0, 16399, v2', f'mcpy v1, v0, 16400, {align}']
+        for plus in (0, 16384, 16399):
+            ends += [f'lod.u8 v4, v1, {plus}', 'cal -, putchar, v4']
+        row(['global 16400 8 writable', 'global 16400 8 writable'] + main_of(long + ends))
+
+
 print('# each instruction with operands at its edges, by tools/vm_edges.py\n')
 for part in (arithmetic, shifts, conversions, comparisons, single, memory):
     part()
@@ -198,3 +265,11 @@ print('# what has no meaning, with the number of the instruction\n')
 undefined()
 print('# calls that call themselves and each other, objects of each call, and numbers of turns\n')
 calls()
+print('# the words of the rows of constants\n')
+constants()
+print('# nine arguments, and calls whose value is dropped\n')
+arguments()
+print('# displacements at the ends of what an access reaches, and past them\n')
+far()
+print('# copies at each alignment, with pointers and bytes that were never written\n')
+copies()

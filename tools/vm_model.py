@@ -4,7 +4,8 @@ usage: tools/vm_model.py < FILE
 
 FILE is one of rows of `crates/vm_rows/data/`. It is printed again with what the model says is due of each row, so that
 nothing has changed where the rows are right. The model takes integers from Python, and memory as lists of bytes; a
-pointer is an object with an offset. It knows what the rows use: of pointers only sums, accesses and copies.
+pointer is an object with an offset, and in memory eight parts of itself. It knows what the rows use: of pointers only
+sums, accesses and copies.
 """
 import re
 import sys
@@ -15,6 +16,11 @@ BITS = {"s8": 8, "u8": 8, "s16": 16, "u16": 16, "s32": 32, "u32": 32, "s64": 64,
 
 class End(Exception):
     """The end of a run."""
+
+
+def width(ty):
+    """The bytes of an access."""
+    return 8 if ty == "p64" else BITS[ty] // 8
 
 
 def value(ty, word):
@@ -94,7 +100,9 @@ class Run:
             raise End("Trapped { code: 3 }")
         return word(ty, result)
 
-    def shift(self, op, ty, a, count):
+    def shift(self, pc, op, ty, a, count):
+        if count >= BITS[ty]:
+            raise End(f"Undefined {{ pc: {pc} }}")
         ty = {"asr": "s", "lsr": "u", "lsl": ty[0]}[op] + ty[1:]
         a = value(ty, a)
         return word(ty, a << count if op == "lsl" else a >> count)
@@ -118,28 +126,46 @@ class Run:
     def place(self, name, own):
         return int(name[1:]) + (own if name[0] == "m" else 0)
 
-    def cells(self, pc, pointer, plus, size, writes=False):
+    def cells(self, pc, pointer, plus, size, align=None, writes=False):
         """The object that a pointer goes to, and where the bytes of an access stand in it."""
+        if not isinstance(pointer, tuple):
+            raise End(f"Undefined {{ pc: {pc} }}")
         thing, offset = pointer
         cells, at = self.memory[thing], offset + plus
         if cells is None or at < 0 or at + size > len(cells) or writes and thing in self.program.constants:
             raise End(f"Undefined {{ pc: {pc} }}")
+        if at % (align or size):
+            raise End(f"Undefined {{ pc: {pc} }}")
         return cells, slice(at, at + size)
 
+    def moved(self, pc, pointer, by):
+        thing, offset = pointer
+        if not 0 <= offset + by <= len(self.memory[thing]):
+            raise End(f"Undefined {{ pc: {pc} }}")
+        return thing, offset + by
+
     def load(self, pc, ty, pointer, plus):
-        cells, where = self.cells(pc, pointer, plus, BITS[ty] // 8)
+        cells, where = self.cells(pc, pointer, plus, width(ty))
         cells = cells[where]
+        if ty == "p64" and isinstance(cells[0], tuple):
+            assert cells == [(cells[0][0], k) for k in range(8)]
+            return cells[0][0]
+        if any(not isinstance(cell, int) for cell in cells):
+            raise End(f"Undefined {{ pc: {pc} }}")
         number = value(ty, int.from_bytes(bytes(cells), "little"))
         return number & MASK if ty != "u32" else word(ty, number)
 
     def store(self, pc, ty, pointer, plus, stored):
-        size = BITS[ty] // 8
+        size = width(ty)
         cells, where = self.cells(pc, pointer, plus, size, writes=True)
+        if isinstance(stored, tuple):
+            cells[where] = [(stored, k) for k in range(8)]
+            return
         cells[where] = (stored & ((1 << 8 * size) - 1)).to_bytes(size, "little")
 
-    def copy(self, pc, to, source, size):
-        there, from_there = self.cells(pc, source, 0, size)
-        here, to_here = self.cells(pc, to, 0, size, writes=True)
+    def copy(self, pc, to, source, size, align):
+        there, from_there = self.cells(pc, source, 0, size, align)
+        here, to_here = self.cells(pc, to, 0, size, align, writes=True)
         here[to_here] = there[from_there]
 
     def call(self, name, arguments):
@@ -176,10 +202,9 @@ class Run:
             elif op == "str":
                 self.store(number, types[0], read(0), int(names[1]), read(2))
             elif op == "mcpy":
-                self.copy(number, read(0), read(1), int(names[2]))
+                self.copy(number, read(0), read(1), int(names[2]), int(names[3]))
             elif op == "add" and types[0] == "p64":
-                thing, offset = read(1)
-                write((thing, offset + value("s64", read(2))))
+                write(self.moved(number, read(1), value("s64", read(2))))
             elif op == "mov":
                 write(read(1))
             elif op == "neg":
@@ -189,7 +214,7 @@ class Run:
             elif op in ("add", "sub", "mul", "div", "rem", "and", "ior", "xor"):
                 write(self.arithmetic(op, types[0], read(1), read(2)))
             elif op in ("asr", "lsl", "lsr"):
-                write(self.shift(op, types[0], read(1), read(2)))
+                write(self.shift(number, op, types[0], read(1), read(2)))
             elif op == "cvt":
                 write(word(types[1], value(types[0], read(1))))
             elif op in ("seq", "sne", "sl", "sle"):
