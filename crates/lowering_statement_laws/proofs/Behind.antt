@@ -110,7 +110,7 @@ module _ (blocks : List (List VmInsn)) (last : ℕ) (end : List VmInsn) where
     left_label ty Default name = left_none
     left_label ty (Case word) name = left_on (left_plain _) (left_on (left_plain _) (left_branch _ _ _ _))
 
-    left_labels : (ty : PlainType) (ts : List Target) → Left (λ is. labels_code L ds ls ty ts is)
+    pub left_labels : (ty : PlainType) (ts : List Target) → Left (λ is. labels_code L ds ls ty ts is)
     left_labels ty [] = left_none
     left_labels ty (t ∷ ts) = left_on (left_label ty t.label t.name) (left_labels ty ts)
 

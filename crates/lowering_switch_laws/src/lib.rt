@@ -1,0 +1,4 @@
+//! What the code of a `switch` does.
+#![tactic(auto)]
+
+pub mod laws;
