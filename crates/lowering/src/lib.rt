@@ -1,0 +1,7 @@
+//! The code of units: from a typed unit to a program over virtual registers.
+#![tactic(auto)]
+
+mod globals;
+mod units;
+
+pub use units::lower;

@@ -1,0 +1,59 @@
+//! The code of units.
+
+ghost use Rattle.std.specs.Prelude.{◌≡◌, ◌≤◌, ◌^◌, All, IfOk};
+ghost use Rattle.c_typed_tree.specs.Lawful.{IsLawful};
+ghost use Rattle.c_typed_tree.specs.Weight.{unit_weight};
+ghost use Rattle.suifvm_ir.specs.Programs.{program_size};
+ghost use Rattle.lowering.specs.Lowered.{IsLowered, AreLowered, CanBeLowered, AreWithinWeight};
+
+use crate::globals::copy_objects;
+use c_tree::Seq;
+use c_typed_tree::{StructDef, TypedFn, TypedUnit};
+use lowering_functions::lower_function;
+use std::alloc::{AllocError, Global};
+use suifvm_ir::function::Func;
+use suifvm_ir::insn::VmInsn;
+use suifvm_ir::program::VmProgram;
+
+/// The code of one function.
+fn one(alloc: Global, structs: &[StructDef], f: &TypedFn) -> Result<Func<VmInsn>, AllocError>
+    requires { CanBeLowered structs.now f.now }
+    ensures { IfOk result (λ g. IsLowered structs.now f.now g) }
+{
+    let g = lower_function(alloc, structs, f)?;
+    Ok(g)
+}
+
+/// The code of all functions, by their numbers.
+fn all_functions(
+    alloc: Global,
+    structs: &[StructDef],
+    list: &[TypedFn],
+) -> Result<Seq<Func<VmInsn>>, AllocError>
+    requires { All (CanBeLowered structs.now) list.now }
+    ensures { IfOk result (λ fs. AreLowered structs.now list.now fs) }
+{
+    let mut functions = Seq::new(alloc);
+    for f in list {
+        functions.push(one(alloc, structs, f)?)?;
+    }
+    Ok(functions)
+}
+
+/// The program of a lawful unit: each function is the code of the unit's function with its number, by its weight it has
+/// few registers, few arguments in a call and little cost, and the objects of static storage are the unit's. It fails
+/// only where memory is short.
+///
+/// The weight of the unit is at most 131,072.
+pub fn lower(alloc: Global, unit: &TypedUnit) -> Result<VmProgram, AllocError>
+    requires lawful { IsLawful unit.now }
+    requires weight { unit_weight unit.now ≤ 131072 }
+    ensures functions { IfOk result (λ p. AreLowered unit.now.structs unit.now.functions p.functions) }
+    ensures globals { IfOk result (λ p. p.globals ≡ unit.now.globals) }
+    ensures weights { IfOk result (λ p. AreWithinWeight unit.now.structs unit.now.functions p.functions) }
+    ensures size { IfOk result (λ p. program_size p.functions ≤ 2 ^ 24) }
+{
+    let functions = all_functions(alloc, unit.structs.as_slice(), unit.functions.as_slice())?;
+    let globals = copy_objects(alloc, &unit.globals)?;
+    Ok(VmProgram { functions, globals })
+}

@@ -1,0 +1,4 @@
+pub mod Costs
+pub mod Fits
+pub mod Depths
+pub mod Laws
