@@ -1,0 +1,44 @@
+-- Lawful cells of an object that a program may write, among the objects of static storage of its unit.
+use Rattle.std.specs.Prelude.{◌≡◌, ℕ, ◌*◌, ◌/◌, ◌<◌, ◌≤◌, List, [], ◌∷◌, length, slice_get, Option, Some, None}
+use Rattle.c_constant_rules.specs.declared.addresses.Address.{Address}
+use Rattle.data_object.specs.declared.DataObject.{DataObject}
+use Rattle.data_object.specs.declared.Cell.{Cell}
+use Rattle.data_object.specs.declared.Cell.TheVariants.{Byte, AddressPart}
+use Rattle.data_object.specs.Globals.{Reaches, StandsWhole}
+use Rattle.c_initial_values.specs.declared.values.InitialValue.{InitialValue}
+use Rattle.c_initial_values.specs.declared.values.InitialValue.TheVariants as v
+
+-- ---- addresses
+
+-- an object of so many bytes is there
+abbrev pub HasSize : (size : ℕ) → Option DataObject → Type 0
+HasSize size None = ⊥
+HasSize size (Some o) = o.size ≡ size
+
+-- an address lies in its object, or at its end
+pub record IsAddressIn (globals : List DataObject) (a : Address) : Type 0 where
+  pub there : HasSize a.size (slice_get globals a.global)
+  pub within : a.plus ≤ a.size
+
+abbrev pub IsValueIn : List DataObject → InitialValue → Type 0
+IsValueIn globals (v.Word of word) = Unit {0}
+IsValueIn globals v.Null = Unit {0}
+IsValueIn globals (v.Address a) = IsAddressIn globals a
+
+-- ---- cells
+
+-- as `IsLawfulCell` of `data_object` asks of the cells of an object that may be written
+abbrev pub IsCellIn : List DataObject → List Cell → (at : ℕ) → Cell → Type 0
+IsCellIn globals cells at (Byte b) = b < 256
+IsCellIn globals cells at (AddressPart global plus part) =
+    StandsWhole cells (at / 8 * 8) global plus × Reaches plus (slice_get globals global)
+
+-- lawful cells that go no further than a place
+pub record AreCells (globals : List DataObject) (end : ℕ) (cells : List Cell) : Type 0 where
+  pub within : length cells ≤ end
+  pub lawful : (at : ℕ) (x : Cell) → slice_get cells at ≡ Some x → IsCellIn globals cells at x
+
+-- each of these numbers is a byte
+abbrev pub AreBytes : List ℕ → Type 0
+AreBytes [] = Unit {0}
+AreBytes (b ∷ bs) = (b < 256) × AreBytes bs

@@ -1,0 +1,4 @@
+//! What judgements note.
+#![tactic(auto)]
+
+pub mod laws;
