@@ -20,7 +20,7 @@ use Rattle.edge_shapes.proofs.Fits.{found_fits}
 
 -- ---- tests
 
-test-or-not : (b : Bool) → (b ≡ true) ⊎ (b ≡ false)
+pub test-or-not : (b : Bool) → (b ≡ true) ⊎ (b ≡ false)
 test-or-not true = inl refl
 test-or-not false = inr refl
 
@@ -55,7 +55,7 @@ found-too p q (x ∷ es) z narrow is e = ⊎_elim
 
 -- ---- all edges
 
-get-some : {X : Type 0} (xs : List X) (k : ℕ) (d : X) → k < length xs → slice_get xs k ≡ Some (slice_index_or xs k d)
+pub get-some : {X : Type 0} (xs : List X) (k : ℕ) (d : X) → k < length xs → slice_get xs k ≡ Some (slice_index_or xs k d)
 get-some [] k d lt = absurd (omega (arith, lt))
 get-some (x ∷ xs) zero d lt = refl
 get-some (x ∷ xs) (suc k) d lt = get-some xs k d (omega (arith, lt))
@@ -73,7 +73,7 @@ all-rising P (a ∷ b ∷ []) h = either (All P) (nat_lt b a) (b ∷ a ∷ []) (
     h
 all-rising P (a ∷ b ∷ c ∷ xs) h = h
 
-all-edges : (G : ℕ × ℕ → Type 0) (start : ℕ) (blocks : List (List TempInsn)) → ((k : ℕ) (insns : List TempInsn) → slice_get blocks k ≡ Some insns → (to : ℕ) → Contains (successors_of targets_of flows_on_of (start + k) insns) to → G (start + k, to)) → All G (edges_from start blocks)
+pub all-edges : (G : ℕ × ℕ → Type 0) (start : ℕ) (blocks : List (List TempInsn)) → ((k : ℕ) (insns : List TempInsn) → slice_get blocks k ≡ Some insns → (to : ℕ) → Contains (successors_of targets_of flows_on_of (start + k) insns) to → G (start + k, to)) → All G (edges_from start blocks)
 all-edges G start [] h = All-from_recursion G [] tt
 all-edges G start (insns ∷ blocks) h = All-append G (map (λ to. (start, to)) (rising after)) (edges_from (suc start) blocks)
     (All-map G (λ to. (start, to)) (rising after)
@@ -90,7 +90,7 @@ all-edges G start (insns ∷ blocks) h = All-append G (map (λ to. (start, to)) 
     here to = let e : start + 0 ≡ start = omega arith in
         subst (λ m. Contains (successors_of targets_of flows_on_of m insns) to → G (m, to)) e (h 0 insns refl to)
 
-all-unmapped : {X Y : Type 0} (G : Y → Type 0) (f : X → Y) (xs : List X) → All G (map f xs) → All (λ x. G (f x)) xs
+pub all-unmapped : {X Y : Type 0} (G : Y → Type 0) (f : X → Y) (xs : List X) → All G (map f xs) → All (λ x. G (f x)) xs
 all-unmapped G f [] h = All-from_recursion (λ x. G (f x)) [] tt
 all-unmapped G f (x ∷ xs) h = All-cons (λ z. G (f z)) x xs (All-head G (f x) (map f xs) h) (all-unmapped G f xs (All-tail G (f x) (map f xs) h))
 

@@ -11,12 +11,12 @@ use Rattle.data_object.specs.declared.DataObject.{DataObject}
 use Rattle.data_object.specs.declared.Cell.{Cell}
 use Rattle.data_object.specs.declared.Cell.TheVariants.{Byte, AddressPart}
 use Rattle.data_object.specs.Layout.{LieFrom}
-use Rattle.data_object.specs.Globals.{Reaches, IsLawfulCell, IsLawfulObject, AreLawful}
+use Rattle.data_object.specs.Globals.{Reaches}
 use Rattle.data_object.specs.Start.{memory_cell, start_object, start_memory}
 use Rattle.flat_memory.specs.Bytes.{Bytes, AreBytes, low_bytes}
 use Rattle.flat_memory.specs.Relation.{Extents, IsExtent, CellIs, CellsAreAt, OfObject, Nobody, ObjectIs, MemoryIs}
 use Rattle.flat_memory.specs.Machine.{is_in_data, is_in_stack, memory_bytes, HasParts}
-use Rattle.flat_globals.specs.Globals.{offset_of, cell_byte, DataIs, extents_of, owner_from, owner_of}
+use Rattle.flat_globals.specs.Globals.{offset_of, cell_byte, AreLaidOut, DataIs, extents_of, owner_from, owner_of}
 use Rattle.flat_globals.proofs.Lists.{get-below, stands-at, get-index, get-map, map-size, replicate-size, append-size, get-first, get-second, get-same, byte-small}
 
 -- ---- where objects lie
@@ -124,7 +124,7 @@ cells-at xs b (x ∷ cells) a h = (
   cells-at xs b cells (suc a) (λ j y is. let e : a + suc j ≡ suc a + j = omega arith in subst (λ z. CellIs xs y (b z)) e (h (suc j) y is)),
 )
 
-module _ (globals : List DataObject) (p : Program) (s : State) (lawful : AreLawful globals) (d : DataIs globals (data_start p) s.data_bytes) where
+module _ (globals : List DataObject) (p : Program) (s : State) (lawful : AreLaidOut globals) (d : DataIs globals (data_start p) s.data_bytes) where
   abbrev start : ℕ
   start = data_start p
 
@@ -133,9 +133,6 @@ module _ (globals : List DataObject) (p : Program) (s : State) (lawful : AreLawf
 
   made : (k : ℕ) (o : DataObject) → slice_get globals k ≡ Some o → slice_get xs k ≡ Some (record { base = start + o.offset; size = o.size })
   made k o e = get-map (λ (z : DataObject). record { base = start + z.offset; size = z.size }) globals k o e
-
-  object-lawful : (k : ℕ) (o : DataObject) → slice_get globals k ≡ Some o → IsLawfulObject globals o
-  object-lawful k o e = subst (IsLawfulObject globals) (get-index globals k o o e) (lawful.objects k o (get-below globals k o e))
 
   sound : (k : ℕ) (o : DataObject) → slice_get globals k ≡ Some o → IsExtent (record { base = start + o.offset; size = o.size })
   sound k o e =
@@ -164,9 +161,9 @@ module _ (globals : List DataObject) (p : Program) (s : State) (lawful : AreLawf
         is ∙ ap (λ z. slice_index (low_bytes 8 (start + offset_of z + plus)) part) e,
       )
 
-  cell-is : (o : DataObject) (at : ℕ) (x : Cell) (n : ℕ) → IsLawfulCell globals o at x → n ≡ cell_byte globals start x → CellIs xs (memory_cell x) n
-  cell-is o at (Byte b) n h is = is
-  cell-is o at (AddressPart global plus part) n h is = address global plus part n h.2 is
+  cell-is : (k : ℕ) (o : DataObject) → slice_get globals k ≡ Some o → (at : ℕ) (x : Cell) (n : ℕ) → slice_get o.cells at ≡ Some x → n ≡ cell_byte globals start x → CellIs xs (memory_cell x) n
+  cell-is k o e at (Byte b) n h is = is
+  cell-is k o e at (AddressPart global plus part) n h is = address global plus part n (lawful.reaches k o e at global plus part h) is
 
   abbrev all-cells : DataObject → List c.Cell
   all-cells o = map memory_cell o.cells ++ replicate (o.size - length o.cells) (m.Byte 0)
@@ -174,7 +171,7 @@ module _ (globals : List DataObject) (p : Program) (s : State) (lawful : AreLawf
   cells-are : (k : ℕ) (o : DataObject) → slice_get globals k ≡ Some o → (j : ℕ) (x : c.Cell) → slice_get (all-cells o) j ≡ Some x → CellIs xs x (memory_bytes p s (start + o.offset + j))
   cells-are k o e j x is =
       let count = map-size memory_cell o.cells in
-      let most = (object-lawful k o e).cells in
+      let most = lawful.cells k o e in
       let within = d.within k o e in
       ⊎_elim
       (λ lt.
@@ -183,7 +180,7 @@ module _ (globals : List DataObject) (p : Program) (s : State) (lawful : AreLawf
       let same : memory_cell z.one ≡ x = same-some (memory_cell z.one) x (sym (get-map memory_cell o.cells j z.one z.is) ∙ first) in
       let sum : start + (o.offset + j) ≡ start + o.offset + j = omega arith in
       subst (λ y. CellIs xs y (memory_bytes p s (start + o.offset + j))) same
-      (cell-is o j z.one (memory_bytes p s (start + o.offset + j)) ((object-lawful k o e).lawful j z.one z.is)
+      (cell-is k o e j z.one (memory_bytes p s (start + o.offset + j)) z.is
       (ap (memory_bytes p s) (sym sum) ∙ data-byte p s (o.offset + j) (omega (arith, lt, most, within)) ∙ d.cells k o e j z.one z.is)))
       (λ le.
       let second = sym (get-second (map memory_cell o.cells) (replicate (o.size - length o.cells) (m.Byte 0)) j (omega (arith, count, le))) ∙ is in
@@ -205,7 +202,7 @@ module _ (globals : List DataObject) (p : Program) (s : State) (lawful : AreLawf
       let count = append-size (map memory_cell o.cells) (replicate (o.size - length o.cells) (m.Byte 0)) in
       let mapped = map-size memory_cell o.cells in
       let many = replicate-size (o.size - length o.cells) (m.Byte 0) in
-      let most = (object-lawful k o e).cells in
+      let most = lawful.cells k o e in
       record {
         extent = record { base = start + o.offset; size = o.size };
         made = made k o e;
@@ -235,7 +232,7 @@ module _ (globals : List DataObject) (p : Program) (s : State) (lawful : AreLawf
       dead : false ≡ true → ⊥
       dead e = cc
 
-pub globals_stand : (globals : List DataObject) (p : Program) (s : State) → AreLawful globals → DataIs globals (data_start p) s.data_bytes → HasParts p s → AreBytes s.stack_bytes → MemoryIs (extents_of (data_start p) globals) (start_memory globals) (owner_of (data_start p) globals) (memory_bytes p s)
+pub globals_stand : (globals : List DataObject) (p : Program) (s : State) → AreLaidOut globals → DataIs globals (data_start p) s.data_bytes → HasParts p s → AreBytes s.stack_bytes → MemoryIs (extents_of (data_start p) globals) (start_memory globals) (owner_of (data_start p) globals) (memory_bytes p s)
 globals_stand globals p s lawful d parts stack = record {
   each = each globals p s lawful d;
   count = map-size (λ (z : DataObject). record { base = data_start p + z.offset; size = z.size }) globals ∙ sym (map-size start_object globals);

@@ -6,7 +6,8 @@ use Rattle.alpha_isa.specs.State.{State}
 use Rattle.data_object.specs.declared.DataObject.{DataObject}
 use Rattle.data_object.specs.declared.Cell.{Cell}
 use Rattle.data_object.specs.declared.Cell.TheVariants.{Byte, AddressPart}
-use Rattle.data_object.specs.Globals.{AreLawful}
+use Rattle.data_object.specs.Layout.{LieFrom}
+use Rattle.data_object.specs.Globals.{Reaches, AreLawful}
 use Rattle.data_object.specs.Start.{start_memory}
 use Rattle.flat_memory.specs.Bytes.{AreBytes, low_bytes}
 use Rattle.flat_memory.specs.Relation.{Extents, Owners, OfObject, Nobody, MemoryIs}
@@ -22,6 +23,17 @@ abbrev pub cell_byte : List DataObject → (start : ℕ) → Cell → ℕ
 cell_byte globals start (Byte b) = b
 cell_byte globals start (AddressPart global plus part) =
     slice_index (low_bytes 8 (start + offset_of (slice_get globals global) + plus)) part
+
+-- objects lie one behind the other, have no more cells than bytes, and hold addresses of objects that are there
+pub record AreLaidOut (globals : List DataObject) : Type 0 where
+  pub layout : LieFrom 0 globals
+  pub cells : (k : ℕ) (o : DataObject) → slice_get globals k ≡ Some o → length o.cells ≤ o.size
+  pub reaches : (k : ℕ) (o : DataObject) → slice_get globals k ≡ Some o → (at global plus part : ℕ) →
+      slice_get o.cells at ≡ Some (AddressPart global plus part) → Reaches plus (slice_get globals global)
+
+-- so do lawful ones, of which a program keeps that they are lawful
+abbrev pub LawfulOnesAreLaidOut : Type 0
+LawfulOnesAreLaidOut = (globals : List DataObject) → ∥ AreLawful globals ∥₁ → AreLaidOut globals
 
 -- the data holds the objects
 pub record DataIs (globals : List DataObject) (start : ℕ) (data_bytes : List ℕ) : Type 0 where
@@ -49,7 +61,7 @@ owner_of start globals = owner_from start 0 globals
 -- the bytes of a machine with this data stand for the memory at the start,
 abbrev pub GlobalsStand : Type 0
 GlobalsStand =
-    (globals : List DataObject) (p : Program) (s : State) → AreLawful globals →
+    (globals : List DataObject) (p : Program) (s : State) → AreLaidOut globals →
     DataIs globals (data_start p) s.data_bytes → HasParts p s → AreBytes s.stack_bytes →
     MemoryIs (extents_of (data_start p) globals) (start_memory globals) (owner_of (data_start p) globals)
     (memory_bytes p s)

@@ -280,7 +280,7 @@ module _ (b : Build) (main stack : ℕ) (globals : List DataObject) (ok : IsBuil
     old-memory : MemoryIs b.globals memory (owner_of (data_start p) globals) (memory_bytes p x.to)
     old-memory = subst (λ l. MemoryIs l memory (owner_of (data_start p) globals) (memory_bytes p x.to)) (sym g.extents)
         (others_may_change (extents_of (data_start p) globals) memory (owner_of (data_start p) globals) (owner_of (data_start p) globals) (memory_bytes p s) (memory_bytes p x.to)
-        (globals_stand globals p s g.lawful_globals g.data_is parts (zeros-bytes stack))
+        (globals_stand globals p s g.laid_out g.data_is parts (zeros-bytes stack))
         (record {
           owners = λ y k live e. e;
           same = λ y k live e. x.bytes y (inl (below-stack y (object-ne y k e))) ∙ ap (λ (m : Bytes). m y) d.bytes;

@@ -9,7 +9,6 @@ use Rattle.item_steps.specs.Standing.{ItemsAt}
 use Rattle.mem_model.specs.World.{World}
 use Rattle.machine_model.specs.Machine.{Config, Goes, start}
 use Rattle.data_object.specs.declared.DataObject.{DataObject}
-use Rattle.data_object.specs.Globals.{AreLawful}
 use Rattle.alloc_model.specs.Contents.{Content}
 use Rattle.alloc_model.specs.Temporaries.{start_world}
 use Rattle.alloc_model.specs.Places.{Places, placed_code}
@@ -18,7 +17,7 @@ use Rattle.instruction_items.specs.Items.{function_label}
 use Rattle.flat_steps.specs.Builds.{Build, IsBuilt}
 use Rattle.flat_steps.specs.Matching.{FitsStack}
 use Rattle.flat_runs.specs.Runs.{ComesTo}
-use Rattle.flat_globals.specs.Globals.{DataIs, extents_of}
+use Rattle.flat_globals.specs.Globals.{AreLaidOut, DataIs, extents_of}
 
 -- the image begins with a call of the function with a number, and is given a stack of a size
 pub record IsBegun (b : Build) (main stack : ℕ) (globals : List DataObject) : Type 0 where
@@ -29,7 +28,7 @@ pub record IsBegun (b : Build) (main stack : ℕ) (globals : List DataObject) : 
   pub main_there : main < length b.plans
   pub is_stack : IsStack stack
   pub top : b.start.top ≡ stack_start b.program + stack
-  pub lawful_globals : AreLawful globals
+  pub laid_out : AreLaidOut globals
   pub data_is : DataIs globals (data_start b.program) (data_of b.program)
   pub extents : b.globals ≡ extents_of (data_start b.program) globals
 
