@@ -1,0 +1,4 @@
+pub mod Unions
+pub mod Rounds
+pub mod Registers
+pub mod Lives
