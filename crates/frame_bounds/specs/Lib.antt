@@ -1,0 +1,3 @@
+pub mod Rooms
+pub mod Near
+pub mod Fronts

@@ -1,0 +1,10 @@
+-- The registers from one on.
+use Rattle.std.proofs.Common.{◌≡◌, ◌≤◌, ◌-◌}
+use Rattle.call_parts.specs.Items.{save_registers}
+use Rattle.frame_emitter.specs.Layouts.{shape_in}
+use Rattle.frame_emitter.proofs.parts.save_registers.Given as goal
+
+abbrev pub invariant-loop-register : goal.invariant-loop-register
+invariant-loop-register l =
+    (9 ≤ l.register)
+    × (l.items ≡ save_registers (shape_in l.layout) (shape_in l.layout).saves l.register (16 - l.register) l.initial.items)

@@ -1,0 +1,16 @@
+-- What the layout of a function says of its items.
+use Rattle.alloc_model.specs.Places.{Plan, plan_of}
+use Rattle.flat_frames.specs.Shapes.{Shape}
+use Rattle.instruction_items.specs.Items.{Setting}
+use Rattle.function_shapes.specs.Shapes.{shape_of}
+use Rattle.frame_emitter.specs.declared.layout.Layout.{Layout}
+use Rattle.frame_emitter.specs.Settings.{with_blocks, setting_of}
+
+abbrev pub plan_in : Layout → Plan
+plan_in l = with_blocks (plan_of l.allocation.now) l.blocks.now
+
+abbrev pub setting_in : Layout → Setting
+setting_in l = setting_of (plan_in l) l.globals.now l.first_label
+
+abbrev pub shape_in : Layout → Shape
+shape_in l = shape_of (plan_in l)

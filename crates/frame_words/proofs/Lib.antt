@@ -1,0 +1,4 @@
+pub mod Texts
+pub mod Pieces
+pub mod Edges
+pub mod Functions
