@@ -95,7 +95,7 @@ module _ (c : Setting) (found : slice_get c.functions c.number ≡ Some c.code) 
   L = count c
 
   -- the pointer is moved by the bytes that are left
-  moved_on : {o : Observation} (d left : ℕ) (rest : List CodeItem) (heads : List ℕ) (scope : Scope) (r : Registers) (q : Place) (base at : Value) (g : Names) (t : State) (q1 : Registers) (m1 : Memory) → Stands c heads q (moved_code L d left rest)
+  pub moved_on : {o : Observation} (d left : ℕ) (rest : List CodeItem) (heads : List ℕ) (scope : Scope) (r : Registers) (q : Place) (base at : Value) (g : Names) (t : State) (q1 : Registers) (m1 : Memory) → Stands c heads q (moved_code L d left rest)
       → Fit c g scope q1 t m1 → KeepsLower L d r q1 → IsValueOf g base (q1 (address_register L d)) → left ≤ MOST_DATA → IsMoved t.world.outer.memory base left at
       → ((q2 : Place) (q3 : Registers) → Stands c heads q2 rest → Fit c g scope q3 t m1 → KeepsLower L d r q3 → IsValueOf g at (q3 (address_register L d)) → EndsSo c o q2 q3 t.world m1) → EndsSo c o q q1 t.world m1
   moved_on d zero rest heads scope r q base at g t q1 m1 stands fit kept rel le (inl h) next = next q q1 stands fit kept (subst (λ z. IsValueOf g z (q1 (address_register L d))) (sym h.1) rel)
