@@ -9,12 +9,12 @@ use Rattle.c_arithmetic.specs.declared.integer_type.IntegerType.TheVariants as i
 use Rattle.c_arithmetic.specs.IntegerTypes.{fits}
 use Rattle.c_arithmetic.specs.Words.{extension}
 use Rattle.c_arithmetic.proofs.Fits.{fits-wide}
-use Rattle.c_typed_tree.specs.declared.expressions.Builtin.TheVariants.{Putchar, Getchar, Abort}
+use Rattle.c_typed_tree.specs.declared.expressions.Builtin.TheVariants.{Putchar, Getchar, Abort, Exit}
 use Rattle.c_typed_tree.specs.declared.expressions.Callee.TheVariants.{Builtin}
 use Rattle.c_typed_tree.specs.Types.{PlainType, Void}
 use Rattle.c_typed_tree.specs.Expressions.{Expr, Call, no_exprs, more_exprs, type_of}
 use Rattle.c_semantics.specs.Reasons.{UsesNoValue}
-use Rattle.c_semantics.specs.Runs.{State, Run, and_then, in_world, with_outer, use_value, number, pure, turn, trap}
+use Rattle.c_semantics.specs.Runs.{State, Run, and_then, in_world, with_outer, use_value, number, pure, turn, trap, exit}
 use Rattle.c_semantics.specs.Objects.{call_result}
 use Rattle.c_semantics.specs.Evaluates.{eval, builtin, byte_or_end, put, get}
 use Rattle.suifvm_ir.specs.declared.insn.Builtin.TheVariants as vi
@@ -148,4 +148,32 @@ module _ (c : Setting) (found : slice_get c.functions c.number ≡ Some c.code) 
         (turn_meets c.rooms c.functions s (λ _ t. finish (trap {A = Value} 2 t) K1) _
         (λ mt some. turning_over c.rooms c.functions c.number c.code found c.own c.waiting insn p r s.world m mt (machine.Traps 2) at.has.0 refl some refl refl)
         (λ none. no_turn c.rooms c.functions c.number c.code found c.own c.waiting insn p r s.world m at.has.0 refl none refl)));
+  }
+
+  pub exits : (x : Expr) → type_of x ≡ T → ExprMeets c x → ExprMeets c (Call Void (Builtin Exit) (more_exprs x no_exprs))
+  unfolding opens
+  exits x ex hx = record {
+    by = λ d rest heads p f scope r s m K at fit low next.
+        let from = value_register L d (type_of x) in
+        let insn : VmInsn = n.Call None (vk.Builtin vi.Exit) (from ∷ []) in
+        let K1 : Value → State → Observation = λ v u. finish (call_result Void v u) K in
+        let K2 : List Value → State → Observation = λ vs u. finish (builtin Exit vs u) K1 in
+        let more : Value → Run (List Value) = λ v. pure (v ∷ []) in
+        bound c found (and_then (and_then (and_then (eval c.structs c.locals c.calls scope x s) (use_value UsesNoValue)) more) (builtin Exit)) (call_result Void) K p r s.world m
+        (bound c found (and_then (and_then (eval c.structs c.locals c.calls scope x s) (use_value UsesNoValue)) more) (builtin Exit) K1 p r s.world m
+        (bound c found (and_then (eval c.structs c.locals c.calls scope x s) (use_value UsesNoValue)) more K2 p r s.world m
+        (bound c found (eval c.structs c.locals c.calls scope x s) (use_value UsesNoValue) (λ v t. K2 (v ∷ []) t) p r s.world m
+        (hx.by d (Plain insn ∷ rest) heads p f scope r s m (λ v t. finish (use_value UsesNoValue v t) (λ v t. K2 (v ∷ []) t)) at fit low
+        (λ q v g t q1 m1 at1 aft fit1 kept held stands.
+        used_meets c.rooms c.functions UsesNoValue v t (λ v t. K2 (v ∷ []) t) _ (λ set.
+        bound c found (number v t) (λ k u. and_then (turn u) (λ _. exit k)) K1 q q1 t.world m1
+        (number_meets c.rooms c.functions v t (λ k u. finish (and_then (turn u) (λ _. exit k)) K1) _ (λ k is.
+        let one = word_in g L d (type_of x) i.Int v k q1 ex is held stands in
+        let at_from : q1 from ≡ Word k = ap (λ z. q1 (value_register L d z)) ex ∙ one.stands in
+        bound c found (turn t) (λ _. exit k) K1 q q1 t.world m1
+        (turn_meets c.rooms c.functions t (λ _ u. finish (exit {A = Value} k u) K1) _
+        (λ mt some.
+        turning_over c.rooms c.functions c.number c.code found c.own c.waiting insn q q1 t.world m1 mt (machine.Exits (k % 256)) at1.has.0 refl some
+        (ap (λ z. if vm.is_set z && true then callee_act (vk.Builtin vi.Exit) (z ∷ []) (outer_with_memory t.world.outer m1) else fails (outer_with_memory t.world.outer m1)) at_from) refl)
+        (λ none. no_turn c.rooms c.functions c.number c.code found c.own c.waiting insn q q1 t.world m1 at1.has.0 refl none refl))))))))));
   }
