@@ -1,7 +1,6 @@
 //! Programs over virtual registers from their parts, where the parts are lawful.
 #![tactic(auto)]
 
-mod globals;
 mod marks;
 mod names;
 pub mod program;

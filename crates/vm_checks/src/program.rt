@@ -5,11 +5,11 @@ ghost use Rattle.std.specs.Bool.{OnTrue};
 ghost use Rattle.suifvm_ir.specs.Programs as programs;
 ghost use Rattle.suifvm_ir.specs.Programs.{main_count, IsLawfulFunction};
 
-use crate::globals::are_lawful_objects;
 use crate::marks::all_go_to_marks;
 use crate::names::all_names;
 use c_tree::Seq;
 use data_object::DataObject;
+use object_checks::are_lawful_objects;
 use suifvm_ir::function::Func;
 use suifvm_ir::insn::VmInsn;
 use suifvm_ir::program::VmProgram;

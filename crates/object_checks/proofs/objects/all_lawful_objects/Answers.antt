@@ -1,7 +1,7 @@
 use Rattle.std.proofs.Common.{arith}
 use Rattle.data_object.specs.Globals.{IsLawfulObject}
-use Rattle.function_checks.proofs.Alls.{all_more, all_done}
-use Rattle.vm_checks.proofs.globals.all_lawful_objects.Goals as goal
+use Rattle.object_checks.proofs.Alls.{all_more, all_done}
+use Rattle.object_checks.proofs.objects.all_lawful_objects.Goals as goal
 
 pub loop-object-preserved : goal.loop-object-preserved
 loop-object-preserved c =

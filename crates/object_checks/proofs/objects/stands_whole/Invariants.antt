@@ -1,6 +1,6 @@
 use Rattle.std.proofs.Common.{◌≡◌, ℕ, ◌+◌, ◌<◌, slice_get, Some}
 use Rattle.data_object.specs.declared.Cell.TheVariants.{AddressPart}
-use Rattle.vm_checks.proofs.globals.stands_whole.Given as goal
+use Rattle.object_checks.proofs.objects.stands_whole.Given as goal
 
 abbrev pub invariant-loop-part : goal.invariant-loop-part
 invariant-loop-part l =

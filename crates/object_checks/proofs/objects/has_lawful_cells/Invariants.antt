@@ -1,7 +1,7 @@
 use Rattle.std.proofs.Common.{◌≡◌, ℕ, ◌<◌, slice_get, Some}
 use Rattle.data_object.specs.declared.Cell.{Cell}
 use Rattle.data_object.specs.Globals.{IsLawfulCell}
-use Rattle.vm_checks.proofs.globals.has_lawful_cells.Given as goal
+use Rattle.object_checks.proofs.objects.has_lawful_cells.Given as goal
 
 abbrev pub invariant-loop-at : goal.invariant-loop-at
 invariant-loop-at l =

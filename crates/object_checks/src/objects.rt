@@ -127,7 +127,7 @@ fn all_lawful_objects(globals: &[DataObject]) -> bool
 }
 
 /// Whether these are the objects of a program.
-pub(crate) fn are_lawful_objects(globals: &[DataObject]) -> bool
+pub fn are_lawful_objects(globals: &[DataObject]) -> bool
     ensures { OnTrue result (AreLawful globals.now) }
 {
     if globals.len() >= 1 << 32 || !lie_in_order(globals) {

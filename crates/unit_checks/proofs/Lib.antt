@@ -1,0 +1,3 @@
+mod Rounding
+mod Greatest
+mod Lawful
