@@ -1,5 +1,5 @@
 -- A struct that is laid out by structs which are known is laid out among those that know them.
-use Rattle.std.proofs.Common.{◌≡◌, ℕ, ◌+◌, ◌*◌, ◌≤◌, max, nat_le, Bool, true, false, ◌&&◌, IsTrue, List, [], ◌∷◌, Some, None, refl, sym, ap, ◌∙◌, subst, if◌then◌else◌, leb-true}
+use Rattle.std.proofs.Common.{◌≡◌, ℕ, ◌+◌, ◌*◌, ◌≤◌, max, nat_le, Bool, true, false, ◌&&◌, IsTrue, List, [], ◌∷◌, Some, None, refl, sym, ap, ◌∙◌, subst, if◌then◌else◌, leb-true, arith}
 use Rattle.std.proofs.lemmas.Option.{none-some, same_Some}
 use Rattle.std.specs.List.{list_all}
 use Rattle.data_object.specs.declared.TheConstants.{MOST_DATA}
@@ -89,12 +89,19 @@ module _ (ds es : List StructDef) (k : AreKnown ds es) where
       ap (λ a. max a (greatest_depth es (members_from ds (end_of ds end f) fs))) (same_depth (type_view f.ty) (object_in f.ty h.0))
       ∙ ap (max (depth_of ds (type_view f.ty))) (deep_in (end_of ds end f) fs h.1)
 
+  -- none is deeper than a type may be
+  deep_most : (fs : List Field) → AreMembers fs → deepest ds fs ≤ most_depth
+  deep_most [] h = omega arith
+  deep_most (f ∷ fs) h =
+      let own = leb-true (depth_of ds (type_view f.ty)) most_depth (back (is_object ds (type_view f.ty)) (is_deep_at_most ds most_depth f.ty) h.0) in
+      omega (arith, own, deep_most fs h.1)
+
   -- ---- the struct
 
-  whole_lawful : (tag : List ℕ) (fs : List Field) → AreMembers fs → HaveTypes es fs → 1 + deepest ds fs ≤ most_depth
+  whole_lawful : (tag : List ℕ) (fs : List Field) → AreMembers fs → HaveTypes es fs
       → IsTrue (nat_le (whole_size ds (members_from ds 0 fs) (end_behind ds 0 fs)) MOST_DATA)
       → IsLawfulStruct es (struct_with ds tag (members_from ds 0 fs) (deepest ds fs) (whole_size ds (members_from ds 0 fs) (end_behind ds 0 fs)))
-  whole_lawful tag fs h t bound small = record {
+  whole_lawful tag fs h t small = record {
     types = types_in 0 fs h t;
     layout = record {
       members = lie_in 0 fs h;
@@ -103,15 +110,15 @@ module _ (ds es : List StructDef) (k : AreKnown ds es) where
     };
     size = leb-true (whole_size ds (members_from ds 0 fs) (end_behind ds 0 fs)) MOST_DATA small;
     depth = ap (λ d. 1 + d) (sym (deep_in 0 fs h));
-    bound = bound;
+    bound = omega (arith, deep_most fs h);
   }
 
-  pub struct_lawful : (tag : List ℕ) (fs : List Field) (d : StructDef) → HaveTypes es fs → 1 + deepest ds fs ≤ most_depth → struct_where ds tag fs ≡ Some d → IsLawfulStruct es d
-  struct_lawful tag fs d t bound e = of (list_all (λ (f : Field). is_member ds f.ty) fs) refl e
+  pub struct_lawful : (tag : List ℕ) (fs : List Field) (d : StructDef) → HaveTypes es fs → struct_where ds tag fs ≡ Some d → IsLawfulStruct es d
+  struct_lawful tag fs d t e = of (list_all (λ (f : Field). is_member ds f.ty) fs) refl e
     where
       within : (b : Bool) → nat_le (whole_size ds (members_from ds 0 fs) (end_behind ds 0 fs)) MOST_DATA ≡ b → AreMembers fs
           → (if b then Some (struct_with ds tag (members_from ds 0 fs) (deepest ds fs) (whole_size ds (members_from ds 0 fs) (end_behind ds 0 fs))) else None) ≡ Some d → IsLawfulStruct es d
-      within true small h e = subst (IsLawfulStruct es) (same_Some _ d e) (whole_lawful tag fs h t bound small)
+      within true small h e = subst (IsLawfulStruct es) (same_Some _ d e) (whole_lawful tag fs h t small)
       within false small h e = absurd (none-some d e)
 
       of : (b : Bool) → list_all (λ (f : Field). is_member ds f.ty) fs ≡ b → (if b then struct_of ds tag fs else None) ≡ Some d → IsLawfulStruct es d

@@ -1,12 +1,11 @@
 -- The structs that bodies declare are lawful (C99 6.7.2.1).
-use Rattle.std.specs.Prelude.{◌≡◌, ℕ, ◌+◌, ◌≤◌, IsTrue, List, [], ◌∷◌, Some}
+use Rattle.std.specs.Prelude.{◌≡◌, ℕ, IsTrue, List, [], ◌∷◌, Some}
 use Rattle.c_typed_tree.specs.declared.types.StructDef.{StructDef}
 use Rattle.c_typed_tree.specs.View.{type_view}
-use Rattle.c_typed_tree.specs.Typing.{is_type, most_depth}
+use Rattle.c_typed_tree.specs.Typing.{is_type}
 use Rattle.c_typed_tree.specs.Lawful.{IsLawfulStruct}
 use Rattle.c_judgements.specs.Leaves.{incomplete}
 use Rattle.c_struct_layout.specs.declared.fields.Field.{Field}
-use Rattle.c_struct_layout.specs.StructLayout.{deepest}
 use Rattle.c_tag_bodies.specs.Structs.{struct_where}
 use Rattle.c_type_laws.specs.Typed.{AreKnown}
 
@@ -19,7 +18,7 @@ HaveTypes structs (f ∷ fs) = IsTrue (is_type structs (type_view f.ty)) × Have
 abbrev pub StructIsLawful : Type 0
 StructIsLawful =
     (known structs : List StructDef) (tag : List ℕ) (fields : List Field) (d : StructDef) →
-    AreKnown structs known → HaveTypes known fields → 1 + deepest structs fields ≤ most_depth →
+    AreKnown structs known → HaveTypes known fields →
     struct_where structs tag fields ≡ Some d → IsLawfulStruct known d
 
 abbrev pub NewStructIsLawful : Type 0
