@@ -1,0 +1,4 @@
+//! Which labels the items of a function name, and which ones they use.
+#![tactic(auto)]
+
+pub mod laws;
