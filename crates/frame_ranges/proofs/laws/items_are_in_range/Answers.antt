@@ -1,0 +1,5 @@
+use Rattle.frame_ranges.proofs.Items.{function_in_range}
+use Rattle.frame_ranges.proofs.laws.items_are_in_range.Goals as goal
+
+pub returns : goal.returns
+returns c = function_in_range

@@ -1,0 +1,43 @@
+-- When the fields of the items of a function are in their ranges.
+use Rattle.std.specs.Prelude.{◌≡◌, ℕ, ◌+◌, ◌≤◌, ◌<◌, ◌^◌, List, All}
+use Rattle.alpha_isa.specs.Lawful.{IsDisplacement}
+use Rattle.alpha_items.specs.declared.item.AsmItem.{AsmItem}
+use Rattle.alpha_items.specs.Items.{IsItem}
+use Rattle.suifvm_ir.specs.declared.insn.Place.TheVariants.{Global, Local}
+use Rattle.suifvm_ir.specs.Functions.{AllInsns}
+use Rattle.temp_ir.specs.declared.insn.TempInsn.{TempInsn}
+use Rattle.temp_ir.specs.declared.insn.TempInsn.TheVariants as i
+use Rattle.alloc_model.specs.Places.{Plan}
+use Rattle.alloc_model.specs.Faithful.{IsGiven, IsGivenOrScratch, IsTransfer}
+use Rattle.flat_frames.specs.Shapes.{frame_size, object_at}
+use Rattle.instruction_items.specs.Items.{Setting}
+use Rattle.instruction_items.specs.Laws.{IsSmallOperand}
+use Rattle.function_items.specs.Items.{function_items}
+use Rattle.function_shapes.specs.Shapes.{shape_of}
+use Rattle.frame_emitter.specs.Settings.{most_arguments}
+
+-- the numbers of an instruction fit, beside data of so many bytes
+abbrev pub IsInRange : Setting → (size : ℕ) → TempInsn → Type 0
+IsInRange g size (i.Address op destination base plus) = IsDisplacement plus
+IsInRange g size (i.ObjectAddress destination (Global k) plus) = g.global_at k + plus ≤ size
+IsInRange g size (i.ObjectAddress destination (Local k) plus) = object_at g.shape k + plus < 2147450880
+IsInRange g size (i.Load op destination pointer plus) = IsDisplacement plus
+IsInRange g size (i.Store op value pointer plus) = IsDisplacement plus
+IsInRange g size (i.Operate op destination left right) = IsSmallOperand right
+IsInRange g size (i.Extend op destination source) = IsSmallOperand source
+IsInRange g size (i.SetFixed register number) = IsDisplacement number
+IsInRange g size (i.WriteArgument number source) = number ≤ most_arguments
+IsInRange g size (i.ReadArgument destination number) = number ≤ most_arguments
+IsInRange g size _ = Unit {0}
+
+-- the registers and temporaries of an allocation are some that it may name
+pub record HasRegisters (a : Plan) : Type 0 where
+  pub transfers : All (All (IsTransfer a.temps IsGiven)) a.at
+  pub edge_transfers : All (λ e. All (IsTransfer a.temps IsGivenOrScratch) e.code) a.edges
+  pub given : All (All IsGiven) a.regs
+
+abbrev pub ItemsAreInRange : Type 0
+ItemsAreInRange =
+    (a : Plan) (g : Setting) (number size : ℕ) (rest : List AsmItem) → HasRegisters a → g.shape ≡ shape_of a →
+    frame_size g.shape ≤ 2 ^ 29 → AllInsns (IsInRange g size) a.function.blocks → All (IsItem size) rest →
+    All (IsItem size) (function_items a g number rest)

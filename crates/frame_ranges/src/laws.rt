@@ -1,0 +1,9 @@
+//! Laws of items, each the contract of a function that does nothing.
+
+ghost use Rattle.frame_ranges.specs.Ranges.{ItemsAreInRange};
+
+/// Where the numbers of an allocation and of its instructions fit, so do the fields of its items: registers are below
+/// 32, displacements and literals fit, and each offset into the data is within it.
+pub fn items_are_in_range()
+    ensures { ItemsAreInRange }
+{}
