@@ -27,11 +27,11 @@ use Rattle.lowering_functions.specs.Scopes.{HasSize}
 use Rattle.c_layout_laws.specs.Laws.{is_alignment}
 use Rattle.c_layout_laws.proofs.Truth.{no_true, front, back, either}
 use Rattle.c_layout_laws.proofs.Layouts.{aligned}
-use Rattle.lowering_bounds.specs.Depths.{depths, depths_above, depths_of_each, optional_depths, locals_depths, first_depths, stmt_depths, else_depths, stmts_depths, sections_depths, stmt_locals}
+use Rattle.lowering_bounds.specs.model.Depths.{depths, depths_above, depths_of_each, optional_depths, locals_depths, first_depths, stmt_depths, else_depths, stmts_depths, sections_depths, stmt_locals}
 use Rattle.lowering_bounds.proofs.Typing.{one, two, three}
 use Rattle.lowering_bounds.proofs.Statements.{pair, triple, four, defaults, one_default}
 use Rattle.lowering_bounds.proofs.Weights.{locals_declared, stmt_weighs, stmt_bound}
-use Rattle.lowering.specs.Lowered.{CanBeLowered}
+use Rattle.lowering.specs.model.Premises.{CanBeLowered}
 
 -- ---- depths
 

@@ -23,10 +23,10 @@ use Rattle.lowering_layout.specs.Good.{IsGood}
 use Rattle.lowering_layout.specs.Tops.{blocks_top}
 use Rattle.lowering_functions.proofs.Bodies.{good_items}
 use Rattle.c_layout_laws.proofs.Truth.{front, back}
-use Rattle.lowering_bounds.specs.Laws.{TakesArguments}
-use Rattle.lowering_bounds.specs.Fits.{arguments_of}
+use Rattle.lowering_bounds.specs.Laws.{TakesArguments, arguments_of}
 use Rattle.lowering_bounds.proofs.Functions.{takes_arguments, names_there, top_low, arguments_few, cost_low, size_low}
-use Rattle.lowering.specs.Lowered.{IsLowered, AreLowered, CanBeLowered, IsWithinWeight, AreWithinWeight}
+use Rattle.lowering.specs.Lowered.{IsLowered, AreLowered, IsWithinWeight, AreWithinWeight}
+use Rattle.lowering.specs.model.Premises.{CanBeLowered}
 use Rattle.lowering.proofs.Parts.{can_be_lowered}
 
 -- ---- the functions so far

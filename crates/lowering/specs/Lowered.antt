@@ -1,5 +1,5 @@
 -- The functions of a program, each the code of a function of the unit.
-use Rattle.std.specs.Prelude.{◌≡◌, ◌≤◌, ◌<◌, ◌+◌, ◌*◌, ◌-◌, ◌^◌, max, IsTrue, List, [], ◌∷◌, All, length}
+use Rattle.std.specs.Prelude.{◌≡◌, ◌≤◌, ◌+◌, ◌*◌, max, IsTrue, List, [], ◌∷◌}
 use Rattle.c_typed_tree.specs.declared.types.StructDef.{StructDef}
 use Rattle.c_typed_tree.specs.declared.units.TypedFn.{TypedFn}
 use Rattle.c_typed_tree.specs.View.{stmt_view}
@@ -8,13 +8,9 @@ use Rattle.suifvm_ir.specs.Functions.{AllInsns}
 use Rattle.suifvm_ir.specs.Programs.{VmFunction}
 use Rattle.suifvm_ir.specs.Cost.{cost}
 use Rattle.lowering_code.specs.Functions.{objects_of, function_blocks}
-use Rattle.lowering_statements.specs.Levels.{stmt_levels}
 use Rattle.lowering_layout.specs.Tops.{blocks_top}
 use Rattle.lowering_layout.specs.Views.{GoesBackToMarks}
-use Rattle.lowering_functions.specs.Parts.{stmt_parts}
-use Rattle.lowering_functions.specs.Scopes.{HasSize}
-use Rattle.lowering_bounds.specs.Depths.{is_block}
-use Rattle.lowering_bounds.specs.Fits.{arguments_of}
+use Rattle.lowering_bounds.specs.Laws.{is_block, arguments_of}
 
 -- a function of a program is the code of one of a unit, with its name, its parameters and its memory locals. It has no
 -- more registers than its parameters and its code name
@@ -32,13 +28,6 @@ AreLowered ds [] [] = Unit {0}
 AreLowered ds [] (g ∷ gs) = ⊥
 AreLowered ds (f ∷ fs) [] = ⊥
 AreLowered ds (f ∷ fs) (g ∷ gs) = IsLowered ds f g × AreLowered ds fs gs
-
--- the numbers of the code of a function fit
-pub record CanBeLowered (ds : List StructDef) (f : TypedFn) : Type 0 where
-  pub few : f.params ≤ length f.locals
-  pub sizes : All (HasSize ds) f.locals
-  pub registers : length f.locals + 5 * max 5 (stmt_levels (stmt_view f.body)) < 2 ^ 32 - 1
-  pub size : 2 * (2 * f.params + 16 * stmt_parts (stmt_view f.body)) + 3 < 2 ^ 30
 
 -- what the code of a function takes, by its weight
 pub record IsWithinWeight (ds : List StructDef) (f : TypedFn) (g : VmFunction) : Type 0 where

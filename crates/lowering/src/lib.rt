@@ -2,6 +2,8 @@
 #![tactic(auto)]
 
 mod globals;
+#[cfg(test)]
+mod tests;
 mod units;
 
 pub use units::lower;

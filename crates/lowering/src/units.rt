@@ -4,7 +4,8 @@ ghost use Rattle.std.specs.Prelude.{◌≡◌, ◌≤◌, ◌^◌, All, IfOk};
 ghost use Rattle.c_typed_tree.specs.Lawful.{IsLawful};
 ghost use Rattle.c_typed_tree.specs.Weight.{unit_weight};
 ghost use Rattle.suifvm_ir.specs.Programs.{program_size};
-ghost use Rattle.lowering.specs.Lowered.{IsLowered, AreLowered, CanBeLowered, AreWithinWeight};
+ghost use Rattle.lowering.specs.Lowered.{IsLowered, AreLowered, AreWithinWeight};
+ghost use Rattle.lowering.specs.model.Premises.{CanBeLowered};
 
 use crate::globals::copy_objects;
 use c_tree::Seq;

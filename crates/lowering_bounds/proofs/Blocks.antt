@@ -25,8 +25,9 @@ use Rattle.lowering_layout.specs.Good.{IsGood}
 use Rattle.lowering_layout.specs.Tops.{insn_top, insns_top, blocks_top}
 use Rattle.lowering_layout.proofs.Laid.{Straight, last_is}
 use Rattle.c_layout_laws.proofs.Truth.{all_at}
-use Rattle.lowering_bounds.specs.Costs.{plain_cost, items_cost}
-use Rattle.lowering_bounds.specs.Fits.{Fits, arguments_of, IsNarrow}
+use Rattle.lowering_bounds.specs.model.Costs.{plain_cost, items_cost}
+use Rattle.lowering_bounds.specs.Laws.{arguments_of}
+use Rattle.lowering_bounds.specs.model.Fits.{Fits, IsNarrow}
 
 -- ---- what fits and is narrow
 

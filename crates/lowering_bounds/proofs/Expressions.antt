@@ -41,10 +41,10 @@ use Rattle.lowering_code.specs.Functions.{objects_of}
 use Rattle.lowering_code.specs.Expressions as code
 use Rattle.lowering_layout.specs.Tops.{registers_top}
 use Rattle.c_layout_laws.proofs.Truth.{no_true, front, back}
-use Rattle.lowering_bounds.specs.Costs.{items_cost}
-use Rattle.lowering_bounds.specs.Fits.{Fits, IsNarrow}
+use Rattle.lowering_bounds.specs.model.Costs.{items_cost}
+use Rattle.lowering_bounds.specs.model.Fits.{Fits, IsNarrow}
 use Rattle.lowering_bounds.specs.Laws.{TakesArguments}
-use Rattle.lowering_bounds.specs.Depths.{depths, depths_above, depths_of_each}
+use Rattle.lowering_bounds.specs.model.Depths.{depths, depths_above, depths_of_each}
 use Rattle.lowering_bounds.proofs.Typing.{one, two, three, same, local_there, global_reached, struct_whole, copy_paid, Typed, positive, member_struct, large_memory, place_memory, member_fits, some_operands, array_cast, array_place, arguments_count}
 use Rattle.lowering_bounds.proofs.Pieces as m
 

@@ -20,11 +20,10 @@ use Rattle.lowering_code.specs.Functions.{objects_of, items_of, function_blocks}
 use Rattle.lowering_layout.specs.Good.{IsGood}
 use Rattle.lowering_layout.specs.Tops.{blocks_top}
 use Rattle.c_layout_laws.proofs.Truth.{front, back, none_some, all_at}
-use Rattle.lowering_bounds.specs.Costs.{items_cost}
-use Rattle.lowering_bounds.specs.Fits.{arguments_of}
-use Rattle.lowering_bounds.specs.Depths.{stmt_depths, is_block}
+use Rattle.lowering_bounds.specs.model.Costs.{items_cost}
+use Rattle.lowering_bounds.specs.model.Depths.{stmt_depths}
 use Rattle.lowering_bounds.proofs.Pieces as m
-use Rattle.lowering_bounds.specs.Laws.{TakesArguments}
+use Rattle.lowering_bounds.specs.Laws.{TakesArguments, is_block, arguments_of}
 use Rattle.lowering_bounds.proofs.Statements.{body_emits}
 use Rattle.lowering_bounds.proofs.Weights.{locals_declared, few_registers}
 use Rattle.lowering_bounds.proofs.Blocks.{is_narrow, merge, PassesWays, Q, holds_all, blocks_low, BlocksCost, blocks_cost}

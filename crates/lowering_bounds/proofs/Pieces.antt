@@ -33,8 +33,9 @@ use Rattle.lowering_code.specs.declared.item.CodeItem.TheVariants.{Start, Plain,
 use Rattle.lowering_code.specs.Registers.{register_type, type_place, temporary, value_register, address_register, bytes_register}
 use Rattle.lowering_code.specs.Expressions as code
 use Rattle.lowering_layout.specs.Tops.{registers_top, insn_top}
-use Rattle.lowering_bounds.specs.Costs.{plain_cost, items_cost}
-use Rattle.lowering_bounds.specs.Fits.{Fits, arguments_of, IsNarrow}
+use Rattle.lowering_bounds.specs.model.Costs.{plain_cost, items_cost}
+use Rattle.lowering_bounds.specs.Laws.{arguments_of}
+use Rattle.lowering_bounds.specs.model.Fits.{Fits, IsNarrow}
 
 module _ (most : ℕ) (fs : List VmFunction) (gs : List DataObject) (os : List Object) where
   abbrev pub passes : vm.VmInsn → Bool

@@ -35,7 +35,7 @@ use Rattle.lowering_code.specs.Statements.{Target}
 use Rattle.lowering_code.specs.Functions as f
 use Rattle.c_layout_laws.proofs.Truth.{no_true, front, back}
 use Rattle.lowering_bounds.specs.Laws.{TakesArguments}
-use Rattle.lowering_bounds.specs.Depths.{depths, optional_depths, declared_depths, locals_depths, first_depths, stmt_depths, stmts_depths, sections_depths}
+use Rattle.lowering_bounds.specs.model.Depths.{depths, optional_depths, declared_depths, locals_depths, first_depths, stmt_depths, stmts_depths, sections_depths}
 use Rattle.lowering_bounds.proofs.Typing.{same, local_there, struct_whole, copy_paid}
 use Rattle.lowering_bounds.proofs.Pieces as m
 use Rattle.lowering_bounds.proofs.Expressions as w

@@ -1,11 +1,14 @@
 -- What the code of a function of a unit keeps, by the weight of the function.
-use Rattle.std.specs.Prelude.{◌≡◌, ◌≤◌, ◌+◌, ◌*◌, max, ℕ, IsTrue, List, All, map, length, slice_get, sum_by, Some}
+use Rattle.std.specs.Prelude.{◌≡◌, ◌≤◌, ◌+◌, ◌*◌, max, ℕ, Bool, true, false, IsTrue, List, All, map, length, slice_get, sum_by, Some}
 use Rattle.c_typed_tree.specs.declared.units.TypedFn.{TypedFn}
 use Rattle.c_typed_tree.specs.declared.units.TypedUnit.{TypedUnit}
+use Rattle.c_typed_tree.specs.Statements.{Stmt, Block}
 use Rattle.c_typed_tree.specs.View.{stmt_view}
 use Rattle.c_typed_tree.specs.Typing.{Signature}
 use Rattle.c_typed_tree.specs.Weight.{function_weight}
 use Rattle.c_typed_tree.specs.Lawful.{IsLawfulStruct, IsTypedFn, signature_of}
+use Rattle.suifvm_ir.specs.declared.insn.VmInsn.{VmInsn}
+use Rattle.suifvm_ir.specs.declared.insn.VmInsn.TheVariants.{Call}
 use Rattle.suifvm_ir.specs.Insns.{targets_of, flows_on_of}
 use Rattle.suifvm_ir.specs.Functions.{AllInsns, count_of, edge_count}
 use Rattle.suifvm_ir.specs.Programs.{VmFunction, names_what_is_there, function_takes, weight_of}
@@ -13,8 +16,16 @@ use Rattle.suifvm_ir.specs.Cost.{insn_cost}
 use Rattle.lowering_code.specs.Functions.{objects_of, items_of, function_blocks}
 use Rattle.lowering_layout.specs.Good.{IsGood}
 use Rattle.lowering_layout.specs.Tops.{blocks_top}
-use Rattle.lowering_bounds.specs.Depths.{is_block}
-use Rattle.lowering_bounds.specs.Fits.{arguments_of}
+
+-- the body of a function in a text is a block (C99 6.9.1)
+abbrev pub is_block : Stmt → Bool
+is_block (Block ss) = true
+is_block s = false
+
+-- how many arguments an instruction gives
+abbrev pub arguments_of : VmInsn → ℕ
+arguments_of (Call destination callee arguments) = length arguments
+arguments_of i = 0
 
 -- each function takes as many arguments as the signature with its number has parameters
 abbrev pub TakesArguments : List VmFunction → List Signature → Type 0

@@ -1,4 +1,2 @@
-pub mod Costs
-pub mod Fits
-pub mod Depths
 pub mod Laws
+pub mod model

@@ -1,7 +1,8 @@
 -- One more of each.
 use Rattle.std.proofs.lemmas.List.Elements.{All-get_or}
 use Rattle.std.proofs.Common.{◌+◌, sym, subst, take, refl}
-use Rattle.lowering.specs.Lowered.{AreLowered, CanBeLowered}
+use Rattle.lowering.specs.Lowered.{AreLowered}
+use Rattle.lowering.specs.model.Premises.{CanBeLowered}
 use Rattle.lowering.proofs.Programs.{lowered_more, lowered_all}
 use Rattle.lowering.proofs.units.all_functions.Goals as goal
 

@@ -3,7 +3,8 @@ use Rattle.std.proofs.Common.{◌≡◌, sym, subst}
 use Rattle.std.specs.Prelude.{All}
 use Rattle.data_object.specs.Globals.{AreLawful}
 use Rattle.suifvm_ir.specs.Programs.{IsLawfulFunction}
-use Rattle.lowering.specs.Lowered.{AreLowered, CanBeLowered}
+use Rattle.lowering.specs.Lowered.{AreLowered}
+use Rattle.lowering.specs.model.Premises.{CanBeLowered}
 use Rattle.lowering.proofs.Programs.{IsProgram, unit_can, program_is}
 use Rattle.lowering.proofs.units.lower.Goals as goal
 

@@ -1,11 +1,11 @@
 -- Code whose registers are below a number, and whose instructions pass a test.
-use Rattle.std.specs.Prelude.{◌≤◌, ◌<◌, ℕ, Bool, IsTrue, List, [], ◌∷◌, length}
+use Rattle.std.specs.Prelude.{◌≤◌, ◌<◌, ℕ, Bool, IsTrue, List, [], ◌∷◌}
 use Rattle.suifvm_ir.specs.declared.insn.VmInsn.{VmInsn}
-use Rattle.suifvm_ir.specs.declared.insn.VmInsn.TheVariants.{Call}
 use Rattle.suifvm_ir.specs.Insns.{returned_register}
 use Rattle.lowering_code.specs.declared.item.CodeItem.{CodeItem}
 use Rattle.lowering_code.specs.declared.item.CodeItem.TheVariants.{Start, Plain, Jump, Branch, Loop, Enter, Again, Repeat, Return}
 use Rattle.lowering_layout.specs.Tops.{registers_top, insn_top}
+use Rattle.lowering_bounds.specs.Laws.{arguments_of}
 
 abbrev pub Fits : (most : ℕ) → (VmInsn → Bool) → List CodeItem → Type 0
 Fits most passes [] = Unit {0}
@@ -18,11 +18,6 @@ Fits most passes (Enter ∷ is) = Fits most passes is
 Fits most passes (Again ty source ∷ is) = (source < most) × Fits most passes is
 Fits most passes (Repeat ∷ is) = Fits most passes is
 Fits most passes (Return value ∷ is) = (registers_top (returned_register value) ≤ most) × Fits most passes is
-
--- how many arguments an instruction gives
-abbrev pub arguments_of : VmInsn → ℕ
-arguments_of (Call destination callee arguments) = length arguments
-arguments_of i = 0
 
 -- code whose calls give so many arguments at most
 abbrev pub IsNarrow : (most : ℕ) → List CodeItem → Type 0

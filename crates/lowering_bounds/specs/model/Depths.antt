@@ -1,5 +1,5 @@
 -- How many depths of registers the code of an expression or a statement needs, from its own depth on.
-use Rattle.std.specs.Prelude.{ℕ, ◌+◌, max, Bool, true, false, List, [], ◌∷◌, length, Option, Some, None}
+use Rattle.std.specs.Prelude.{ℕ, ◌+◌, max, List, [], ◌∷◌, length, Option, Some, None}
 use Rattle.c_typed_tree.specs.Expressions.{Expr, Number, Local, Global, Call, Unary, Binary, Assign, Conditional, Cast, Convert, Index, Field, Arrow, Postfix, Comma, Exprs, no_exprs, more_exprs}
 use Rattle.c_typed_tree.specs.Statements.{LocalDeclaration, First, Nothing, Value, Locals, Stmt, Block, If, While, Do, For, Switch, Break, Continue, Return, Expression, Empty, Declare, Else, no_else, else_stmt, Stmts, no_stmts, more_stmts, Sections, no_sections, more_sections}
 
@@ -108,8 +108,3 @@ abbrev mutual
   pub sections_locals : Sections → ℕ
   sections_locals no_sections = 0
   sections_locals (more_sections label ss rest) = stmts_locals ss + sections_locals rest
-
--- the body of a function in a text is a block (C99 6.9.1)
-abbrev pub is_block : Stmt → Bool
-is_block (Block ss) = true
-is_block s = false
