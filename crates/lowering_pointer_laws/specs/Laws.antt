@@ -1,0 +1,27 @@
+-- What is said of the code of pointers that are moved by elements, and of elements (C99 6.5.2.1, 6.5.6).
+use Rattle.std.specs.Prelude.{◌≡◌, ◌≤◌, slice_get, Some}
+use Rattle.data_object.specs.declared.TheConstants.{MOST_DATA}
+use Rattle.c_arithmetic.specs.declared.integer_type.IntegerType.{IntegerType}
+use Rattle.c_tree.specs.declared.expressions.BinaryOp.TheVariants as b
+use Rattle.c_typed_tree.specs.Types.{PlainType, Pointer}
+use Rattle.c_typed_tree.specs.Layout.{size_of}
+use Rattle.c_typed_tree.specs.Expressions.{Expr, Binary, Index, type_of}
+use Rattle.lowering_code.specs.Expressions.{plain_of}
+use Rattle.lowering_expression_laws.specs.Parts.{Setting, ExprMeets}
+use Rattle.lowering_place_laws.specs.Places.{PlaceMeets}
+use Rattle.lowering_place_laws.specs.Laws.{IsWhole}
+
+pub record Pointers (c : Setting) : Type 0 where
+  pub sums : (target : PlainType) (t : IntegerType) (x y : Expr) → size_of c.structs target ≤ MOST_DATA
+      → type_of x ≡ Pointer target → type_of y ≡ plain_of t → ExprMeets c x → ExprMeets c y
+      → ExprMeets c (Binary (Pointer target) b.Add x y)
+  -- what stands at an element, and its place
+  pub elements : (ty target : PlainType) (t : IntegerType) (x y : Expr) → IsWhole ty
+      → size_of c.structs target ≤ MOST_DATA → type_of x ≡ Pointer target → type_of y ≡ plain_of t → ExprMeets c x
+      → ExprMeets c y → ExprMeets c (Index ty x y)
+  pub places : (ty target : PlainType) (t : IntegerType) (x y : Expr) → size_of c.structs target ≤ MOST_DATA
+      → type_of x ≡ Pointer target → type_of y ≡ plain_of t → ExprMeets c x → ExprMeets c y
+      → PlaceMeets c (Index ty x y)
+
+abbrev pub PointersAreMoved : Type 0
+PointersAreMoved = (c : Setting) → slice_get c.functions c.number ≡ Some c.code → Pointers c
