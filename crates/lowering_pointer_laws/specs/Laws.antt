@@ -2,6 +2,7 @@
 use Rattle.std.specs.Prelude.{◌≡◌, ◌≤◌, slice_get, Some}
 use Rattle.data_object.specs.declared.TheConstants.{MOST_DATA}
 use Rattle.c_arithmetic.specs.declared.integer_type.IntegerType.{IntegerType}
+use Rattle.c_arithmetic.specs.declared.integer_type.IntegerType.TheVariants as i
 use Rattle.c_tree.specs.declared.expressions.BinaryOp.TheVariants as b
 use Rattle.c_typed_tree.specs.Types.{PlainType, Pointer}
 use Rattle.c_typed_tree.specs.Layout.{size_of}
@@ -25,3 +26,17 @@ pub record Pointers (c : Setting) : Type 0 where
 
 abbrev pub PointersAreMoved : Type 0
 PointersAreMoved = (c : Setting) → slice_get c.functions c.number ≡ Some c.code → Pointers c
+
+-- two pointers are compared (C99 6.5.8, 6.5.9)
+pub record Comparisons (c : Setting) (x y : Expr) : Type 0 where
+  pub less : ExprMeets c (Binary (plain_of i.Int) b.Less x y)
+  pub greater : ExprMeets c (Binary (plain_of i.Int) b.Greater x y)
+  pub less_or_equal : ExprMeets c (Binary (plain_of i.Int) b.LessEqual x y)
+  pub greater_or_equal : ExprMeets c (Binary (plain_of i.Int) b.GreaterEqual x y)
+  pub equal : ExprMeets c (Binary (plain_of i.Int) b.Equal x y)
+  pub not_equal : ExprMeets c (Binary (plain_of i.Int) b.NotEqual x y)
+
+abbrev pub PointersAreCompared : Type 0
+PointersAreCompared =
+    (c : Setting) → slice_get c.functions c.number ≡ Some c.code → (target other : PlainType) (x y : Expr) →
+    type_of x ≡ Pointer target → type_of y ≡ Pointer other → ExprMeets c x → ExprMeets c y → Comparisons c x y

@@ -1,8 +1,14 @@
-//! A law of the code of pointers, the contract of a function that does nothing.
+//! Laws of the code of pointers, each the contract of a function that does nothing.
 
-ghost use Rattle.lowering_pointer_laws.specs.Laws.{PointersAreMoved};
+ghost use Rattle.lowering_pointer_laws.specs.Laws.{PointersAreMoved, PointersAreCompared};
 
-/// The code of the sum of a pointer and an integer, and of an element, does what these do, where that of their operands does.
+/// The code of the sum of a pointer and an integer, and of an element, does what these do, where that of their
+/// operands does.
 pub fn pointers_are_moved()
     ensures { PointersAreMoved }
+{}
+
+/// The code of a comparison of two pointers does what it does, where that of its operands does.
+pub fn pointers_are_compared()
+    ensures { PointersAreCompared }
 {}
