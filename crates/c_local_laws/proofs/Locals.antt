@@ -1,7 +1,6 @@
 -- The locals that declarations add.
-use Rattle.std.proofs.Common.{◌≡◌, ◌≤◌, ◌+◌, ◌==◌, ℕ, Bool, true, false, cond, if◌then◌else◌, List, [], ◌∷◌, ◌++◌, Option, Some, None, length, map, sum_by, refl, ap, ◌∙◌, arith, length-append}
+use Rattle.std.proofs.Common.{◌≡◌, ◌+◌, ◌==◌, ℕ, Bool, true, false, cond, if◌then◌else◌, List, [], ◌∷◌, ◌++◌, Option, Some, None, length, map, sum_by, refl, ap, ◌∙◌, arith, length-append}
 use Rattle.std.specs.Option.{option_map}
-use Rattle.std.proofs.lemmas.Bool.{eqb-true}
 use Rattle.std.proofs.lemmas.List.{map-append}
 use Rattle.std.proofs.lemmas.List.Sums.{sum_by_push}
 use Rattle.c_scopes.specs.Names.{find}
@@ -29,7 +28,7 @@ use Rattle.c_statement_rules.specs.Objects.{object_type}
 use Rattle.c_statement_rules.specs.Forms.{first_locals, first_value}
 use Rattle.c_statement_rules.specs.Locals.{BodyState, with_notes, local_of_type, local_named, with_initialiser, initialiser, local_with_value, without_initialiser}
 use Rattle.c_statements.specs.Parts.{type_of, initialiser_of, local_of, first_of, value_of}
-use Rattle.c_local_laws.proofs.Numbers.{Declares, declares_less, count_of, walk_says}
+use Rattle.c_local_laws.proofs.Numbers.{Declares, Is, declares_as, declares_none, due_one, count_of, walk_says}
 
 abbrev pub here : (k : ℕ) → TLocal → ℕ
 here k l = declarations_here k (local_view l)
@@ -38,14 +37,17 @@ abbrev pub new_here : (k : ℕ) → NewLocal → ℕ
 new_here k l = cond (l.number == k) 1 0
 
 -- a new local has the number behind those that there are
-next_number : (k n m : ℕ) (b : Bool) → m ≡ n + 1 → (n == k) ≡ b → Declares k n m (cond b 1 0)
-next_number k n m true one same = let e : n ≡ k = eqb-true n k same in (omega arith, omega arith)
-next_number k n m false one other = omega arith
+next_number : (k n m : ℕ) → m ≡ n + 1 → Declares k n m (Some (cond (n == k) 1 0))
+next_number k n m one = record { grow = omega arith; due = due_one k n m one }
+
+-- nothing is found
+none_here : (k a : ℕ) → Declares k a a None
+none_here k a = record { grow = omega arith; due = tt }
 
 of_type_says : (k : ℕ) (name : List ℕ) (ty : Option CType) (s : List Local × Env)
     → Declares k (length s.0) (length (local_of_type name ty s).1.0) (count_of (new_here k) (local_of_type name ty s).0)
-of_type_says k name None s = omega arith
-of_type_says k name (Some ty) s = next_number k (length s.0) _ (length s.0 == k) (length-append s.0 _) refl
+of_type_says k name None s = none_here k (length s.0)
+of_type_says k name (Some ty) s = next_number k (length s.0) _ (length-append s.0 _)
 
 named_says : (k at : ℕ) (name : List ℕ) (ty : Option CType) (w : BodyState)
     → Declares k (length w.0) (length (local_named at name ty w).1.0) (count_of (new_here k) (local_named at name ty w).0)
@@ -55,27 +57,27 @@ named_says k at name ty w = by (stands_here w.1.0 (find name w.1.0.names))
     either b = if b then (None, (w.0, (w.1.0, with_fault at Redeclared w.1.1))) else with_notes w.1.1 (local_of_type name ty (w.0, w.1.0))
 
     by : (b : Bool) → Declares k (length w.0) (length (either b).1.0) (count_of (new_here k) (either b).0)
-    by true = omega arith
+    by true = none_here k (length w.0)
     by false = of_type_says k name ty (w.0, w.1.0)
 
 -- the initialiser of a local declares no other one
-with_value_says : (k number : ℕ) (r : Option TExpr) → count_of (here k) (option_map (with_initialiser number) r) ≤ cond (number == k) 1 0
-with_value_says k number None = omega arith
-with_value_says k number (Some x) = omega arith
+with_value_says : (k number : ℕ) (r : Option TExpr) → Is (count_of (here k) (option_map (with_initialiser number) r)) (Some (cond (number == k) 1 0))
+with_value_says k number None = tt
+with_value_says k number (Some x) = refl
 
-initialised_says : (k : ℕ) (new : Option NewLocal) (a : Option TypedExpression) (n : Notes) → count_of (here k) (both new a local_with_value n).0 ≤ count_of (new_here k) new
-initialised_says k None a n = omega arith
-initialised_says k (Some new) None n = omega arith
+initialised_says : (k : ℕ) (new : Option NewLocal) (a : Option TypedExpression) (n : Notes) → Is (count_of (here k) (both new a local_with_value n).0) (count_of (new_here k) new)
+initialised_says k None a n = tt
+initialised_says k (Some new) None n = tt
 initialised_says k (Some new) (Some a) n = with_value_says k new.number (initialiser new.ty a n).0
 
-plain_says : (k : ℕ) (new : Option NewLocal) → count_of (here k) (option_map without_initialiser new) ≤ count_of (new_here k) new
-plain_says k None = omega arith
-plain_says k (Some new) = omega arith
+plain_says : (k : ℕ) (new : Option NewLocal) → Is (count_of (here k) (option_map without_initialiser new)) (count_of (new_here k) new)
+plain_says k None = tt
+plain_says k (Some new) = refl
 
 init_says : (k : ℕ) (new : Option NewLocal) (e : Option Expr) (w : BodyState) (a : ℕ) → Declares k a (length w.0) (count_of (new_here k) new)
     → Declares k a (length (initialiser_of new e w).1.0) (count_of (here k) (initialiser_of new e w).0)
-init_says k new None w a h = declares_less k a (length w.0) _ _ (plain_says k new) h
-init_says k new (Some x) w a h = declares_less k a (length w.0) _ _ (initialised_says k new (judge x w.1).0 (judge x w.1).1.1) h
+init_says k new None w a h = declares_as k a (length w.0) _ _ (plain_says k new) h
+init_says k new (Some x) w a h = declares_as k a (length w.0) _ _ (initialised_says k new (judge x w.1).0 (judge x w.1).1.1) h
 
 pub local_says : (k : ℕ) (d : tree.Local) (w : BodyState) → Declares k (length w.0) (length (local_of d w).1.0) (count_of (here k) (local_of d w).0)
 local_says k d w =
@@ -95,17 +97,17 @@ locals_push k ls l = ap (sum_by (declarations_here k)) (map-append local_view ls
 abbrev pub first_here : (k : ℕ) → TFirst → ℕ
 first_here k p = first_declarations k (first_view p)
 
-first_value_says : (k : ℕ) (v : Option TExpr) → count_of (first_here k) (first_value v) ≤ 0
-first_value_says k None = omega arith
-first_value_says k (Some x) = omega arith
+first_value_says : (k : ℕ) (v : Option TExpr) → Is (count_of (first_here k) (first_value v)) (Some 0)
+first_value_says k None = tt
+first_value_says k (Some x) = refl
 
-first_locals_says : (k : ℕ) (ls : Option (List TLocal)) → count_of (first_here k) (first_locals ls) ≤ count_of (locals_here k) ls
-first_locals_says k None = omega arith
-first_locals_says k (Some ls) = omega arith
+first_locals_says : (k : ℕ) (ls : Option (List TLocal)) → Is (count_of (first_here k) (first_locals ls)) (count_of (locals_here k) ls)
+first_locals_says k None = tt
+first_locals_says k (Some ls) = refl
 
 pub first_says : (k : ℕ) (p : ForFirst) (w : BodyState) → Declares k (length w.0) (length (first_of p w).1.0) (count_of (first_here k) (first_of p w).0)
-first_says k g.Nothing w = omega arith
-first_says k (g.Value x) w = declares_less k (length w.0) (length w.0) 0 _ (first_value_says k (value_of x w.1).0) (omega arith)
+first_says k g.Nothing w = declares_none k (length w.0)
+first_says k (g.Value x) w = declares_as k (length w.0) (length w.0) (Some 0) _ (first_value_says k (value_of x w.1).0) (declares_none k (length w.0))
 first_says k (g.Locals ds) w =
-    declares_less k (length w.0) _ _ _ (first_locals_says k (walk local_of ds (Some []) w).0)
-    (walk_says k local_of (here k) (locals_here k) (locals_push k) (local_says k) ds (Some []) w (length w.0) (omega arith))
+    declares_as k (length w.0) _ _ _ (first_locals_says k (walk local_of ds (Some []) w).0)
+    (walk_says k local_of (here k) (locals_here k) (locals_push k) (local_says k) ds (Some []) w (length w.0) (declares_none k (length w.0)))
