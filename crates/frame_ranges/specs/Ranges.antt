@@ -3,18 +3,22 @@ use Rattle.std.specs.Prelude.{◌≡◌, ℕ, ◌+◌, ◌≤◌, ◌<◌, ◌^�
 use Rattle.alpha_isa.specs.Lawful.{IsDisplacement}
 use Rattle.alpha_items.specs.declared.item.AsmItem.{AsmItem}
 use Rattle.alpha_items.specs.Items.{IsItem}
+use Rattle.data_object.specs.declared.DataObject.{DataObject}
+use Rattle.data_object.specs.Layout.{LieFrom, data_end}
 use Rattle.suifvm_ir.specs.declared.insn.Place.TheVariants.{Global, Local}
 use Rattle.suifvm_ir.specs.Functions.{AllInsns}
 use Rattle.temp_ir.specs.declared.insn.TempInsn.{TempInsn}
 use Rattle.temp_ir.specs.declared.insn.TempInsn.TheVariants as i
-use Rattle.alloc_model.specs.Places.{Plan}
+use Rattle.alloc_model.specs.declared.allocation.Allocation.{Allocation}
+use Rattle.alloc_model.specs.Places.{Plan, plan_of}
 use Rattle.alloc_model.specs.Faithful.{IsGiven, IsGivenOrScratch, IsTransfer}
 use Rattle.flat_frames.specs.Shapes.{frame_size, object_at}
 use Rattle.instruction_items.specs.Items.{Setting}
 use Rattle.instruction_items.specs.Laws.{IsSmallOperand}
 use Rattle.function_items.specs.Items.{function_items}
 use Rattle.function_shapes.specs.Shapes.{shape_of}
-use Rattle.frame_emitter.specs.Settings.{most_arguments}
+use Rattle.frame_emitter.specs.Settings.{most_arguments, near_blocks, near_plan, setting_of}
+use Rattle.frame_layout.specs.Names.{NamesObjects}
 
 -- the numbers of an instruction fit, beside data of so many bytes
 abbrev pub IsInRange : Setting → (size : ℕ) → TempInsn → Type 0
@@ -41,3 +45,24 @@ ItemsAreInRange =
     (a : Plan) (g : Setting) (number size : ℕ) (rest : List AsmItem) → HasRegisters a → g.shape ≡ shape_of a →
     frame_size g.shape ≤ 2 ^ 29 → AllInsns (IsInRange g size) a.function.blocks → All (IsItem size) rest →
     All (IsItem size) (function_items a g number rest)
+
+-- ---- from what is asked of a function that is laid out
+
+-- the numbers that an instruction holds as code have their ranges
+abbrev pub IsSmall : TempInsn → Type 0
+IsSmall (i.Address op destination base plus) = IsDisplacement plus
+IsSmall (i.Load op destination pointer plus) = IsDisplacement plus
+IsSmall (i.Store op value pointer plus) = IsDisplacement plus
+IsSmall (i.Operate op destination left right) = IsSmallOperand right
+IsSmall (i.Extend op destination source) = IsSmallOperand source
+IsSmall (i.SetFixed register number) = IsDisplacement number
+IsSmall _ = Unit {0}
+
+-- so they fit, in the data of the objects of static storage
+abbrev pub NumbersFit : Type 0
+NumbersFit =
+    (a : Allocation) (globals : List DataObject) (first : ℕ) → LieFrom 0 globals →
+    AllInsns (NamesObjects globals a.func.objects) a.func.blocks → AllInsns IsSmall a.func.blocks →
+    frame_size (shape_of (near_plan (plan_of a))) ≤ 2 ^ 29 →
+    AllInsns (IsInRange (setting_of (near_plan (plan_of a)) globals first) (data_end globals))
+    (near_blocks a.func.blocks)
