@@ -1,0 +1,44 @@
+-- What functions are is well typed (C99 6.8, 6.9.1), in the unit in which they stand.
+use Rattle.std.specs.Prelude.{◌≡◌, ◌<◌, ◌^◌, IsTrue, List, [], length, Option, IfSome}
+use Rattle.c_tree.specs.declared.types.Declaration.{Declaration}
+use Rattle.c_tree.specs.declared.statements.Stmt.{Stmt}
+use Rattle.c_typed_tree.specs.declared.types.CType.{CType}
+use Rattle.c_typed_tree.specs.declared.units.TypedFn.{TypedFn}
+use Rattle.c_typed_tree.specs.declared.units.TypedUnit.{TypedUnit}
+use Rattle.c_typed_tree.specs.View.{type_view}
+use Rattle.c_typed_tree.specs.Typing.{Context}
+use Rattle.c_typed_tree.specs.Lawful.{context_of, is_result, is_identifier, IsTypedFn}
+use Rattle.c_judgements.specs.Types.{State}
+use Rattle.c_judgement_laws.specs.Covers.{Knows, HaveTexts, IsLawfulContext}
+use Rattle.c_expression_laws.specs.Laws.{HasScope}
+use Rattle.c_statements.specs.Functions.{function}
+
+-- what is known of the unit in which a function stands: its structs are lawful, it has the names that are in scope
+-- before the body, and the structs and texts that were noted behind it
+pub record IsGiven (u : TypedUnit) (d : Declaration) (of : Option CType) (s later : State) (f : TypedFn) : Type 0 where
+  pub structs : IsLawfulContext (context_of u f)
+  pub scope : HasScope (context_of u f) s
+  pub knows : Knows (context_of u f) later.1
+  pub texts : HaveTexts (context_of u f) later.1.first_text later.1.texts
+  pub name : IsTrue (is_identifier d.name)
+  pub result : IfSome of (λ ty. IsTrue (is_result u.structs (type_view ty)))
+  pub count : length f.locals < 2 ^ 32
+
+-- a function that is found is well typed
+abbrev pub FunctionIsTyped : Type 0
+FunctionIsTyped =
+    (u : TypedUnit) (d : Declaration) (of : Option CType) (list : List Stmt) (s : State) →
+    IfSome (function d of list s).0 (λ f. IsGiven u d of s (function d of list s).1 f → IsTypedFn u f)
+
+-- what a body leaves: the names in scope as they were, and what a context has behind it, it had before
+pub record Leaves (c : Context) (s later : State) : Type 0 where
+  pub env : later.0 ≡ s.0
+  pub first : later.1.first_text ≡ s.1.first_text
+  pub addressed : later.1.addressed ≡ []
+  pub knows : Knows c later.1 → Knows c s.1
+  pub texts : HaveTexts c later.1.first_text later.1.texts → HaveTexts c s.1.first_text s.1.texts
+
+abbrev pub FunctionLeaves : Type 0
+FunctionLeaves =
+    (c : Context) → IsLawfulContext c → (d : Declaration) (of : Option CType) (list : List Stmt) (s : State) →
+    Leaves c s (function d of list s).1

@@ -1,0 +1,4 @@
+//! What functions are is well typed in the unit in which they stand.
+#![tactic(auto)]
+
+pub mod laws;
