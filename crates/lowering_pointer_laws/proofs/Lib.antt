@@ -1,3 +1,4 @@
 pub mod Numbers
 pub mod Moves
+pub mod Differences
 pub mod Comparisons

@@ -59,7 +59,6 @@ use Rattle.lowering_place_laws.specs.Places.{PlaceMeets}
 use Rattle.lowering_place_laws.specs.Laws.{IsWhole}
 use Rattle.lowering_place_laws.proofs.Places.{held_pointer, long_word, moved_held, own_base}
 use Rattle.lowering_place_laws.proofs.Accesses.{load_on}
-use Rattle.lowering_pointer_laws.specs.Laws.{PointersAreMoved}
 use Rattle.lowering_pointer_laws.proofs.Numbers.{IsSmall, small_fits, moved_small, elements_small}
 
 -- ---- numbers
@@ -86,7 +85,7 @@ product_is x size z le e small =
     ap (λ y. result_in i.Long (value i.Long x *ℤ y)) (long_value size le) ∙ ap (result_in i.Long) e ∙ ap (λ y. if y then a.Word (word i.Long z) else a.Trap 3) (small_fits z small)
 
 -- a number of elements as a `long`, where it moves a pointer by few bytes
-long_bytes : (t : IntegerType) (k size : ℕ) → IsSmall (value t k *ℤ pos size) → value i.Long (conversion t i.Long k) *ℤ pos size ≡ value t k *ℤ pos size
+pub long_bytes : (t : IntegerType) (k size : ℕ) → IsSmall (value t k *ℤ pos size) → value i.Long (conversion t i.Long k) *ℤ pos size ≡ value t k *ℤ pos size
 long_bytes t k zero small = *ℤ-zero (value i.Long (conversion t i.Long k)) ∙ sym (*ℤ-zero (value t k))
 long_bytes t k (suc e) small = ap (λ y. y *ℤ pos (suc e)) (value-conversion t i.Long k (small_fits (value t k) (elements_small (value t k) e small)))
 
@@ -95,7 +94,7 @@ pub record IsMovedBy (m : Memory) (v : Value) (z : ℤ) (u : Value) : Type 0 whe
   pub small : ((p : Ptr) → is_live m p ≡ true → size_at m p ≤ MOST_DATA) → IsSmall z
   pub moved : pointer_plus m v z ≡ Some u
 
-moved_by : (m : Memory) (v : Value) (z : ℤ) (u : Value) → element_plus m v z ≡ Some u → IsMovedBy m v z u
+pub moved_by : (m : Memory) (v : Value) (z : ℤ) (u : Value) → element_plus m v z ≡ Some u → IsMovedBy m v z u
 moved_by m (Word k) z u e = absurd (cc)
 moved_by m Unset z u e = absurd (cc)
 moved_by m (Address p) z u e = by_test (is_offset p.offset (size_at m p)) refl e
@@ -112,7 +111,7 @@ module _ (c : Setting) (found : slice_get c.functions c.number ≡ Some c.code) 
   L = count c
 
   -- an integer becomes a `long`
-  long_leads : {o : Observation} (j : ℕ) (t : IntegerType) (k : ℕ) (tail : List CodeItem) (q : Place) (r : Registers) → Stands c heads q (convert_code L j (plain_of t) (plain_of i.Long) tail) → Fit c g scope r s m → WordIn L j t k r
+  pub long_leads : {o : Observation} (j : ℕ) (t : IntegerType) (k : ℕ) (tail : List CodeItem) (q : Place) (r : Registers) → Stands c heads q (convert_code L j (plain_of t) (plain_of i.Long) tail) → Fit c g scope r s m → WordIn L j t k r
       → ((q1 : Place) (r1 : Registers) → Stands c heads q1 tail → Fit c g scope r1 s m → KeepsLower L j r r1 → r1 (bytes_register L j) ≡ Word (conversion t i.Long k) → EndsSo c o q1 r1 s.world m) → EndsSo c o q r s.world m
   long_leads {o = o} j t k tail q r at fit one next = by_kept (is_kept (plain_of t) (plain_of i.Long)) refl at
     where
@@ -133,9 +132,9 @@ module _ (c : Setting) (found : slice_get c.functions c.number ≡ Some c.code) 
           (next (next_place q) (set_register (bytes_register L j) (Word k1) r) (at_plain c.code.blocks c.last c.end insn at2) (fits_temporary j S64 (Word k1) fit) (kept_temporary j S64 (Word k1) (omega arith) kept_all) (set_same r (bytes_register L j) (Word k1)))
 
   -- it becomes a number of bytes
-  sized_leads : {o : Observation} (j size x : ℕ) (z : ℤ) (tail : List CodeItem) (q : Place) (r : Registers) → size ≤ MOST_DATA → value i.Long x *ℤ pos size ≡ z → IsSmall z → is_word i.Long x ≡ true → Stands c heads q (sized_code L j (suc j) size tail) → Fit c g scope r s m
+  pub sized_leads : {o : Observation} (j size x : ℕ) (z : ℤ) (tail : List CodeItem) (q : Place) (r : Registers) → size ≤ MOST_DATA → value i.Long x *ℤ pos size ≡ z → IsSmall z → is_word i.Long x ≡ true → Stands c heads q (sized_code L j (suc j) size tail) → Fit c g scope r s m
       → r (bytes_register L j) ≡ Word x
-      → ((q1 : Place) (r1 : Registers) (b : ℕ) → Stands c heads q1 tail → Fit c g scope r1 s m → KeepsLower L j r r1 → r1 (bytes_register L j) ≡ Word b → value i.Long b ≡ z → EndsSo c o q1 r1 s.world m) → EndsSo c o q r s.world m
+      → ((q1 : Place) (r1 : Registers) (b : ℕ) → Stands c heads q1 tail → Fit c g scope r1 s m → KeepsLower L j r r1 → r1 (bytes_register L j) ≡ Word b → value i.Long b ≡ z → is_word i.Long b ≡ true → EndsSo c o q1 r1 s.world m) → EndsSo c o q r s.world m
   sized_leads {o = o} j size x z tail q r le e small one at fit held next = by_one (size == 1) (eqb-true size 1) at
     where
       reg : ℕ
@@ -155,7 +154,7 @@ module _ (c : Setting) (found : slice_get c.functions c.number ≡ Some c.code) 
 
       by_one : (y : Bool) → (y ≡ true → size ≡ 1)
           → Stands c heads q (if y then tail else Plain (n.LoadConstant S64 above size) ∷ Plain (n.Binary Multiply S64 reg reg above) ∷ tail) → EndsSo c o q r s.world m
-      by_one true one_is at2 = next q r x at2 fit kept_all held (sym (times_one (value i.Long x)) ∙ ap (λ y. value i.Long x *ℤ pos y) (sym (one_is refl)) ∙ e)
+      by_one true one_is at2 = next q r x at2 fit kept_all held (sym (times_one (value i.Long x)) ∙ ap (λ y. value i.Long x *ℤ pos y) (sym (one_is refl)) ∙ e) one
       by_one false one_is at2 =
           let at3 = at_plain c.code.blocks c.last c.end _ at2 in
           insn_on c found (n.LoadConstant S64 above size) q r s.world m (Word size ∷ []) at2.has.0 refl
@@ -164,7 +163,7 @@ module _ (c : Setting) (found : slice_get c.functions c.number ≡ Some c.code) 
           (operators_correspond b.Multiply i.Long i.Long reg reg above c.own r1 (outer_with_memory s.world.outer m) x size refl (λ _. refl) low (set_same r above (Word size)) one (long_is size le) (λ no. undefined_not (sym (product_is x size z le e small) ∙ no))
           ∙ ap (λ y. writes (vm.outcome_answer y) (outer_with_memory s.world.outer m)) (product_is x size z le e small))
           (next (next_place (next_place q)) (set_register reg (Word bytes) r1) bytes (at_plain c.code.blocks c.last c.end _ at3) (fits_temporary j S64 (Word bytes) (fits_temporary (suc j) S64 (Word size) fit))
-          (kept_temporary j S64 (Word bytes) (omega arith) (kept_temporary (suc j) S64 (Word size) (omega arith) kept_all)) (set_same r1 reg (Word bytes)) (value-word i.Long z (small_fits z small))))
+          (kept_temporary j S64 (Word bytes) (omega arith) (kept_temporary (suc j) S64 (Word size) (omega arith) kept_all)) (set_same r1 reg (Word bytes)) (value-word i.Long z (small_fits z small)) (is_word-extension i.Long _)))
 
   -- the pointer at a depth is moved by the elements above it
   moved_leads : {o : Observation} (d : ℕ) (t : IntegerType) (k size : ℕ) (v u : Value) (q : Place) (r : Registers) → size ≤ MOST_DATA → IsMovedBy s.world.outer.memory v (value t k *ℤ pos size) u
@@ -179,7 +178,7 @@ module _ (c : Setting) (found : slice_get c.functions c.number ≡ Some c.code) 
       long_leads (suc d) t k (sized_code L (suc d) (suc (suc d)) size (add_code addr addr reg rest)) q r at1 fit one
       (λ q1 r1 at2 fit1 kept1 held1.
       sized_leads (suc d) size (conversion t i.Long k) (value t k *ℤ pos size) (add_code addr addr reg rest) q1 r1 le (long_bytes t k size small) small (is_word-extension i.Long _) at2 fit1 held1
-      (λ q2 r2 b at3 fit2 kept2 held2 value_is.
+      (λ q2 r2 b at3 fit2 kept2 held2 value_is _.
       let kept3 : KeepsLower L (suc d) r r2 = kept_on (omega arith) kept1 kept2 in
       let same : r2 addr ≡ r addr = kept_reads d P64 (omega arith) kept3 in
       let x = moves_correspond g s.world.outer.memory m fit2.memory v (r2 addr) u (value t k *ℤ pos size) (subst (λ z. IsValueOf g v z) (sym same) rel) is.moved in
@@ -261,7 +260,7 @@ module _ (c : Setting) (found : slice_get c.functions c.number ≡ Some c.code) 
       (λ q4 r4 at4 fit4 kept4 rel4.
       next q4 result h u r4 m2 at4 (after_on aft aft2) fit4 (kept_on (omega arith) (kept_on (omega arith) kept kept2) kept4) (moved_held u.world.outer.memory v result (value t k *ℤ pos size) target moved.moved) rel4))))))))
 
-  sums : ExprMeets c (Binary (Pointer target) b.Add x y)
+  pub sums : ExprMeets c (Binary (Pointer target) b.Add x y)
   unfolding opens
   sums = record {
     by = λ d rest heads p f scope r s m K at fit low next.
@@ -291,7 +290,7 @@ module _ (c : Setting) (found : slice_get c.functions c.number ≡ Some c.code) 
   element_run scope s =
       ap (λ z. run_by (λ v w. element c.structs z (type_of y) v w) scope s) ex ∙ ap (λ z. run_by (λ v w. element c.structs (Pointer target) z v w) scope s) ey ∙ ap (λ z. run_by z scope s) (element_is c.structs target t)
 
-  elements : (ty : PlainType) → IsWhole ty → ExprMeets c (Index ty x y)
+  pub elements : (ty : PlainType) → IsWhole ty → ExprMeets c (Index ty x y)
   unfolding opens
   elements ty whole = record {
     by = λ d rest heads p f scope r s m K at fit low next.
@@ -304,7 +303,7 @@ module _ (c : Setting) (found : slice_get c.functions c.number ≡ Some c.code) 
         load_on c found d 0 rest heads f scope r s m K q v v g u q1 m1 aft fit1 kept (held_pointer target Void v held) rel (omega arith) (inl (refl, refl)) ty whole next at1)));
   }
 
-  element_places : (ty : PlainType) → PlaceMeets c (Index ty x y)
+  pub element_places : (ty : PlainType) → PlaceMeets c (Index ty x y)
   unfolding opens
   element_places ty = record {
     by = λ d plus rest heads p f scope r s m K small fits at fit low next.
@@ -314,10 +313,3 @@ module _ (c : Setting) (found : slice_get c.functions c.number ≡ Some c.code) 
         (moves_lead d rest heads p f scope r s m K1 (subst (λ z. Stands c heads p (expr_code (count c) c.structs c.locals d x (expr_code (count c) c.structs c.locals (suc d) y z))) (element_code_is d rest) at) fit low
         (λ q v g u q1 m1 at1 aft fit1 kept held rel. next q v v g u q1 m1 at1 aft fit1 kept (held_pointer target Void v held) rel small (own_base u.world.outer.memory v plus))));
   }
-
-pub pointers_are_moved : PointersAreMoved
-pointers_are_moved c found = record {
-  sums = λ target t x y le ex ey hx hy. sums c found target t x y le ex ey hx hy;
-  elements = λ ty target t x y whole le ex ey hx hy. elements c found target t x y le ex ey hx hy ty whole;
-  places = λ ty target t x y le ex ey hx hy. element_places c found target t x y le ex ey hx hy ty;
-}

@@ -16,6 +16,9 @@ pub record Pointers (c : Setting) : Type 0 where
   pub sums : (target : PlainType) (t : IntegerType) (x y : Expr) → size_of c.structs target ≤ MOST_DATA
       → type_of x ≡ Pointer target → type_of y ≡ plain_of t → ExprMeets c x → ExprMeets c y
       → ExprMeets c (Binary (Pointer target) b.Add x y)
+  pub differences : (target : PlainType) (t : IntegerType) (x y : Expr) → size_of c.structs target ≤ MOST_DATA
+      → type_of x ≡ Pointer target → type_of y ≡ plain_of t → ExprMeets c x → ExprMeets c y
+      → ExprMeets c (Binary (Pointer target) b.Subtract x y)
   -- what stands at an element, and its place
   pub elements : (ty target : PlainType) (t : IntegerType) (x y : Expr) → IsWhole ty
       → size_of c.structs target ≤ MOST_DATA → type_of x ≡ Pointer target → type_of y ≡ plain_of t → ExprMeets c x

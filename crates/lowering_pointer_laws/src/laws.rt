@@ -2,8 +2,8 @@
 
 ghost use Rattle.lowering_pointer_laws.specs.Laws.{PointersAreMoved, PointersAreCompared};
 
-/// The code of the sum of a pointer and an integer, and of an element, does what these do, where that of their
-/// operands does.
+/// The code of the sum and the difference of a pointer and an integer, and of an element, does what these do, where
+/// that of their operands does.
 pub fn pointers_are_moved()
     ensures { PointersAreMoved }
 {}

@@ -1,4 +1,4 @@
-use Rattle.lowering_pointer_laws.proofs.Moves.{pointers_are_moved}
+use Rattle.lowering_pointer_laws.proofs.Differences.{pointers_are_moved}
 use Rattle.lowering_pointer_laws.proofs.laws.pointers_are_moved.Goals as goal
 
 pub returns : goal.returns
