@@ -1,0 +1,4 @@
+pub mod Few
+pub mod Raising
+pub mod Points
+pub mod Wants
