@@ -1,0 +1,4 @@
+pub mod Lists
+pub mod Fixes
+pub mod Objects
+pub mod Holds

@@ -1,0 +1,5 @@
+//! The images of programs: where an assembly has the items of a program with allocations, its image behaves as the
+//! program.
+#![tactic(auto)]
+
+pub mod laws;

@@ -1,0 +1,4 @@
+//! The division routines in the text of an assembly: no branch in them is far, and their code stands.
+#![tactic(auto)]
+
+pub mod laws;
