@@ -54,17 +54,17 @@ module _ (c : Setting) (found : slice_get c.functions c.number ≡ Some c.code) 
   T = plain_of i.Int
 
   -- two pointers in their registers, at a depth and above it
-  record Both (d : ℕ) (f : Names) (scope : Scope) (r : Registers) (s : State) (m : Memory) (v w : Value) (h : Names) (u : State) (q : Registers) (n : Memory) : Type 0 where
-    aft : Aft c f s m h u n
-    fit : Fit c h scope q u n
-    kept : KeepsLower L d r q
-    left : IsValueOf h v (q (address_register L d))
-    right : IsValueOf h w (q (address_register L (suc d)))
+  pub record Both (d : ℕ) (f : Names) (scope : Scope) (r : Registers) (s : State) (m : Memory) (v w : Value) (h : Names) (u : State) (q : Registers) (n : Memory) : Type 0 where
+    pub aft : Aft c f s m h u n
+    pub fit : Fit c h scope q u n
+    pub kept : KeepsLower L d r q
+    pub left : IsValueOf h v (q (address_register L d))
+    pub right : IsValueOf h w (q (address_register L (suc d)))
 
-  abbrev run_by : (Value → Value → Run Value) → Scope → Run Value
+  abbrev pub run_by : (Value → Value → Run Value) → Scope → Run Value
   run_by done scope = λ s. and_then (eval c.structs c.locals c.calls scope x s) (λ v t1. and_then (eval c.structs c.locals c.calls scope y t1) (done v))
 
-  both_lead : (done : Value → Value → Run Value) (d : ℕ) (tail : List CodeItem) (heads : List ℕ) (p : Place) (f : Names) (scope : Scope) (r : Registers) (s : State) (m : Memory) (K : Value → State → Observation) → Stands c heads p (expr_code L c.structs c.locals d x (expr_code L c.structs c.locals (suc d) y tail)) → Fit c f scope r s m
+  pub both_lead : (done : Value → Value → Run Value) (d : ℕ) (tail : List CodeItem) (heads : List ℕ) (p : Place) (f : Names) (scope : Scope) (r : Registers) (s : State) (m : Memory) (K : Value → State → Observation) → Stands c heads p (expr_code L c.structs c.locals d x (expr_code L c.structs c.locals (suc d) y tail)) → Fit c f scope r s m
       → s.world.meter.turns ≤ c.level → ((q : Place) (v w : Value) (h : Names) (u : State) (q1 : Registers) (n : Memory) → Stands c heads q tail → Both d f scope r s m v w h u q1 n → EndsSo c (finish (done v w u) K) q q1 u.world n)
       → EndsSo c (finish (run_by done scope s) K) p r s.world m
   unfolding opens

@@ -2,3 +2,4 @@ pub mod Numbers
 pub mod Moves
 pub mod Differences
 pub mod Comparisons
+pub mod Distances

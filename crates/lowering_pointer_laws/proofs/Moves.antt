@@ -66,16 +66,16 @@ use Rattle.lowering_pointer_laws.proofs.Numbers.{IsSmall, small_fits, moved_smal
 undefined_not : {x : ℕ} → a.Word x ≡ a.Undefined → ⊥
 undefined_not e = cc
 
-long_is : (k : ℕ) → k ≤ MOST_DATA → is_word i.Long k ≡ true
+pub long_is : (k : ℕ) → k ≤ MOST_DATA → is_word i.Long k ≡ true
 long_is k le = eq-eqb (k % 2 ^ 64) k (long_word k le)
 
-long_value : (k : ℕ) → k ≤ MOST_DATA → value i.Long k ≡ pos k
+pub long_value : (k : ℕ) → k ≤ MOST_DATA → value i.Long k ≡ pos k
 long_value k le = ap (value i.Long) (sym (twice k le)) ∙ value-word i.Long (pos k) (small_fits (pos k) le)
   where
     twice : (k : ℕ) → k ≤ MOST_DATA → k % 2 ^ 64 % 2 ^ 64 ≡ k
     twice k le = omega (arith, le)
 
-times_one : (z : ℤ) → z *ℤ pos 1 ≡ z
+pub times_one : (z : ℤ) → z *ℤ pos 1 ≡ z
 times_one (pos a) = let same : a * 1 ≡ a = omega arith in ap pos same
 times_one (negsuc a) = let same : suc a * 1 ≡ suc a = omega arith in ap (λ z. neg_ℤ (pos z)) same
 

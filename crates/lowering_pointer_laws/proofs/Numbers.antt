@@ -16,7 +16,7 @@ pub small_fits : (z : ℤ) → IsSmall z → fits i.Long z ≡ true
 small_fits (pos n) h = fits_long (pos n) (record { sfits = omega (arith, h) })
 small_fits (negsuc n) h = fits_long (negsuc n) (record { sfits = omega (arith, h) })
 
-not_less : (a b : ℕ) → not (nat_lt a b) ≡ true → b ≤ a
+pub not_less : (a b : ℕ) → not (nat_lt a b) ≡ true → b ≤ a
 not_less a b e = by_test (nat_lt a b) (ltb-false a b) e
   where
     by_test : (t : Bool) → ((t ≡ false) → b ≤ a) → not t ≡ true → b ≤ a

@@ -43,3 +43,10 @@ abbrev pub PointersAreCompared : Type 0
 PointersAreCompared =
     (c : Setting) → slice_get c.functions c.number ≡ Some c.code → (target other : PlainType) (x y : Expr) →
     type_of x ≡ Pointer target → type_of y ≡ Pointer other → ExprMeets c x → ExprMeets c y → Comparisons c x y
+
+-- the distance of two pointers in elements (C99 6.5.6)
+abbrev pub DistancesMeet : Type 0
+DistancesMeet =
+    (c : Setting) → slice_get c.functions c.number ≡ Some c.code → (target other : PlainType) (x y : Expr) →
+    size_of c.structs target ≤ MOST_DATA → type_of x ≡ Pointer target → type_of y ≡ Pointer other → ExprMeets c x →
+    ExprMeets c y → ExprMeets c (Binary (plain_of i.Long) b.Subtract x y)

@@ -1,6 +1,6 @@
 //! Laws of the code of pointers, each the contract of a function that does nothing.
 
-ghost use Rattle.lowering_pointer_laws.specs.Laws.{PointersAreMoved, PointersAreCompared};
+ghost use Rattle.lowering_pointer_laws.specs.Laws.{PointersAreMoved, PointersAreCompared, DistancesMeet};
 
 /// The code of the sum and the difference of a pointer and an integer, and of an element, does what these do, where
 /// that of their operands does.
@@ -11,4 +11,9 @@ pub fn pointers_are_moved()
 /// The code of a comparison of two pointers does what it does, where that of its operands does.
 pub fn pointers_are_compared()
     ensures { PointersAreCompared }
+{}
+
+/// The code of the distance of two pointers does what it does, where that of its operands does.
+pub fn distances_meet()
+    ensures { DistancesMeet }
 {}
