@@ -2,7 +2,7 @@
 # Measures the instructions in a second of the interpreter of programs over virtual registers (suifvm_run), on a loop of
 # 100 million instructions, beside a plain C interpreter of the same instructions with a switch, compiled with gcc -O2.
 # Run by hand at the top of the repository: sh bench/vm_speed.sh. It works on a copy in a folder of its own under /tmp,
-# where the crates are proved, and reads the program's text with the reader of the rows (vm_rows).
+# where the crates are proved, and reads the program's text with the reader of the rows (vm_texts).
 #
 # The loop has 5 instructions: a mark, a sum of two 64-bit words, a difference of two 32-bit ones that traps where it
 # overflows, a comparison and a branch. Then it runs 10 million calls, each with an object of its own, and prints the
@@ -13,49 +13,43 @@ top=$(pwd)
 room=$(mktemp -d /tmp/vm_speed.XXXXXX)
 trap 'rm -rf "$room"' EXIT
 rounds=20000000
+own='anyhow bk_io suifvm_run vm_texts'
 
 mkdir -p "$room/repo/crates"
 cp "$top/HANDLES" "$room/repo/"
-# all that vm_rows stands on, in the order of crates.txt
-python3 - "$top/crates.txt" > "$room/names" <<'CODE'
+# all that the program stands on, in the order of crates.txt
+python3 - "$top/crates.txt" $own > "$room/names" <<'CODE'
 import sys
 uses = {}
 for line in open(sys.argv[1]):
     name, _, rest = line.strip().partition(':')
     if name and not name.startswith('#'):
         uses[name] = rest.split()
-wanted, left = set(), ['vm_rows']
+wanted, left = set(), sys.argv[2:]
 while left:
     name = left.pop()
     if name in uses and name not in wanted:
         wanted.add(name)
         left += uses[name]
-print('\n'.join(name for name in uses if name in wanted and name != 'vm_rows'))
+print('\n'.join(name for name in uses if name in wanted))
 CODE
 while read -r crate; do
     cp -r "$top/crates/$crate" "$room/repo/crates/"
     grep -E "^$crate:" "$top/crates.txt" >> "$room/repo/crates.txt"
 done < "$room/names"
-grep -E '^vm_rows:' "$top/crates.txt" | sed 's/^vm_rows:/vm_speed: anyhow/; s/anyhow anyhow/anyhow/' >> "$room/repo/crates.txt"
+echo "vm_speed: $own" >> "$room/repo/crates.txt"
 mkdir -p "$room/repo/crates/vm_speed/src"
-cp "$top"/crates/vm_rows/src/*.rt "$room/repo/crates/vm_speed/src/"
-rm "$room/repo/crates/vm_speed/src/main.rt" "$room/repo/crates/vm_speed/src/runs.rt"
 
 cat > "$room/repo/crates/vm_speed/src/main.rt" <<'CODE'
 //! Runs a loop over virtual registers, and says how long it took.
 #![tactic(auto)]
 
-mod insns;
-mod line;
-mod reader;
-mod words;
-
-use crate::reader::Reader;
 use anyhow::Result;
 use bk_io::empty::{EmptySource, NullSink};
 use std::time::Instant;
 use std::{env, fs};
 use suifvm_run::run_vm;
+use vm_texts::reader::Reader;
 
 fn main(rt: HostRuntime) -> Result<()> {
     let alloc = rt.alloc();

@@ -4,13 +4,10 @@
 //! The form of the files is described in `docs/rows.md`, and that of each kind of row at the head of its file.
 #![tactic(auto)]
 
-mod insns;
 mod kind;
-mod line;
-mod reader;
 mod runs;
 mod selected;
-mod words;
+mod temporaries;
 
 use crate::kind::Kind;
 use anyhow::Result;

@@ -1,13 +1,14 @@
 //! Runs of programs over virtual registers.
 
-use crate::reader::Reader;
+use crate::temporaries::{Run, differences};
 use anyhow::{Result, ensure};
 use bk_io::memory::{MemSink, MemSource};
 use row_sheets::escape::unescape;
 use row_sheets::number::{number, numbers};
 use std::alloc::Global;
 use suifvm_ir::vm_text;
-use suifvm_run::run_vm;
+use suifvm_run::{VmEnding, run_vm};
+use vm_texts::reader::Reader;
 
 /// The most bytes that a run may write.
 const ROOM: u64 = 65_536;
@@ -64,7 +65,15 @@ fn lines_of_text(alloc: Global, given: &str) -> Result<Vec<u8>> {
     Ok(text)
 }
 
-/// How the program of a row runs.
+/// Whether a run came to an end of the program, with no fault outside it.
+fn is_ended(ending: &VmEnding) -> bool {
+    matches!(
+        ending,
+        VmEnding::Ended { .. } | VmEnding::Trapped { .. } | VmEnding::Budget { .. }
+    )
+}
+
+/// How the program of a row runs, and where the program that is selected for it ends in another way.
 pub fn answer(alloc: Global, given: &str) -> Result<Vec<u8>> {
     let mut outside = Outside {
         input: Vec::new(alloc),
@@ -85,7 +94,8 @@ pub fn answer(alloc: Global, given: &str) -> Result<Vec<u8>> {
         text.as_slice() == lines_of_text(alloc, given)?.as_slice(),
         "the program's text is another one"
     );
-    let mut input = MemSource::new(outside.input, outside.failing_inputs);
+    let taken = Vec::from_slice(alloc, outside.input.as_slice())?;
+    let mut input = MemSource::new(taken, outside.failing_inputs);
     let mut out = MemSink::new(alloc, ROOM, outside.failing_puts)?;
     let ending = run_vm(alloc, &program, &mut input, &mut out, outside.turns);
     let mut shown = format!(in alloc; "{ending:?}\n")?.into_bytes();
@@ -93,6 +103,15 @@ pub fn answer(alloc: Global, given: &str) -> Result<Vec<u8>> {
         shown.extend_from_slice(b"out ")?;
         shown.extend_from_slice(out.taken())?;
         shown.push(b'\n')?;
+    }
+    if is_ended(&ending) {
+        let run = Run {
+            input: outside.input.as_slice(),
+            turns: outside.turns,
+            ending,
+            output: out.taken(),
+        };
+        shown.extend_from_slice(differences(alloc, &program, &run)?.as_slice())?;
     }
     Ok(shown)
 }

@@ -1,12 +1,12 @@
 //! Programs over temporaries that are selected.
 
-use crate::reader::Reader;
 use crate::runs::names_of;
 use alpha_select::select;
 use anyhow::{Result, ensure};
 use std::alloc::Global;
 use temp_ir::temp_text;
 use vm_checks::size::is_small;
+use vm_texts::reader::Reader;
 
 /// The text of the program that is selected for that of a row.
 pub fn answer(alloc: Global, given: &str) -> Result<Vec<u8>> {

@@ -1,0 +1,132 @@
+//! What operations do with words.
+
+use anyhow::{Result, bail};
+use temp_ir::operation::{BranchOp, ExtendOp, Operation, Routine};
+
+/// What comes of an operation on words.
+#[derive(Clone, Copy, Debug)]
+pub enum Outcome {
+    Word(u64),
+    Trap(u64),
+}
+
+/// A truth value as a word.
+fn truth(holds: bool) -> Outcome {
+    Outcome::Word(u64::from(holds))
+}
+
+/// A signed number that has to fit in 64 bits.
+fn checked(number: Option<i64>) -> Outcome {
+    match number {
+        None => Outcome::Trap(3),
+        Some(number) => Outcome::Word(number.cast_unsigned()),
+    }
+}
+
+/// The signed number that the low 32 bits are.
+pub fn low(word: u64) -> i32 {
+    ((word & 0xffff_ffff) as u32).cast_signed()
+}
+
+/// The low 32 bits with their sign in all bits above them.
+fn extended(word: u64) -> u64 {
+    i64::from(low(word)).cast_unsigned()
+}
+
+/// A signed number that has to fit in 32 bits.
+fn checked_low(number: Option<i32>) -> Outcome {
+    match number {
+        None => Outcome::Trap(3),
+        Some(number) => Outcome::Word(i64::from(number).cast_unsigned()),
+    }
+}
+
+/// The bytes of a word that a number of eight bits names, and zero in the others.
+fn kept(word: u64, bytes: u64) -> u64 {
+    let mut mask = 0_u64;
+    for byte in 0_u64..8 {
+        if bytes >> byte & 1 == 1 {
+            mask |= 0xff << (8 * byte);
+        }
+    }
+    word & mask
+}
+
+/// An operation on two words, if it is one that the rows have.
+pub fn operate(op: Operation, a: u64, b: u64) -> Result<Outcome> {
+    let (x, y) = (a.cast_signed(), b.cast_signed());
+    let outcome = match op {
+        Operation::Addl => Outcome::Word(extended(a.wrapping_add(b))),
+        Operation::Subl => Outcome::Word(extended(a.wrapping_sub(b))),
+        Operation::Mull => Outcome::Word(extended(a.wrapping_mul(b))),
+        Operation::AddlV => checked_low(low(a).checked_add(low(b))),
+        Operation::SublV => checked_low(low(a).checked_sub(low(b))),
+        Operation::MullV => checked_low(low(a).checked_mul(low(b))),
+        Operation::Ornot => Outcome::Word(a | !b),
+        Operation::Zapnot => Outcome::Word(kept(a, b)),
+        Operation::Srl => Outcome::Word(a >> (b & 63)),
+        Operation::Sll => Outcome::Word(a << (b & 63)),
+        Operation::Sra => Outcome::Word((x >> (b & 63)).cast_unsigned()),
+        Operation::Addq => Outcome::Word(a.wrapping_add(b)),
+        Operation::Subq => Outcome::Word(a.wrapping_sub(b)),
+        Operation::Mulq => Outcome::Word(a.wrapping_mul(b)),
+        Operation::AddqV => checked(x.checked_add(y)),
+        Operation::SubqV => checked(x.checked_sub(y)),
+        Operation::MulqV => checked(x.checked_mul(y)),
+        Operation::Cmpeq => truth(a == b),
+        Operation::Cmplt => truth(x < y),
+        Operation::Cmple => truth(x <= y),
+        Operation::Cmpult => truth(a < b),
+        Operation::Cmpule => truth(a <= b),
+        Operation::And => Outcome::Word(a & b),
+        Operation::Bic => Outcome::Word(a & !b),
+        Operation::Bis => Outcome::Word(a | b),
+        Operation::Xor => Outcome::Word(a ^ b),
+        _ => bail!("the rows have no {op:?}"),
+    };
+    Ok(outcome)
+}
+
+/// A byte or the low 16 bits, with their sign in all bits above them.
+pub fn extend(op: ExtendOp, word: u64) -> u64 {
+    match op {
+        ExtendOp::Sextb => i64::from(((word & 0xff) as u8).cast_signed()).cast_unsigned(),
+        ExtendOp::Sextw => i64::from(((word & 0xffff) as u16).cast_signed()).cast_unsigned(),
+    }
+}
+
+/// What a division routine answers.
+pub fn divide(routine: Routine, a: u64, b: u64) -> Result<Outcome> {
+    if b == 0 {
+        return Ok(Outcome::Trap(1));
+    }
+    match routine {
+        Routine::Divqu => Ok(Outcome::Word(a / b)),
+        Routine::Remqu => Ok(Outcome::Word(a % b)),
+        Routine::Divq => Ok(checked(a.cast_signed().checked_div(b.cast_signed()))),
+        Routine::Remq => Ok(checked(a.cast_signed().checked_rem(b.cast_signed()))),
+        Routine::Divl => Ok(checked_low(low(a).checked_div(low(b)))),
+        Routine::Reml => Ok(checked_low(low(a).checked_rem(low(b)))),
+        Routine::Divlu => Ok(Outcome::Word(extended(
+            (a & 0xffff_ffff).checked_div(b & 0xffff_ffff).unwrap_or(0),
+        ))),
+        Routine::Remlu => Ok(Outcome::Word(extended(
+            (a & 0xffff_ffff).checked_rem(b & 0xffff_ffff).unwrap_or(0),
+        ))),
+    }
+}
+
+/// Whether a word passes the test of a branch.
+pub fn passes(op: BranchOp, word: u64) -> bool {
+    let number = word.cast_signed();
+    match op {
+        BranchOp::Blbc => word % 2 == 0,
+        BranchOp::Beq => number == 0,
+        BranchOp::Blt => number < 0,
+        BranchOp::Ble => number <= 0,
+        BranchOp::Blbs => word % 2 == 1,
+        BranchOp::Bne => number != 0,
+        BranchOp::Bge => number >= 0,
+        BranchOp::Bgt => number > 0,
+    }
+}

@@ -1,0 +1,93 @@
+//! Runs of the programs that are selected, over temporaries and in the slots of `plain`.
+
+use alloc_model::allocation::Allocation;
+use alloc_plain::plain;
+use alpha_select::select;
+use anyhow::{Result, bail, ensure};
+use data_object::DataObject;
+use std::alloc::Global;
+use suifvm_ir::program::VmProgram;
+use suifvm_run::VmEnding;
+use temp_checks::is_settled;
+use temp_machine::machine::{Ending, Machine};
+use vm_checks::size::is_small;
+
+/// What a run over virtual registers took and came to.
+#[derive(Drop)]
+pub struct Run<'a> {
+    pub input: &'a [u8],
+    pub turns: u64,
+    pub ending: VmEnding,
+    pub output: &'a [u8],
+}
+
+/// Whether a run over temporaries ends as that over virtual registers.
+fn is_same(ending: Ending, due: &VmEnding) -> bool {
+    match (ending, due) {
+        (Ending::Done(status), VmEnding::Ended { status: other }) => status == u64::from(*other),
+        (Ending::Trap(code), VmEnding::Trapped { code: other }) => code == *other,
+        (Ending::More, VmEnding::Budget { .. }) => true,
+        _ => false,
+    }
+}
+
+/// Puts a line where a run ends in another way than is due, or puts other bytes.
+fn put_difference(
+    shown: &mut Vec<u8>,
+    alloc: Global,
+    allocations: &[Allocation],
+    globals: &[DataObject],
+    is_placed: bool,
+    run: &Run<'_>,
+) -> Result<()> {
+    let input = Vec::from_slice(alloc, run.input)?;
+    let mut machine = Machine::new(alloc, allocations, globals, is_placed, input, run.turns)?;
+    let ending = machine.run()?;
+    if is_same(ending, &run.ending) && machine.output.as_slice() == run.output {
+        return Ok(());
+    }
+    let place = if is_placed { "slots" } else { "temporaries" };
+    let line = format!(in alloc; "{place} {ending:?} out ")?;
+    shown.extend_from_slice(line.as_bytes())?;
+    shown.extend_from_slice(machine.output.as_slice())?;
+    shown.push(b'\n')?;
+    Ok(())
+}
+
+/// The plainest allocations of the functions that are selected.
+fn allocations_of(alloc: Global, program: &VmProgram) -> Result<Vec<Allocation>> {
+    ensure!(is_small(program), "the program is too large");
+    let selected = select(alloc, program)?;
+    let mut allocations = Vec::new(alloc);
+    for function in selected.functions.as_slice() {
+        if !is_settled(alloc, function)? {
+            bail!("a fixed register is read that was not written in its block");
+        }
+        allocations.push(plain(alloc, function)?)?;
+    }
+    Ok(allocations)
+}
+
+/// What differs where the program that is selected is run: nothing, where it ends as it should.
+pub fn differences(alloc: Global, program: &VmProgram, run: &Run<'_>) -> Result<Vec<u8>> {
+    let allocations = allocations_of(alloc, program)?;
+    let globals = program.globals.as_slice();
+    let mut shown = Vec::new(alloc);
+    put_difference(
+        &mut shown,
+        alloc,
+        allocations.as_slice(),
+        globals,
+        false,
+        run,
+    )?;
+    put_difference(
+        &mut shown,
+        alloc,
+        allocations.as_slice(),
+        globals,
+        true,
+        run,
+    )?;
+    Ok(shown)
+}
