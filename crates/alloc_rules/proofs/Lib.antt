@@ -4,3 +4,4 @@ mod Unique
 mod WrongPlacements
 mod WrongReplays
 mod Journals
+mod RightPlacements

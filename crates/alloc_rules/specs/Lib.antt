@@ -6,3 +6,4 @@ pub mod WrongPlacements
 pub mod WrongReplays
 pub mod Scan
 pub mod Lean
+pub mod RightPlacements

@@ -2,6 +2,8 @@
 
 ghost use Rattle.alloc_rules.specs.FrugalExamples.{FrugalExamples};
 ghost use Rattle.alloc_rules.specs.Journal.{JournalsAreUnique};
+ghost use Rattle.alloc_model.specs.Faithful.{Faithful};
+ghost use Rattle.alloc_rules.specs.RightPlacements.{kept_over_call};
 ghost use Rattle.alloc_rules.specs.Scan.{ListsAreUnique};
 ghost use Rattle.alloc_rules.specs.WrongPlacements.{WrongPlacements};
 ghost use Rattle.alloc_rules.specs.WrongReplays.{WrongReplays};
@@ -25,4 +27,9 @@ pub fn lists_are_unique()
 /// An allocation has one journal.
 pub fn journals_are_unique()
     ensures { JournalsAreUnique }
+{}
+
+/// An allocation with a loop is faithful in which a value stays in a register over a call.
+pub fn a_loop_with_a_call_is_faithful()
+    ensures { Faithful kept_over_call }
 {}
