@@ -62,7 +62,7 @@ use Rattle.lowering_place_laws.proofs.Places.{held_pointer, long_word, moved_hel
 use Rattle.lowering_place_laws.proofs.Accesses.{load_on}
 use Rattle.lowering_pointer_laws.specs.Laws.{PointersAreMoved}
 use Rattle.lowering_pointer_laws.proofs.Numbers.{IsSmall, small_fits}
-use Rattle.lowering_pointer_laws.proofs.Moves.{IsMovedBy, moved_by, long_bytes, long_leads, sized_leads, sums, elements, element_places}
+use Rattle.lowering_pointer_laws.proofs.Moves.{IsMovedBy, moved_by, long_bytes, kept_both, long_leads, sized_leads, sums, elements, element_places}
 
 -- ---- numbers
 
@@ -125,12 +125,12 @@ module _ (c : Setting) (found : slice_get c.functions c.number ≡ Some c.code) 
       let at1 = subst (λ n. Stands c heads q (scaled_code (count c) (suc d) (suc (suc d)) (plain_of t) n tail)) capped at in
       long_leads c found rest heads g scope s m (suc d) t k (sized_code (count c) (suc d) (suc (suc d)) size tail) q r at1 fit one
       (λ q1 r1 at2 fit1 kept1 held1.
-      sized_leads c found rest heads g scope s m (suc d) size (conversion t i.Long k) z tail q1 r1 le (long_bytes t k size small) small (is_word-extension i.Long _) at2 fit1 held1
+      sized_leads c found rest heads g scope s m (suc d) (suc (suc d)) (omega arith) size (conversion t i.Long k) z tail q1 r1 le (long_bytes t k size small) small (is_word-extension i.Long _) at2 fit1 held1
       (λ q2 r2 b at3 fit2 kept2 held2 value_is word_is.
       let w1 : ℕ = word i.Long (neg_ℤ z) in
       let r3 : Registers = set_register reg (Word w1) r2 in
       let at4 = at_plain c.code.blocks c.last c.end _ at3 in
-      let kept3 : KeepsLower (count c) (suc d) r r3 = kept_temporary (suc d) S64 (Word w1) (omega arith) (kept_on (omega arith) kept1 kept2) in
+      let kept3 : KeepsLower (count c) (suc d) r r3 = kept_temporary (suc d) S64 (Word w1) (omega arith) (kept_both kept1 kept2).lower in
       let same : r3 addr ≡ r addr = kept_reads d P64 (omega arith) kept3 in
       let moved : pointer_plus s.world.outer.memory v (neg_ℤ z) ≡ Some u = ap (λ y. pointer_plus s.world.outer.memory v y) (sym (neg_times (value t k) size)) ∙ is.moved in
       let x = moves_correspond g s.world.outer.memory m fit2.memory v (r3 addr) u (neg_ℤ z) (subst (λ n. IsValueOf g v n) (sym same) rel) moved in

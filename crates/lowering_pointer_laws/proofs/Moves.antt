@@ -1,5 +1,5 @@
 -- The code of the sum of a pointer and an integer: the integer becomes a number of bytes, by which the pointer is moved.
-use Rattle.std.proofs.Common.{◌≡◌, ℕ, zero, suc, ◌≤◌, ◌==◌, ◌%◌, ◌^◌, ◌*◌, ◌&&◌, ℤ, pos, negsuc, neg_ℤ, ◌+ℤ◌, ◌*ℤ◌, List, [], ◌∷◌, Bool, true, false, Some, None, refl, sym, ap, ◌∙◌, subst, arith, inl, eq-eqb}
+use Rattle.std.proofs.Common.{◌≡◌, ℕ, zero, suc, ◌<◌, ◌≤◌, ◌==◌, ◌%◌, ◌^◌, ◌*◌, ◌&&◌, ℤ, pos, negsuc, neg_ℤ, ◌+ℤ◌, ◌*ℤ◌, List, [], ◌∷◌, Bool, true, false, Some, None, refl, sym, ap, ◌∙◌, subst, arith, inl, eq-eqb}
 use Rattle.std.specs.Prelude.{if◌then◌else◌, slice_get}
 use Rattle.std.proofs.lemmas.Bool.{eqb-true}
 use Rattle.std.proofs.Math.IntN.{*ℤ-zero}
@@ -106,13 +106,30 @@ moved_by m (Address p) z u e = by_test (is_offset p.offset (size_at m p)) refl e
         let tests = both (is_live m p) (is_offset (p.offset +ℤ z) (size_at m p)) a.0 in
         record { small = λ little. moved_small p.offset z (size_at m p) et tests.1 (little p tests.0); moved = h }
 
+-- registers of lower depths, and all of addresses, are as before
+pub record KeepsOthers (L j : ℕ) (r q : Registers) : Type 0 where
+  pub lower : KeepsLower L j r q
+  pub addresses : (e : ℕ) → q (address_register L e) ≡ r (address_register L e)
+
+kept_others : {L j : ℕ} {r : Registers} → KeepsOthers L j r r
+kept_others = record { lower = kept_all; addresses = λ e. refl }
+
+kept_bytes : {L j : ℕ} (e : ℕ) (v : Value) {r q : Registers} → j ≤ e → KeepsOthers L j r q → KeepsOthers L j r (set_register (bytes_register L e) v q)
+kept_bytes {L = L} e v {q = q} le h = record {
+  lower = kept_temporary e S64 v le h.lower;
+  addresses = λ k. set_other q (bytes_register L e) (address_register L k) v (λ same. absurd (omega (arith, same))) ∙ h.addresses k;
+}
+
+pub kept_both : {L j : ℕ} {r q t : Registers} → KeepsOthers L j r q → KeepsOthers L j q t → KeepsOthers L j r t
+kept_both a1 a2 = record { lower = kept_on (omega arith) a1.lower a2.lower; addresses = λ e. a2.addresses e ∙ a1.addresses e }
+
 module _ (c : Setting) (found : slice_get c.functions c.number ≡ Some c.code) (rest : List CodeItem) (heads : List ℕ) (g : Names) (scope : Scope) (s : State) (m : Memory) where
   abbrev L : ℕ
   L = count c
 
   -- an integer becomes a `long`
   pub long_leads : {o : Observation} (j : ℕ) (t : IntegerType) (k : ℕ) (tail : List CodeItem) (q : Place) (r : Registers) → Stands c heads q (convert_code L j (plain_of t) (plain_of i.Long) tail) → Fit c g scope r s m → WordIn L j t k r
-      → ((q1 : Place) (r1 : Registers) → Stands c heads q1 tail → Fit c g scope r1 s m → KeepsLower L j r r1 → r1 (bytes_register L j) ≡ Word (conversion t i.Long k) → EndsSo c o q1 r1 s.world m) → EndsSo c o q r s.world m
+      → ((q1 : Place) (r1 : Registers) → Stands c heads q1 tail → Fit c g scope r1 s m → KeepsOthers L j r r1 → r1 (bytes_register L j) ≡ Word (conversion t i.Long k) → EndsSo c o q1 r1 s.world m) → EndsSo c o q r s.world m
   long_leads {o = o} j t k tail q r at fit one next = by_kept (is_kept (plain_of t) (plain_of i.Long)) refl at
     where
       k1 : ℕ
@@ -124,24 +141,24 @@ module _ (c : Setting) (found : slice_get c.functions c.number ≡ Some c.code) 
       by_kept : (x : Bool) → is_kept (plain_of t) (plain_of i.Long) ≡ x → Stands c heads q (if x then tail else Plain insn ∷ tail) → EndsSo c o q r s.world m
       by_kept true e at2 =
           let same : register_type (plain_of t) ≡ register_type (plain_of i.Long) = sym (register-promoted t) ∙ ap (λ z. register_type (plain_of z)) (kept_is t i.Long e) in
-          next q r at2 fit kept_all (ap (λ z. r (temporary L j z)) (sym same) ∙ one.stands ∙ ap Word (sym (kept_conversion t i.Long k one.is_one e)))
+          next q r at2 fit kept_others (ap (λ z. r (temporary L j z)) (sym same) ∙ one.stands ∙ ap Word (sym (kept_conversion t i.Long k one.is_one e)))
       by_kept false e at2 =
           insn_on c found insn q r s.world m (Word k1 ∷ []) at2.has.0 refl
           (ap (λ z. writes (vm.convert_answer (narrow_type (plain_of t) (plain_of i.Long)) (register_type (plain_of i.Long)) z) (outer_with_memory s.world.outer m)) one.stands
           ∙ ap (λ z. writes z (outer_with_memory s.world.outer m)) (made_conversion t i.Long k one.is_one))
-          (next (next_place q) (set_register (bytes_register L j) (Word k1) r) (at_plain c.code.blocks c.last c.end insn at2) (fits_temporary j S64 (Word k1) fit) (kept_temporary j S64 (Word k1) (omega arith) kept_all) (set_same r (bytes_register L j) (Word k1)))
+          (next (next_place q) (set_register (bytes_register L j) (Word k1) r) (at_plain c.code.blocks c.last c.end insn at2) (fits_temporary j S64 (Word k1) fit) (kept_bytes j (Word k1) (omega arith) kept_others) (set_same r (bytes_register L j) (Word k1)))
 
   -- it becomes a number of bytes
-  pub sized_leads : {o : Observation} (j size x : ℕ) (z : ℤ) (tail : List CodeItem) (q : Place) (r : Registers) → size ≤ MOST_DATA → value i.Long x *ℤ pos size ≡ z → IsSmall z → is_word i.Long x ≡ true → Stands c heads q (sized_code L j (suc j) size tail) → Fit c g scope r s m
+  pub sized_leads : {o : Observation} (j free : ℕ) → j < free → (size x : ℕ) (z : ℤ) (tail : List CodeItem) (q : Place) (r : Registers) → size ≤ MOST_DATA → value i.Long x *ℤ pos size ≡ z → IsSmall z → is_word i.Long x ≡ true → Stands c heads q (sized_code L j free size tail) → Fit c g scope r s m
       → r (bytes_register L j) ≡ Word x
-      → ((q1 : Place) (r1 : Registers) (b : ℕ) → Stands c heads q1 tail → Fit c g scope r1 s m → KeepsLower L j r r1 → r1 (bytes_register L j) ≡ Word b → value i.Long b ≡ z → is_word i.Long b ≡ true → EndsSo c o q1 r1 s.world m) → EndsSo c o q r s.world m
-  sized_leads {o = o} j size x z tail q r le e small one at fit held next = by_one (size == 1) (eqb-true size 1) at
+      → ((q1 : Place) (r1 : Registers) (b : ℕ) → Stands c heads q1 tail → Fit c g scope r1 s m → KeepsOthers L j r r1 → r1 (bytes_register L j) ≡ Word b → value i.Long b ≡ z → is_word i.Long b ≡ true → EndsSo c o q1 r1 s.world m) → EndsSo c o q r s.world m
+  sized_leads {o = o} j free above_it size x z tail q r le e small one at fit held next = by_one (size == 1) (eqb-true size 1) at
     where
       reg : ℕ
       reg = bytes_register L j
 
       above : ℕ
-      above = bytes_register L (suc j)
+      above = bytes_register L free
 
       r1 : Registers
       r1 = set_register above (Word size) r
@@ -150,11 +167,11 @@ module _ (c : Setting) (found : slice_get c.functions c.number ≡ Some c.code) 
       bytes = word i.Long z
 
       low : r1 reg ≡ Word x
-      low = set_other r above reg (Word size) (other_depth L j (suc j) S64 S64 (omega arith)) ∙ held
+      low = set_other r above reg (Word size) (other_depth L j free S64 S64 above_it) ∙ held
 
       by_one : (y : Bool) → (y ≡ true → size ≡ 1)
           → Stands c heads q (if y then tail else Plain (n.LoadConstant S64 above size) ∷ Plain (n.Binary Multiply S64 reg reg above) ∷ tail) → EndsSo c o q r s.world m
-      by_one true one_is at2 = next q r x at2 fit kept_all held (sym (times_one (value i.Long x)) ∙ ap (λ y. value i.Long x *ℤ pos y) (sym (one_is refl)) ∙ e) one
+      by_one true one_is at2 = next q r x at2 fit kept_others held (sym (times_one (value i.Long x)) ∙ ap (λ y. value i.Long x *ℤ pos y) (sym (one_is refl)) ∙ e) one
       by_one false one_is at2 =
           let at3 = at_plain c.code.blocks c.last c.end _ at2 in
           insn_on c found (n.LoadConstant S64 above size) q r s.world m (Word size ∷ []) at2.has.0 refl
@@ -162,8 +179,8 @@ module _ (c : Setting) (found : slice_get c.functions c.number ≡ Some c.code) 
           (insn_on c found (n.Binary Multiply S64 reg reg above) (next_place q) r1 s.world m (Word bytes ∷ []) at3.has.0 refl
           (operators_correspond b.Multiply i.Long i.Long reg reg above c.own r1 (outer_with_memory s.world.outer m) x size refl (λ _. refl) low (set_same r above (Word size)) one (long_is size le) (λ no. undefined_not (sym (product_is x size z le e small) ∙ no))
           ∙ ap (λ y. writes (vm.outcome_answer y) (outer_with_memory s.world.outer m)) (product_is x size z le e small))
-          (next (next_place (next_place q)) (set_register reg (Word bytes) r1) bytes (at_plain c.code.blocks c.last c.end _ at3) (fits_temporary j S64 (Word bytes) (fits_temporary (suc j) S64 (Word size) fit))
-          (kept_temporary j S64 (Word bytes) (omega arith) (kept_temporary (suc j) S64 (Word size) (omega arith) kept_all)) (set_same r1 reg (Word bytes)) (value-word i.Long z (small_fits z small)) (is_word-extension i.Long _)))
+          (next (next_place (next_place q)) (set_register reg (Word bytes) r1) bytes (at_plain c.code.blocks c.last c.end _ at3) (fits_temporary j S64 (Word bytes) (fits_temporary free S64 (Word size) fit))
+          (kept_bytes j (Word bytes) (omega arith) (kept_bytes free (Word size) (omega (arith, above_it)) kept_others)) (set_same r1 reg (Word bytes)) (value-word i.Long z (small_fits z small)) (is_word-extension i.Long _)))
 
   -- the pointer at a depth is moved by the elements above it
   moved_leads : {o : Observation} (d : ℕ) (t : IntegerType) (k size : ℕ) (v u : Value) (q : Place) (r : Registers) → size ≤ MOST_DATA → IsMovedBy s.world.outer.memory v (value t k *ℤ pos size) u
@@ -177,9 +194,9 @@ module _ (c : Setting) (found : slice_get c.functions c.number ≡ Some c.code) 
       let at1 = subst (λ z. Stands c heads q (scaled_code L (suc d) (suc (suc d)) (plain_of t) z (add_code addr addr reg rest))) capped at in
       long_leads (suc d) t k (sized_code L (suc d) (suc (suc d)) size (add_code addr addr reg rest)) q r at1 fit one
       (λ q1 r1 at2 fit1 kept1 held1.
-      sized_leads (suc d) size (conversion t i.Long k) (value t k *ℤ pos size) (add_code addr addr reg rest) q1 r1 le (long_bytes t k size small) small (is_word-extension i.Long _) at2 fit1 held1
+      sized_leads (suc d) (suc (suc d)) (omega arith) size (conversion t i.Long k) (value t k *ℤ pos size) (add_code addr addr reg rest) q1 r1 le (long_bytes t k size small) small (is_word-extension i.Long _) at2 fit1 held1
       (λ q2 r2 b at3 fit2 kept2 held2 value_is _.
-      let kept3 : KeepsLower L (suc d) r r2 = kept_on (omega arith) kept1 kept2 in
+      let kept3 : KeepsLower L (suc d) r r2 = (kept_both kept1 kept2).lower in
       let same : r2 addr ≡ r addr = kept_reads d P64 (omega arith) kept3 in
       let x = moves_correspond g s.world.outer.memory m fit2.memory v (r2 addr) u (value t k *ℤ pos size) (subst (λ z. IsValueOf g v z) (sym same) rel) is.moved in
       insn_on c found (n.Binary Add P64 addr addr reg) q2 r2 s.world m (x.0 ∷ []) at3.has.0 refl

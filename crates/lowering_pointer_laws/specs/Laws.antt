@@ -50,3 +50,18 @@ DistancesMeet =
     (c : Setting) → slice_get c.functions c.number ≡ Some c.code → (target other : PlainType) (x y : Expr) →
     size_of c.structs target ≤ MOST_DATA → type_of x ≡ Pointer target → type_of y ≡ Pointer other → ExprMeets c x →
     ExprMeets c y → ExprMeets c (Binary (plain_of i.Long) b.Subtract x y)
+
+-- the same where the left operand is the integer: sums and elements
+pub record PointersAbove (c : Setting) : Type 0 where
+  pub sums : (target : PlainType) (t : IntegerType) (x y : Expr) → size_of c.structs target ≤ MOST_DATA
+      → type_of x ≡ plain_of t → type_of y ≡ Pointer target → ExprMeets c x → ExprMeets c y
+      → ExprMeets c (Binary (Pointer target) b.Add x y)
+  pub elements : (ty target : PlainType) (t : IntegerType) (x y : Expr) → IsWhole ty
+      → size_of c.structs target ≤ MOST_DATA → type_of x ≡ plain_of t → type_of y ≡ Pointer target → ExprMeets c x
+      → ExprMeets c y → ExprMeets c (Index ty x y)
+  pub places : (ty target : PlainType) (t : IntegerType) (x y : Expr) → size_of c.structs target ≤ MOST_DATA
+      → type_of x ≡ plain_of t → type_of y ≡ Pointer target → ExprMeets c x → ExprMeets c y
+      → PlaceMeets c (Index ty x y)
+
+abbrev pub PointersAboveAreMoved : Type 0
+PointersAboveAreMoved = (c : Setting) → slice_get c.functions c.number ≡ Some c.code → PointersAbove c
