@@ -19,7 +19,7 @@ abbrev pub write : {I : Type 0} → (writes : I → List ℕ) → List I → (re
 write writes [] register = false
 write writes (i ∷ insns) register = names (writes i) register || write writes insns register
 
--- an instruction reads and writes so few registers that a 32-bit number counts them, as each call that asks for one does
+-- an instruction reads and writes so few registers that each can be asked for by a number of 32 bits
 abbrev pub HasFewRegisters : {I : Type 0} → (reads writes : I → List ℕ) → I → Type 0
 HasFewRegisters reads writes i = (length (reads i) < 2 ^ 32) × (length (writes i) < 2 ^ 32)
 

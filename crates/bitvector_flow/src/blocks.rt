@@ -118,7 +118,8 @@ fn push_block<I: Insn>(
 ) -> Result<(), AllocError>
     requires inside { All (UsesRegisters I.reads I.writes registers) block.now }
     requires few { All (HasFewRegisters I.reads I.writes) block.now }
-    ensures { OnOk result (IsPushed I.reads I.writes registers block.now reads.old.items reads.new.items writes.old.items writes.new.items) }
+    ensures { OnOk result
+        (IsPushed I.reads I.writes registers block.now reads.old.items reads.new.items writes.old.items writes.new.items) }
 {
     let Registers {
         reads: first,

@@ -68,7 +68,8 @@ fn round(
     requires ins_length { length ins.now ≡ length nexts.now }
     requires outs { AreBelow (length spare.now) outs.now }
     requires ins { AreBelow (length spare.now) ins.now }
-    ensures swept { IsSwept nexts.now stops.now (length spare.old) backward outs.old outs.new ins.new (length nexts.now) result }
+    ensures swept { IsSwept nexts.now stops.now (length spare.old) backward outs.old outs.new ins.new
+        (length nexts.now) result }
     ensures forced { (makes : List (List Bool)) → AreForced nexts.now makes stops.now outs.old ins.old →
         AreForced nexts.now makes stops.now outs.new ins.new }
     ensures spare { length spare.new ≡ length spare.old }
@@ -124,7 +125,8 @@ pub(crate) fn solve_sets(
     requires as_many_stops { length stops.now ≡ length nexts.now }
     requires makes { AreBelow bound makes.items }
     requires stops { AreBelow bound stops.now }
-    ensures { IfOk result (λ s. AreFlows (has_at makes.items) (has_at stops.now) nexts.now bound s.outs.items s.ins.items) }
+    ensures { IfOk result (λ s.
+        AreFlows (has_at makes.items) (has_at stops.now) nexts.now bound s.outs.items s.ins.items) }
 {
     let mut outs = makes;
     let mut ins = empty_sets(alloc, nexts.len(), bound)?;

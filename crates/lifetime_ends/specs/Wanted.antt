@@ -19,8 +19,8 @@ live_in (Some insns) at_bottom t at =
 abbrev pub live_by : Blocks → (bottoms : List (List Bool)) → (t block at : ℕ) → Bool
 live_by blocks bottoms t block at = live_in (slice_get blocks block) (has_at bottoms block t) t at
 
--- an instruction with a number reads a temporary, or it is live before, at the point where it reads; or it writes it, or
--- it is live behind, at the point where it writes
+-- an instruction with a number reads a temporary, or it is live before, at the point of reading; or it writes it, or
+-- it is live behind, at the point of writing
 abbrev pub present_at : (live : (at : ℕ) → Bool) → (t point number at : ℕ) → TempInsn → Bool
 present_at live t point number at x =
     ((point == 2 * number) && (names (reads_of x) t || live at))

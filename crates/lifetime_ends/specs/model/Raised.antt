@@ -23,7 +23,8 @@ pub record IsBehind (number next : ℕ) (bottom : List Bool) (t point : ℕ) : T
   pub is : suc point ≡ 2 * next
 
 abbrev pub IsOfBlock : (number : ℕ) → List TempInsn → (bottom : List Bool) → (t point : ℕ) → Type 0
-IsOfBlock number insns bottom t point = IsOfInsns number insns t point ⊎ IsBehind number (number + length insns) bottom t point
+IsOfBlock number insns bottom t point =
+    IsOfInsns number insns t point ⊎ IsBehind number (number + length insns) bottom t point
 
 -- each point that is marked for a temporary is below its last point or that itself, which is an old one or marked
 pub record IsRaised (marked : (t point : ℕ) → Type 0) (old new : List ℕ) : Type 0 where
