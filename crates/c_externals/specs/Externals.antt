@@ -21,10 +21,10 @@ use Rattle.c_tag_bodies.specs.Bodies.{Scope, declared_type}
 use Rattle.c_initialisers.specs.Unfit.{judge_init}
 use Rattle.c_statements.specs.Functions.{function}
 use Rattle.c_unit_names.specs.declared.names.NameDeclaration.{NameDeclaration}
-use Rattle.c_externals.specs.declared.walk.UnitSoFar.{UnitSoFar}
-use Rattle.c_externals.specs.Walk.{Walk, in_notes, with_state, declare, body_kept}
-use Rattle.c_externals.specs.Objects.{faulty_object, array_object, value_object}
-use Rattle.c_externals.specs.Functions.{function_type, function_with_type, optional_refused, init_refused, defined_type, main_seen}
+use Rattle.c_declarations.specs.declared.walk.UnitSoFar.{UnitSoFar}
+use Rattle.c_declarations.specs.Walk.{Walk, in_notes, with_state, declare, body_kept}
+use Rattle.c_declarations.specs.Objects.{faulty_object, array_object, value_object}
+use Rattle.c_declarations.specs.Functions.{function_type, function_with_type, optional_refused, init_refused, defined_type, main_seen}
 
 -- ---- typedef names
 

@@ -20,7 +20,7 @@ use Rattle.c_checks.specs.Scopes.{with_name}
 use Rattle.c_tag_bodies.specs.Bodies.{Scope}
 use Rattle.c_unit_names.specs.declared.names.UnitNames.{UnitNames}
 use Rattle.c_unit_names.specs.UnitNames.{with_declared}
-use Rattle.c_externals.specs.declared.walk.UnitSoFar.{UnitSoFar}
+use Rattle.c_declarations.specs.declared.walk.UnitSoFar.{UnitSoFar}
 use Rattle.c_externals.specs.Externals.{externals}
 use Rattle.c_externals.specs.Undefined.{undefined_noted}
 

@@ -3,15 +3,15 @@
 ghost use Rattle.std.specs.Prelude.{◌≡◌, OnOk, IfOk};
 ghost use Rattle.std.specs.Option.{option_map};
 ghost use Rattle.c_checks.specs.Checks.{Finds, each};
+ghost use Rattle.c_declarations.specs.Functions as functions;
 ghost use Rattle.c_externals.specs.Externals as spec;
-ghost use Rattle.c_externals.specs.Functions as functions;
 
-use crate::functions::{
-    declare_function, defined_type, function_type, refuse_optional, refuse_value, see_main,
-};
-use crate::objects::{declare_array, declare_faulty, declare_value, judge_parts};
-use crate::walk::{UnitSoFar, declare, keep_function};
 use c_checks::{Env, Notes};
+use c_declarations::{
+    UnitSoFar, declare, declare_array, declare_faulty, declare_function, declare_value,
+    defined_type, function_type, judge_parts, keep_function, refuse_optional, refuse_value,
+    see_main,
+};
 use c_declared_types::DeclaredType;
 use c_definitions::Definitions;
 use c_judgements::types::type_named;

@@ -1,13 +1,9 @@
-//! What stands at file scope: each declaration with its type and its initialiser or body, and every fault that is in it
-//! (C99 6.7, 6.9).
+//! Whole units: their declarations in order, with the bodies of functions, what is used and never defined, and the
+//! first fault (C99 6.7, 6.9).
 #![tactic(auto)]
 
 mod externals;
-mod functions;
-mod objects;
 mod undefined;
 mod units;
-mod walk;
 
 pub use units::{UnitState, first_fault, judge};
-pub use walk::{UnitFunction, UnitSoFar};

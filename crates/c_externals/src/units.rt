@@ -6,9 +6,9 @@ ghost use Rattle.c_externals.specs.Units as spec;
 
 use crate::externals::externals;
 use crate::undefined::note_undefined;
-use crate::walk::UnitSoFar;
 use c_arithmetic::integer_type::IntegerType;
 use c_checks::{Env, Meaning, Notes, declare, note};
+use c_declarations::UnitSoFar;
 use c_declared_types::DeclaredType;
 use c_definitions::{Definitions, find_definitions, object_count};
 use c_judgements::leaves::copy_types;

@@ -10,8 +10,8 @@ use Rattle.c_type_faults.specs.Faults.{head}
 use Rattle.c_checks.specs.Checks.{append_part}
 use Rattle.c_globals.specs.declared.objects.UnitObject.{UnitObject}
 use Rattle.c_globals.specs.Globals.{globals}
-use Rattle.c_externals.specs.declared.walk.UnitFunction.{UnitFunction}
-use Rattle.c_externals.specs.declared.walk.UnitSoFar.{UnitSoFar}
+use Rattle.c_declarations.specs.declared.walk.UnitFunction.{UnitFunction}
+use Rattle.c_declarations.specs.declared.walk.UnitSoFar.{UnitSoFar}
 use Rattle.c_tag_bodies.specs.Bodies.{Scope}
 use Rattle.c_externals.specs.Units.{whole_unit, faults_of}
 use Rattle.c_types.specs.declared.faults.TypeFault.{TypeFault}

@@ -5,7 +5,8 @@ ghost use Rattle.c_types.specs.Units as spec;
 
 use crate::faults::TypeFault;
 use c_checks::{Notes, append_part};
-use c_externals::{UnitFunction, UnitSoFar, UnitState, judge};
+use c_declarations::{UnitFunction, UnitSoFar};
+use c_externals::{UnitState, judge};
 use c_globals::{UnitObject, lay_out_globals};
 use c_tree::{Seq, TranslationUnit};
 use c_type_faults::{Fault, least};

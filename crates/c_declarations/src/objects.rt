@@ -2,8 +2,8 @@
 
 ghost use Rattle.std.specs.Prelude.{◌≡◌, OnOk, Some};
 ghost use Rattle.c_checks.specs.Checks.{Finds};
-ghost use Rattle.c_externals.specs.Objects as spec;
-ghost use Rattle.c_externals.specs.Walk.{declare};
+ghost use Rattle.c_declarations.specs.Objects as spec;
+ghost use Rattle.c_declarations.specs.Walk.{declare};
 ghost use Rattle.c_initialisers.specs.Unfit.{judge_init, unfit};
 
 use crate::walk::{UnitSoFar, add_object, check_main, declare, keep_cells};
@@ -67,8 +67,8 @@ fn array_type(
     type_there(notes, at, made)
 }
 
-/// Judges what an initialiser is made of.
-pub(crate) fn judge_parts<'a>(
+/// Judges what an initialiser is made of, where what it initialises has a fault. It fails only where memory is short.
+pub fn judge_parts<'a>(
     alloc: Global,
     env: &mut Env<'a>,
     notes: &mut Notes<'a>,
@@ -131,8 +131,9 @@ fn fill<'a>(
     }
 }
 
-/// Declares an object whose declaration has a fault.
-pub(crate) fn declare_faulty<'a>(
+/// Declares an object whose type has a fault, and judges what its initialiser is made of. It fails only where memory is
+/// short.
+pub fn declare_faulty<'a>(
     alloc: Global,
     definitions: &Definitions<'_>,
     unit: &mut UnitSoFar<'a>,
@@ -209,8 +210,9 @@ fn declare_object<'a>(
     }
 }
 
-/// Declares an array without a length, which has that of its initialiser.
-pub(crate) fn declare_array<'a>(
+/// Declares an array without a length, which has that of its initialiser (C99 6.7.8); without one it is a fault. It
+/// fails only where memory is short.
+pub fn declare_array<'a>(
     alloc: Global,
     definitions: &Definitions<'_>,
     unit: &mut UnitSoFar<'a>,
@@ -260,8 +262,9 @@ pub(crate) fn declare_array<'a>(
     }
 }
 
-/// Declares an object of a type, which may be none of objects.
-pub(crate) fn declare_value<'a>(
+/// Declares an object of a type, and judges its initialiser; a type that no object may have is a fault (C99 6.7). It
+/// fails only where memory is short.
+pub fn declare_value<'a>(
     alloc: Global,
     definitions: &Definitions<'_>,
     unit: &mut UnitSoFar<'a>,

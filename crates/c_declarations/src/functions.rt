@@ -2,8 +2,8 @@
 
 ghost use Rattle.std.specs.Prelude.{◌≡◌, OnOk, true};
 ghost use Rattle.c_checks.specs.Checks.{Finds};
-ghost use Rattle.c_externals.specs.Functions as spec;
-ghost use Rattle.c_externals.specs.model.Parts as model;
+ghost use Rattle.c_declarations.specs.Functions as spec;
+ghost use Rattle.c_declarations.specs.model.Parts as model;
 ghost use Rattle.c_judgements.specs.Leaves as leaves;
 ghost use Rattle.c_type_faults.specs.declared.faults.Kind.TheVariants.{BadType};
 ghost use Rattle.c_type_rules.specs.Values as values;
@@ -22,15 +22,16 @@ use c_typed_tree::CType;
 use c_unit_names::NameDeclaration;
 use std::alloc::{AllocError, Global};
 
-pub(crate) fn no_type(notes: &mut Notes<'_>, at: u32) -> Result<Option<DeclaredType>, AllocError>
+fn no_type(notes: &mut Notes<'_>, at: u32) -> Result<Option<DeclaredType>, AllocError>
     ensures { Finds (leaves.no_type at BadType notes.old) result notes.new }
 {
     note(notes, at, Kind::BadType)?;
     Ok(None)
 }
 
-/// The type of a function, which may be none.
-pub(crate) fn function_type(
+/// The type of a function that is declared at the place `at`; `None` with the fault BadType where it is the type of no
+/// function, or too deep (C99 6.7.5.3). It fails only where memory is short.
+pub fn function_type(
     notes: &mut Notes<'_>,
     at: u32,
     ty: DeclaredType,
@@ -50,8 +51,9 @@ pub(crate) fn function_type(
     }
 }
 
-/// Declares a function of a type, if that has no fault.
-pub(crate) fn declare_function<'a>(
+/// Declares a function; with no `ty`, its type has a fault. `has_body` says whether it is defined here (C99 6.9.1).
+/// It fails only where memory is short.
+pub fn declare_function<'a>(
     alloc: Global,
     definitions: &Definitions<'_>,
     unit: &mut UnitSoFar<'a>,
@@ -100,8 +102,9 @@ fn refusal_of(init: &Init) -> Kind
     Kind::BadConversion
 }
 
-/// A function has no initialiser.
-pub(crate) fn refuse_value<'a>(
+/// Judges the initialiser of a function, which is a fault: a function has none (C99 6.7.8). It fails only where memory
+/// is short.
+pub fn refuse_value<'a>(
     alloc: Global,
     env: &mut Env<'a>,
     notes: &mut Notes<'a>,
@@ -113,7 +116,9 @@ pub(crate) fn refuse_value<'a>(
     refuse_init(alloc, env, notes, kind, init)
 }
 
-pub(crate) fn refuse_optional<'a>(
+/// Judges the initialiser of a function where there is one, as `refuse_value` does. It fails only where memory is
+/// short.
+pub fn refuse_optional<'a>(
     alloc: Global,
     env: &mut Env<'a>,
     notes: &mut Notes<'a>,
@@ -164,9 +169,10 @@ fn type_where(ty: DeclaredType, whole: bool) -> Option<DeclaredType>
     None
 }
 
-/// The type of a function that is defined: the declarator is its own, and each parameter has a name.
+/// The type of a function that is defined, with the fault BadType where the declarator is not its own or a parameter
+/// has no name (C99 6.9.1). It fails only where memory is short.
 #[tactic(auto, unfolding(crate::specs::model::Opens::opens))]
-pub(crate) fn defined_type(
+pub fn defined_type(
     notes: &mut Notes<'_>,
     at: u32,
     node: &TypeNode,
@@ -214,8 +220,8 @@ fn is_start(ty: &DeclaredType) -> bool
     }
 }
 
-/// Notes whether a function that is defined is `main`.
-pub(crate) fn see_main(unit: &mut UnitSoFar<'_>, name: &[u8], ty: &DeclaredType)
+/// Notes whether a function that is defined is `main`, of type `int (void)` (C99 5.1.2.2.1).
+pub fn see_main(unit: &mut UnitSoFar<'_>, name: &[u8], ty: &DeclaredType)
     ensures { unit.new ≡ spec.main_seen name.now ty.now unit.old }
 {
     let is_defined = is_main(name) && is_start(ty);

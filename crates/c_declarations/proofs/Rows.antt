@@ -7,9 +7,9 @@ use Rattle.c_tree.specs.declared.expressions.Expr.TheBlock as k
 use Rattle.c_declared_types.specs.declared.declared.DeclaredType.{DeclaredType}
 use Rattle.c_checks.specs.declared.notes.Notes.{Notes}
 use Rattle.c_checks.specs.Checks.{pure, and_then}
-use Rattle.c_externals.specs.Functions.{name_row, name_judged, type_where, defined_type}
-use Rattle.c_externals.specs.model.Opens.{opens}
-use Rattle.c_externals.specs.model.Parts.{names_judged}
+use Rattle.c_declarations.specs.Functions.{name_row, name_judged, type_where, defined_type}
+use Rattle.c_declarations.specs.model.Opens.{opens}
+use Rattle.c_declarations.specs.model.Parts.{names_judged}
 
 name_row_is : (m : Count) (xs : k.Row_of-Parameter m) (whole : Bool) (n : Notes) → name_row xs whole n ≡ names_judged (k.items-the_row-Parameter m xs) whole n
 unfolding name_row

@@ -14,7 +14,7 @@ use Rattle.c_tag_bodies.specs.Members.{is_member}
 use Rattle.c_unit_names.specs.declared.names.NameDeclaration.{NameDeclaration}
 use Rattle.c_initialisers.specs.Unfit.{judge_init}
 use Rattle.c_initialisers.specs.Initialisers.{object_cells, length_given}
-use Rattle.c_externals.specs.Walk.{Walk, in_notes, with_state, with_notes, declare, main_checked, with_object, fill}
+use Rattle.c_declarations.specs.Walk.{Walk, in_notes, with_state, with_notes, declare, main_checked, with_object, fill}
 
 -- ---- types: those of members, which are complete and neither too large nor too deep
 

@@ -16,8 +16,8 @@ use Rattle.c_checks.specs.Notes.{with_fault}
 use Rattle.c_judgements.specs.Types.{State, type_named}
 use Rattle.c_judgements.specs.Leaves.{no_type}
 use Rattle.c_unit_names.specs.declared.names.NameDeclaration.{NameDeclaration}
-use Rattle.c_externals.specs.declared.walk.UnitSoFar.{UnitSoFar}
-use Rattle.c_externals.specs.Walk.{Walk, with_notes, declare, is_main, main_checked}
+use Rattle.c_declarations.specs.declared.walk.UnitSoFar.{UnitSoFar}
+use Rattle.c_declarations.specs.Walk.{Walk, with_notes, declare, is_main, main_checked}
 use Rattle.c_initialisers.specs.Unfit.{unfit}
 
 -- ---- types

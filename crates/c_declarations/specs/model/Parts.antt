@@ -2,7 +2,7 @@
 use Rattle.std.specs.Prelude.{Bool, List, [], ◌∷◌}
 use Rattle.c_tree.specs.declared.types.Parameter.{Parameter}
 use Rattle.c_checks.specs.Checks.{Check, and_then}
-use Rattle.c_externals.specs.Functions.{name_judged}
+use Rattle.c_declarations.specs.Functions.{name_judged}
 
 abbrev pub names_judged : List Parameter → (whole : Bool) → Check Bool
 names_judged [] whole n = (whole, n)

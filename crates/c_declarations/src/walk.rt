@@ -1,8 +1,8 @@
-//! What is known behind some declarations.
+//! What is known of a unit behind some of its declarations.
 
 ghost use Rattle.std.specs.Prelude.{◌≡◌, OnOk};
 ghost use Rattle.std.specs.Option.{option_copied};
-ghost use Rattle.c_externals.specs.Walk as spec;
+ghost use Rattle.c_declarations.specs.Walk as spec;
 
 use c_checks::{Env, Meaning, Notes, meaning_of, note};
 use c_definitions::Definitions;
@@ -35,8 +35,9 @@ pub struct UnitSoFar<'a> {
     pub has_main: bool,
 }
 
-/// Declares a name, or says that its declaration has a fault.
-pub(crate) fn declare<'a>(
+/// Declares a name at file scope; with no `new`, its declaration has a fault. `at` is the place of the declarator, in
+/// bytes from the start of the text (C99 6.2.2, 6.7). It fails only where memory is short.
+pub fn declare<'a>(
     alloc: Global,
     definitions: &Definitions<'_>,
     unit: &mut UnitSoFar<'a>,
@@ -213,8 +214,9 @@ fn function_at(env: &Env<'_>, name: &[u8]) -> Option<u32>
     function_by(meaning_of(env, name))
 }
 
-/// Keeps the function that a body makes, if it has no fault.
-pub(crate) fn keep_function(
+/// Keeps the function that a body makes under the number of its name, if it has no fault (C99 6.9.1). It fails only
+/// where memory is short.
+pub fn keep_function(
     unit: &mut UnitSoFar<'_>,
     env: &Env<'_>,
     name: &[u8],

@@ -23,7 +23,7 @@ use Rattle.c_judgements.specs.Types.{State}
 use Rattle.c_unit_names.specs.declared.names.NameDeclaration.{NameDeclaration}
 use Rattle.c_unit_names.specs.declared.names.UnitNames.{UnitNames}
 use Rattle.c_unit_names.specs.UnitNames.{declaration}
-use Rattle.c_externals.specs.declared.walk.UnitSoFar.{UnitSoFar}
+use Rattle.c_declarations.specs.declared.walk.UnitSoFar.{UnitSoFar}
 
 abbrev pub Walk : Type 0
 Walk = UnitSoFar × State

@@ -1,5 +1,5 @@
-use Rattle.c_externals.proofs.Rows.{takes_done}
-use Rattle.c_externals.proofs.functions.defined_type.Goals as goal
+use Rattle.c_declarations.proofs.Rows.{takes_done}
+use Rattle.c_declarations.proofs.functions.defined_type.Goals as goal
 
 pub returns-in_ok-whole-in-Takes : goal.returns-in_ok-whole-in-Takes
 returns-in_ok-whole-in-Takes c =

@@ -1,0 +1,4 @@
+pub mod Walk
+pub mod Objects
+pub mod Functions
+pub mod model
