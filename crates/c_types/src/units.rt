@@ -1,6 +1,8 @@
 //! Whole units.
 
-ghost use Rattle.std.specs.Prelude.{◌≡◌, IfOk, IfErr, Some, None, [], replicate, slice_set};
+ghost use Rattle.std.specs.Prelude.{◌≡◌, All, IfOk, IfErr, IfSome, Some, None, [], replicate, slice_set};
+ghost use Rattle.c_typed_tree.specs.Lawful.{IsLawful};
+ghost use Rattle.unit_checks.specs.Bodies.{HasBlock};
 ghost use Rattle.c_types.specs.Units as spec;
 
 use crate::faults::TypeFault;
@@ -12,6 +14,7 @@ use c_tree::{Seq, TranslationUnit};
 use c_type_faults::{Fault, least};
 use c_typed_tree::{StructDef, TypedFn, TypedUnit};
 use std::alloc::{AllocError, Global};
+use unit_checks::is_lawful;
 
 /// A place for each function, without a tree.
 fn no_trees(alloc: Global, count: u32) -> Result<Vec<Option<TypedFn>>, AllocError>
@@ -71,7 +74,49 @@ fn functions_in(
     whole_functions(alloc, places)
 }
 
-/// The typed unit. A function without a tree is refused as want of memory.
+/// A unit, if it is lawful.
+fn lawful_unit(alloc: Global, unit: TypedUnit) -> Result<Option<TypedUnit>, AllocError>
+    ensures same { IfOk result (λ r. IfSome r (λ u. unit ≡ u)) }
+    ensures lawful { IfOk result (λ r. IfSome r IsLawful) }
+    ensures blocks { IfOk result (λ r. IfSome r (λ u. All HasBlock u.functions)) }
+{
+    if is_lawful(alloc, &unit)? {
+        return Ok(Some(unit));
+    }
+    Ok(None)
+}
+
+/// The typed unit, if each function has its tree and the unit is lawful.
+fn whole_unit(
+    alloc: Global,
+    structs: Seq<StructDef>,
+    objects: Seq<UnitObject>,
+    texts: Seq<Seq<u8>>,
+    count: u32,
+    functions: Seq<UnitFunction>,
+) -> Result<Option<TypedUnit>, AllocError>
+    ensures unit { IfOk result (λ r. IfSome r (λ u. spec.unit_with structs objects texts count functions ≡ Some u)) }
+    ensures lawful { IfOk result (λ r. IfSome r IsLawful) }
+    ensures blocks { IfOk result (λ r. IfSome r (λ u. All HasBlock u.functions)) }
+{
+    match functions_in(alloc, count, functions)? {
+        None => Ok(None),
+        Some(functions) => {
+            let globals = lay_out_globals(alloc, structs.as_slice(), objects, texts.as_slice())?;
+            lawful_unit(
+                alloc,
+                TypedUnit {
+                    structs,
+                    globals,
+                    functions,
+                },
+            )
+        }
+    }
+}
+
+/// The typed unit. One that has a function without a tree, or is not lawful, is refused as want of memory: a unit
+/// without a fault is none of these.
 fn make_unit(
     alloc: Global,
     structs: Seq<StructDef>,
@@ -80,22 +125,17 @@ fn make_unit(
     count: u32,
     functions: Seq<UnitFunction>,
 ) -> Result<TypedUnit, AllocError>
-    ensures { IfOk result (λ r. spec.unit_with structs objects texts count functions ≡ Some r) }
+    ensures unit { IfOk result (λ r. spec.unit_with structs objects texts count functions ≡ Some r) }
+    ensures lawful { IfOk result IsLawful }
+    ensures blocks { IfOk result (λ u. All HasBlock u.functions) }
 {
-    match functions_in(alloc, count, functions)? {
+    match whole_unit(alloc, structs, objects, texts, count, functions)? {
         None => Err(AllocError),
-        Some(functions) => {
-            let globals = lay_out_globals(alloc, structs.as_slice(), objects, texts.as_slice())?;
-            Ok(TypedUnit {
-                structs,
-                globals,
-                functions,
-            })
-        }
+        Some(unit) => Ok(unit),
     }
 }
 
-/// The typed tree of a unit.
+/// The typed tree of a unit, which is lawful, with a block as the body of each function.
 ///
 /// # Errors
 ///
@@ -103,6 +143,8 @@ fn make_unit(
 /// number of its kind; and [`TypeFault::NoMemory`].
 pub fn check(alloc: Global, unit: &TranslationUnit) -> Result<TypedUnit, TypeFault>
     ensures typed { IfOk result (spec.IsTyped unit.now) }
+    ensures lawful { IfOk result IsLawful }
+    ensures blocks { IfOk result (λ u. All HasBlock u.functions) }
     ensures fault { IfErr result (spec.IsFaulty unit.now) }
 {
     let UnitState { so_far, notes, .. } = judge(alloc, unit)?;
