@@ -3,15 +3,10 @@
 //! The form of the files is described in `docs/rows.md`, and that of each kind of row at the head of its file.
 #![tactic(auto)]
 
-mod insns;
 mod kind;
-mod machine;
 mod needs;
-mod operation;
 mod placements;
-mod reader;
 mod runs;
-mod words;
 
 use crate::kind::KINDS;
 use anyhow::Result;

@@ -1,9 +1,9 @@
 //! That no block of a function needs a slot.
 
-use crate::reader::Reader;
 use alloc_rules::scan::no_needs;
 use anyhow::Result;
 use std::alloc::Global;
+use temp_texts::reader::Reader;
 
 /// A line for each block, with the least temporary in need of it, if there is one.
 pub fn answer(alloc: Global, given: &str) -> Result<Vec<u8>> {

@@ -1,6 +1,5 @@
 //! Where `plain` puts the temporaries of functions.
 
-use crate::reader::Reader;
 use alloc_lines::alloc_text;
 use alloc_model::allocation::Allocation;
 use alloc_plain::plain;
@@ -9,6 +8,7 @@ use std::alloc::Global;
 use suifvm_ir::function::Func;
 use temp_checks::is_settled;
 use temp_ir::insn::TempInsn;
+use temp_texts::reader::Reader;
 
 /// The plainest allocation of a function.
 pub fn plain_of(alloc: Global, f: &Func<TempInsn>) -> Result<Allocation> {

@@ -1,13 +1,13 @@
 //! Runs of programs over temporaries, in the slots of `plain`, and where the row puts them.
 
-use crate::machine::Machine;
 use crate::placements::plain_of;
-use crate::reader::{Placement, Reader, allocation};
 use alloc_model::allocation::Allocation;
 use anyhow::{Result, ensure};
 use row_sheets::escape::unescape;
 use row_sheets::number::number;
 use std::alloc::Global;
+use temp_machine::machine::Machine;
+use temp_texts::reader::{Placement, Reader, allocation};
 
 /// What a row says of a run besides its program.
 #[derive(Drop)]
@@ -42,7 +42,14 @@ fn put_run(
     given: &str,
 ) -> Result<()> {
     let outside = outside_of(alloc, given)?;
-    let mut machine = Machine::new(alloc, functions, is_placed, outside.input, outside.turns);
+    let mut machine = Machine::new(
+        alloc,
+        functions,
+        &[],
+        is_placed,
+        outside.input,
+        outside.turns,
+    )?;
     let ending = machine.run()?;
     let line = format!(in alloc; "{name} {ending:?}")?;
     shown.extend_from_slice(line.as_bytes())?;

@@ -52,6 +52,12 @@ pub fn extend(word: &str) -> Option<ExtendOp> {
 /// An operation on two words, if it is one that the rows have.
 pub fn operation(word: &str) -> Option<Operation> {
     match word {
+        "addl" => Some(Operation::Addl),
+        "subl" => Some(Operation::Subl),
+        "mull" => Some(Operation::Mull),
+        "addl/v" => Some(Operation::AddlV),
+        "subl/v" => Some(Operation::SublV),
+        "mull/v" => Some(Operation::MullV),
         "addq" => Some(Operation::Addq),
         "subq" => Some(Operation::Subq),
         "mulq" => Some(Operation::Mulq),
@@ -66,6 +72,11 @@ pub fn operation(word: &str) -> Option<Operation> {
         "and" => Some(Operation::And),
         "bic" => Some(Operation::Bic),
         "bis" => Some(Operation::Bis),
+        "ornot" => Some(Operation::Ornot),
+        "zapnot" => Some(Operation::Zapnot),
+        "srl" => Some(Operation::Srl),
+        "sll" => Some(Operation::Sll),
+        "sra" => Some(Operation::Sra),
         "xor" => Some(Operation::Xor),
         _ => None,
     }
