@@ -4,7 +4,10 @@ usage: bench/made_text.py KIND FILE
 
 The kinds: `ordinary` (declarations and functions with names, numbers, literals, comments, linemarkers and marks),
 `operators` (one chain of operators), `commas` (one list of commas), `statements` (one block of statements),
-`brackets` (an expression in 250 brackets, again and again) and `typedefs` (names of types, and an object of each).
+`brackets` (an expression in 250 brackets, again and again), `typedefs` (names of types, and an object of each), and units
+without faults for the typing: `unit` (the ordinary functions and a main), `names` (100,000 locals of one scope, each used),
+`objects` (100,000 objects of file scope, each used), `scopes` (100,000 blocks with a local each), `members` (a struct of
+100,000 members, each used), `items` (an initialiser of a million items) and `cases` (a switch of 100,000 labels).
 """
 import itertools
 import sys
@@ -47,6 +50,33 @@ def ordinary():
     return '# 1 "made.c"\n', (function(number, draw) for number in itertools.count()), ""
 
 
+MANY = 100000
+
+
+def unit():
+    draw = draws()
+    return '# 1 "made.c"\n', (function(number, draw) for number in itertools.count()), "int main(void) { return f0(1, 2, 3); }\n"
+
+
+def numbered(line):
+    """The line for each number below 100,000, with the number in place of each `#`."""
+    return (line.replace("#", str(k)) for k in range(MANY))
+
+
+def names():
+    return "int main(void) {", itertools.chain(numbered("int a#;"), numbered("a#=1;")), "return 0; }\n"
+
+
+def objects():
+    return "", itertools.chain(numbered("int g#;"), ["int main(void) {"], numbered("g#=1;")), "return 0; }\n"
+
+
+def members():
+    front = "struct s {"
+    parts = itertools.chain(numbered("int m#;"), ["};int main(void) {struct s x;"], numbered("x.m#=1;"))
+    return front, parts, "return 0; }\n"
+
+
 KINDS = {
     "ordinary": ordinary,
     "operators": lambda: ("int main(void) { return 1", itertools.repeat(" + 1"), "; }\n"),
@@ -54,6 +84,13 @@ KINDS = {
     "statements": lambda: ("int main(void) {\n", itertools.repeat("    ;\n    1;\n"), "}\n"),
     "brackets": lambda: ("int main(void) {\n", itertools.repeat("(" * 250 + "1" + ")" * 250 + ";\n"), "}\n"),
     "typedefs": lambda: ("", ("typedef int t%d; t%d v%d;\n" % (n, n, n) for n in itertools.count()), ""),
+    "unit": unit,
+    "names": names,
+    "objects": objects,
+    "scopes": lambda: ("int main(void) {", numbered("{int a#;a#=1;}"), "return 0; }\n"),
+    "members": members,
+    "items": lambda: ("int a[] = {", itertools.repeat("1,", 1000000), "};int main(void) {return a[1];}\n"),
+    "cases": lambda: ("int main(void) {switch(1) {", numbered("case #:break;"), "}return 0;}\n"),
 }
 
 
