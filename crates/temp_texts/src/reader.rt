@@ -7,7 +7,7 @@ use c_tree::{Name, Seq};
 use function_checks::{Parts, function_of};
 use row_sheets::number::{number, numbers};
 use std::alloc::{AllocError, Global};
-use suifvm_ir::function::Func;
+use suifvm_ir::function::{Func, Object};
 use temp_ir::insn::TempInsn;
 use temp_ir::text_parts::put_insn;
 
@@ -223,6 +223,20 @@ impl Reader {
         Ok(())
     }
 
+    /// Reads the sizes of memory locals, which begin at multiples of 8.
+    fn take_objects(&mut self, rest: &str) -> Result<()> {
+        let alloc = self.alloc;
+        let sizes = numbers(alloc, rest)?;
+        let parts = self.parts()?;
+        for size in &sizes {
+            parts.objects.push(Object {
+                size: *size,
+                align: 8,
+            })?;
+        }
+        Ok(())
+    }
+
     /// Reads a line.
     fn take(&mut self, line: &str) -> Result<()> {
         let alloc = self.alloc;
@@ -245,7 +259,8 @@ impl Reader {
                 self.parts()?.registers = small(rest)?;
                 Ok(())
             }
-            "input" | "turns" => Ok(()),
+            "objects" => self.take_objects(rest),
+            "input" | "turns" | "stack" | "globals" => Ok(()),
             _ => {
                 let _number = number(word)?;
                 self.take_insn(rest)
