@@ -57,7 +57,7 @@ moves f ty v w (inr t) held rel set = subst (λ z. vm.unary_answer Move (registe
     is_set Unset r s = absurd (cc)
 
 -- a value that a register holds is read as it is
-read_as : (ty : PlainType) (v : Value) (s : State) (K : Value → State → Observation) → IsScalarType ty → IsHeld ty v → vm.is_set v ≡ true → finish (as_held ty v s) K ≡ K v s
+pub read_as : (ty : PlainType) (v : Value) (s : State) (K : Value → State → Observation) → IsScalarType ty → IsHeld ty v → vm.is_set v ≡ true → finish (as_held ty v s) K ≡ K v s
 unfolding opens
 read_as ty v s K (inl t) held set = subst (λ z. finish (as_held z v s) K ≡ K v s) (sym t.1) (words v (subst (λ z. IsHeld z v) t.1 held) set)
   where

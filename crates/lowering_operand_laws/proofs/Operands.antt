@@ -58,7 +58,7 @@ zero_word i.UnsignedInt = refl
 zero_word i.Long = refl
 zero_word i.UnsignedLong = refl
 
-promoted_again : (t : IntegerType) → promote (promote t) ≡ promote t
+pub promoted_again : (t : IntegerType) → promote (promote t) ≡ promote t
 promoted_again i.Char = refl
 promoted_again i.UnsignedChar = refl
 promoted_again i.Short = refl
