@@ -1,0 +1,90 @@
+//! Runs of C programs, lowered to programs over virtual registers.
+
+use anyhow::{Result, bail, ensure};
+use bk_io::memory::{MemSink, MemSource};
+use c_lexer::TEXT_LIMIT;
+use c_parser::parse;
+use c_typed_tree::TypedUnit;
+use c_types::check;
+use c_weight::weight;
+use lowering::lower;
+use row_sheets::escape::unescape;
+use row_sheets::number::number;
+use std::alloc::Global;
+use suifvm_ir::program::VmProgram;
+use suifvm_run::{VmEnding, run_vm};
+
+/// The most bytes that a run may write.
+const ROOM: u64 = 65_536;
+
+/// What a row says.
+#[derive(Drop)]
+struct Row {
+    text: Vec<u8>,
+    input: Vec<u8>,
+    turns: u64,
+}
+
+/// The parts of a row. The lines that are neither the input nor the turns are the text of the program.
+fn parts_of(alloc: Global, given: &str) -> Result<Row> {
+    let mut row = Row {
+        text: Vec::new(alloc),
+        input: Vec::new(alloc),
+        turns: 0,
+    };
+    for line in given.lines() {
+        let (word, rest) = line.split_once(' ').unwrap_or((line, ""));
+        match word {
+            "input" => row.input = unescape(alloc, rest)?,
+            "turns" => row.turns = number(rest)?,
+            _ => {
+                row.text.extend_from_slice(line.as_bytes())?;
+                row.text.push(b'\n')?;
+            }
+        }
+    }
+    Ok(row)
+}
+
+/// The typed unit of a text.
+fn typed(alloc: Global, text: &[u8]) -> Result<TypedUnit> {
+    ensure!(text.len() <= TEXT_LIMIT, "a text that is too long");
+    match parse(alloc, text) {
+        Err(_fault) => bail!("a text that has no tree"),
+        Ok(unit) => match check(alloc, &unit) {
+            Err(fault) => bail!("a unit that is not well typed: {fault:?}"),
+            Ok(typed) => Ok(typed),
+        },
+    }
+}
+
+/// The program of a unit.
+fn lowered(alloc: Global, unit: &TypedUnit) -> Result<VmProgram> {
+    ensure!(weight(unit) <= 131_072, "a unit that is too heavy");
+    Ok(lower(alloc, unit)?)
+}
+
+/// How a run ended. Where it was undefined, the number of the instruction is no part of it.
+fn ending(alloc: Global, ending: VmEnding) -> Result<Vec<u8>> {
+    let shown = match ending {
+        VmEnding::Undefined { .. } => "Undefined\n".to_string(alloc)?,
+        _ => format!(in alloc; "{ending:?}\n")?,
+    };
+    Ok(shown.into_bytes())
+}
+
+/// How the program of a row runs.
+pub fn answer(alloc: Global, given: &str) -> Result<Vec<u8>> {
+    let Row { text, input, turns } = parts_of(alloc, given)?;
+    let unit = typed(alloc, text.as_slice())?;
+    let program = lowered(alloc, &unit)?;
+    let mut input = MemSource::new(input, Vec::new(alloc));
+    let mut out = MemSink::new(alloc, ROOM, Vec::new(alloc))?;
+    let mut shown = ending(alloc, run_vm(alloc, &program, &mut input, &mut out, turns))?;
+    if !out.taken().is_empty() {
+        shown.extend_from_slice(b"out ")?;
+        shown.extend_from_slice(out.taken())?;
+        shown.push(b'\n')?;
+    }
+    Ok(shown)
+}
