@@ -1,2 +1,3 @@
 pub mod Combine
+pub mod Memory
 pub mod Registers

@@ -115,12 +115,12 @@ module _ (c : Setting) (found : slice_get c.functions c.number ≡ Some c.code) 
   L = count c
 
   -- the types of integers are those of their plain types
-  combines : (op : BinaryOp) (left right : IntegerType) (v w : Value) → combine c.structs op (plain_of left) (plain_of right) v w ≡ combined_in op (operation_type op left right) left right v w
+  pub combines : (op : BinaryOp) (left right : IntegerType) (v w : Value) → combine c.structs op (plain_of left) (plain_of right) v w ≡ combined_in op (operation_type op left right) left right v w
   combines op left right v w =
       ap (λ z. combined_in op (operation_type op z (obj.integer_of (plain_of right))) z (obj.integer_of (plain_of right)) v w) (integer_of-plain left)
       ∙ ap (λ z. combined_in op (operation_type op left z) left z v w) (integer_of-plain right)
 
-  combine_is : (op : BinaryOp) (left right : IntegerType) (o d free : ℕ) (rest : List CodeItem) → combine_code L c.structs op o d free (plain_of left) (plain_of right) rest ≡ combine_in L op (operation_type op left right) o d (plain_of left) (plain_of right) rest
+  pub combine_is : (op : BinaryOp) (left right : IntegerType) (o d free : ℕ) (rest : List CodeItem) → combine_code L c.structs op o d free (plain_of left) (plain_of right) rest ≡ combine_in L op (operation_type op left right) o d (plain_of left) (plain_of right) rest
   combine_is op left right o d free rest =
       ap (λ z. combine_in L op (operation_type op z (obj.integer_of (plain_of right))) o d (plain_of left) (plain_of right) rest) (integer_of-plain left)
       ∙ ap (λ z. combine_in L op (operation_type op left z) o d (plain_of left) (plain_of right) rest) (integer_of-plain right)

@@ -90,6 +90,17 @@ loaded_held m q v target e =
     by_row (IsNull cells is) = subst (λ z. IsHeld (Pointer target) z) (sym is) refl
     by_row (IsParts a cells is) = subst (λ z. IsHeld (Pointer target) z) (sym is) tt
 
+-- a type of integers has bytes
+some : (t : IntegerType) → 0 < bytes t
+some i.Char = omega arith
+some i.UnsignedChar = omega arith
+some i.Short = omega arith
+some i.UnsignedShort = omega arith
+some i.Int = omega arith
+some i.UnsignedInt = omega arith
+some i.Long = omega arith
+some i.UnsignedLong = omega arith
+
 module _ (c : Setting) (found : slice_get c.functions c.number ≡ Some c.code) where
   abbrev L : ℕ
   L = count c
@@ -121,42 +132,41 @@ module _ (c : Setting) (found : slice_get c.functions c.number ≡ Some c.code) 
       (next (next_place (next_place q)) r2 (at_plain c.code.blocks c.last c.end _ at2) (fits_temporary d P64 x.0 fit1)
       (kept_temporary d P64 x.0 (omega arith) (kept_temporary d S64 (Word (suc k)) (omega arith) kept)) (value_at g at x.0 r1 addr x.2)))
 
+  -- an integer is loaded to a register from where a pointer in another register leads
+  pub loads_lead : (t0 : IntegerType) (to pointer left : ℕ) (rest : List CodeItem) (heads : List ℕ) (g : Names) (scope : Scope) (t : State) (m1 : Memory) (K : Value → State → Observation) (q : Place) (q1 : Registers) (base at : Value) → Fit c g scope q1 t m1
+      → IsValueOf g base (q1 pointer) → IsMoved t.world.outer.memory base left at → Stands c heads q (load_from (plain_of t0) to pointer left rest)
+      → ((k : ℕ) → is_word t0 k ≡ true → Stands c heads (next_place q) rest → EndsSo c (K (Word k) t) (next_place q) (set_register to (Word k) q1) t.world m1) → EndsSo c (finish (read_at (plain_of t0) at t) K) q q1 t.world m1
+  unfolding opens
+  loads_lead t0 to pointer left rest heads g scope t m1 K q q1 base (Word k) fit rel moved stands next = meets_anything c.rooms c.functions refl
+  loads_lead t0 to pointer left rest heads g scope t m1 K q q1 base Unset fit rel moved stands next = meets_anything c.rooms c.functions refl
+  loads_lead t0 to pointer left rest heads g scope t m1 K q q1 base (Address a) fit rel moved stands next =
+      let I = objects.integer_of (plain_of t0) in
+      let mt = memory_type (plain_of t0) in
+      let o2 = outer_with_memory t.world.outer m1 in
+      bound c found (access (load_at t.world.outer.memory a (bytes t0) false) t) (as_integer I) K q q1 t.world m1
+      (access_meets c.rooms c.functions (load_at t.world.outer.memory a (bytes t0) false) t (λ v u1. finish (as_integer I v u1) K) _ (λ v ev.
+      bound c found (number v t) (λ k. pure (Word (extension I k))) K q q1 t.world m1
+      (number_meets c.rooms c.functions v t (λ k u1. K (Word (extension I k)) u1) _ (λ k vk.
+      let same = memory-plain t0 in
+      let got = (memories_correspond g t.world.outer.memory m1 fit.memory).1.loads mt base (q1 pointer) left a v rel moved
+      (subst (λ z. 0 < vm.access_bytes z) (sym same) (some t0)) (subst (λ z. load_at t.world.outer.memory a (vm.access_bytes z) (vm.is_pointer_access z) ≡ Ok v) (sym same) ev) in
+      let x_is : got.0 ≡ Word k = subst (λ z. IsValueOf g z got.0) vk got.2 in
+      let gives : load_result mt got.0 ≡ Word (extension t0 k) = ap (λ z. vm.extended_value z got.0) same ∙ ap (vm.extended_value (Some t0)) x_is in
+      let w = Word (extension t0 k) in
+      meets_same c.rooms c.functions (ap (λ z. K (Word (extension z k)) t) (integer_of-plain t0))
+      (insn_on c found (n.Load mt to pointer (pos left)) q q1 t.world m1 (w ∷ []) stands.has.0 refl (ap (λ z. writes z o2) got.1 ∙ ap (λ z. writes (Gives z) o2) gives)
+      (next (extension t0 k) (is_word-extension t0 k) (at_plain c.code.blocks c.last c.end _ stands)))))))
+
   module _ (d left : ℕ) (rest : List CodeItem) (heads : List ℕ) (f : Names) (scope : Scope) (r : Registers) (s : State) (m : Memory) (K : Value → State → Observation) (q : Place) (base at : Value) (g : Names) (t : State) (q1 : Registers) (m1 : Memory)
       (aft : Aft c f s m g t m1) (fit : Fit c g scope q1 t m1) (kept : KeepsLower L d r q1) (held : IsHeld (Pointer Void) at) (rel : IsValueOf g base (q1 (address_register L d))) (le : left ≤ MOST_DATA) (moved : IsMoved t.world.outer.memory base left at) where
     integer_load : (t0 : IntegerType) (at0 : Value) → at ≡ at0 → Follows c d (plain_of t0) heads rest f scope r s m K → Stands c heads q (load_from (plain_of t0) (value_register L d (plain_of t0)) (address_register L d) left rest)
         → EndsSo c (finish (read_at (plain_of t0) at0 t) K) q q1 t.world m1
-    unfolding opens
-    integer_load t0 (Word k) is next stands = meets_anything c.rooms c.functions refl
-    integer_load t0 Unset is next stands = meets_anything c.rooms c.functions refl
-    integer_load t0 (Address a) is next stands =
-        let I = objects.integer_of (plain_of t0) in
-        let mt = memory_type (plain_of t0) in
-        let reg = value_register L d (plain_of t0) in
-        let o2 = outer_with_memory t.world.outer m1 in
-        bound c found (access (load_at t.world.outer.memory a (bytes t0) false) t) (as_integer I) K q q1 t.world m1
-        (access_meets c.rooms c.functions (load_at t.world.outer.memory a (bytes t0) false) t (λ v u. finish (as_integer I v u) K) _ (λ v ev.
-        bound c found (number v t) (λ k. pure (Word (extension I k))) K q q1 t.world m1
-        (number_meets c.rooms c.functions v t (λ k u. K (Word (extension I k)) u) _ (λ k vk.
-        let same = memory-plain t0 in
-        let got = (memories_correspond g t.world.outer.memory m1 fit.memory).1.loads mt base (q1 (address_register L d)) left a v rel (subst (λ z. IsMoved t.world.outer.memory base left z) is moved)
-        (subst (λ z. 0 < vm.access_bytes z) (sym same) (some t0)) (subst (λ z. load_at t.world.outer.memory a (vm.access_bytes z) (vm.is_pointer_access z) ≡ Ok v) (sym same) ev) in
-        let x_is : got.0 ≡ Word k = subst (λ z. IsValueOf g z got.0) vk got.2 in
-        let gives : load_result mt got.0 ≡ Word (extension t0 k) = ap (λ z. vm.extended_value z got.0) same ∙ ap (vm.extended_value (Some t0)) x_is in
-        let w = Word (extension t0 k) in
-        meets_same c.rooms c.functions (ap (λ z. K (Word (extension z k)) t) (integer_of-plain t0))
-        (insn_on c found (n.Load mt reg (address_register L d) (pos left)) q q1 t.world m1 (w ∷ []) stands.has.0 refl (ap (λ z. writes z o2) got.1 ∙ ap (λ z. writes (Gives z) o2) gives)
-        (next (next_place q) w g t (set_register reg w q1) m1 (at_plain c.code.blocks c.last c.end _ stands) aft (fits_temporary d (register_type (plain_of t0)) w fit)
-        (kept_temporary d (register_type (plain_of t0)) w (omega arith) kept) (held_word t0 (extension t0 k) (is_word-extension t0 k)) (value_at g w w q1 reg refl)))))))
-      where
-        some : (t0 : IntegerType) → 0 < bytes t0
-        some i.Char = omega arith
-        some i.UnsignedChar = omega arith
-        some i.Short = omega arith
-        some i.UnsignedShort = omega arith
-        some i.Int = omega arith
-        some i.UnsignedInt = omega arith
-        some i.Long = omega arith
-        some i.UnsignedLong = omega arith
+    integer_load t0 at0 is next stands =
+        let reg : ℕ = value_register L d (plain_of t0) in
+        loads_lead t0 reg (address_register L d) left rest heads g scope t m1 K q q1 base at0 fit rel (subst (λ z. IsMoved t.world.outer.memory base left z) is moved) stands
+        (λ k one stands2.
+        next (next_place q) (Word k) g t (set_register reg (Word k) q1) m1 stands2 aft (fits_temporary d (register_type (plain_of t0)) (Word k) fit)
+        (kept_temporary d (register_type (plain_of t0)) (Word k) (omega arith) kept) (held_word t0 k one) (value_at g (Word k) (Word k) q1 reg refl))
 
     pointer_load : (target : PlainType) (at0 : Value) → at ≡ at0 → Follows c d (Pointer target) heads rest f scope r s m K → Stands c heads q (load_from (Pointer target) (value_register L d (Pointer target)) (address_register L d) left rest)
         → EndsSo c (finish (read_at (Pointer target) at0 t) K) q q1 t.world m1
