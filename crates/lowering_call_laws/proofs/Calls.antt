@@ -1,5 +1,5 @@
 -- The code of calls of functions: the arguments from left to right, and the call.
-use Rattle.std.proofs.Common.{◌≡◌, ℕ, suc, ◌≤◌, List, [], ◌∷◌, true, ◌&&◌, Some, map, refl, sym, ap, ◌∙◌, subst, arith, inl, inr}
+use Rattle.std.proofs.Common.{◌≡◌, ℕ, suc, ◌≤◌, List, [], ◌∷◌, true, ◌&&◌, Option, Some, None, map, refl, sym, ap, ◌∙◌, subst, arith, inl, inr}
 use Rattle.std.specs.Prelude.{if◌then◌else◌, slice_get}
 use Rattle.std.specs.List.{list_all}
 use Rattle.mem_model.specs.declared.value.Value.{Value}
@@ -12,7 +12,7 @@ use Rattle.mem_model.proofs.RelatedRows.{values_stay}
 use Rattle.machine_model.specs.Code as machine
 use Rattle.c_arithmetic.specs.Words.{extension}
 use Rattle.c_typed_tree.specs.declared.expressions.Callee.TheVariants.{Function}
-use Rattle.c_typed_tree.specs.Types.{PlainType, Pointer}
+use Rattle.c_typed_tree.specs.Types.{PlainType, Void, Pointer}
 use Rattle.c_typed_tree.specs.Expressions.{Call, Exprs, no_exprs, more_exprs, type_of}
 use Rattle.c_semantics.specs.Reasons.{UsesNoValue}
 use Rattle.c_semantics.specs.Runs.{State, Run, and_then, use_value, pure, turn}
@@ -23,7 +23,8 @@ use Rattle.suifvm_ir.specs.declared.insn.Callee.TheVariants as vk
 use Rattle.suifvm_ir.specs.declared.insn.VmInsn.{VmInsn}
 use Rattle.suifvm_ir.specs.declared.insn.VmInsn.TheVariants as n
 use Rattle.vm_meaning.specs.Operations as vm
-use Rattle.vm_meaning.specs.Behave.{Registers, set_register, first_or_unset}
+use Rattle.suifvm_ir.specs.Insns.{writes_of}
+use Rattle.vm_meaning.specs.Behave.{Registers, set_register, set_registers, first_or_unset}
 use Rattle.lowering_code.specs.declared.item.CodeItem.{CodeItem}
 use Rattle.lowering_code.specs.declared.item.CodeItem.TheVariants.{Plain}
 use Rattle.lowering_code.specs.Registers.{register_type, value_register}
@@ -35,10 +36,10 @@ use Rattle.lowering_states.proofs.Steps.{meets_same, used_meets, turn_meets, tur
 use Rattle.lowering_states.proofs.States.{kept_all, kept_on, kept_temporary, kept_reads, is_in, is_at, after_same, after_on, fits_temporary, fits_after}
 use Rattle.lowering_values.proofs.Integers.{integer_of-plain, word_is}
 use Rattle.lowering_expression_places.proofs.Behind.{at_plain}
-use Rattle.lowering_expression_laws.specs.Parts.{Setting, count, EndsSo, Stands, Fit, Aft, Follows, ExprMeets}
+use Rattle.lowering_expression_laws.specs.Parts.{Setting, count, EndsSo, Stands, Fit, Aft, ExprMeets}
 use Rattle.lowering_expression_laws.specs.Laws.{IsScalarType}
 use Rattle.lowering_expression_laws.proofs.Forms.{word_held, bound}
-use Rattle.lowering_call_laws.specs.Laws.{AreArguments, ArgumentsMeet, FunctionMeets, CallsMeet}
+use Rattle.lowering_call_laws.specs.Laws.{CallsWithoutResultsMeet, AreArguments, ArgumentsMeet, FunctionMeets, CallsMeet}
 
 scalar_in : (f : Names) (ty : PlainType) (v w : Value) → IsScalarType ty → IsIn f ty v w → IsValueOf f v w
 scalar_in f ty v w (inl t) h = subst (λ z. IsIn f z v w) t.1 h
@@ -109,17 +110,18 @@ module _ (c : Setting) (found : slice_get c.functions c.number ≡ Some c.code) 
 
   -- ---- calls
 
-  module _ (ty : PlainType) (k : ℕ) (xs : Exprs) (scalar : IsScalarType ty) (callee : FunctionMeets c k ty) where
+  module _ (ty : PlainType) (k : ℕ) (xs : Exprs) (callee : FunctionMeets c k ty) where
     -- once the arguments stand in registers
-    call_leads : (d : ℕ) (rest : List CodeItem) (heads : List ℕ) (f : Names) (scope : Scope) (r : Registers) (s : State) (m : Memory) (K : Value → State → Observation) → Follows c d ty heads rest f scope r s m K
-        → (q : Place) (vs : List Value) (g : Names) (t : State) (q1 : Registers) (m1 : Memory) → Stands c heads q (Plain (n.Call (Some (value_register L d ty)) (vk.Function k) (argument_registers L c.structs c.locals d xs)) ∷ rest)
-        → Aft c f s m g t m1 → Fit c g scope q1 t m1 → KeepsLower L d r q1 → AreArguments g vs (map q1 (argument_registers L c.structs c.locals d xs)) → t.world.meter.turns ≤ c.level
+    call_leads : (destination : Option ℕ) (d : ℕ) (rest : List CodeItem) (heads : List ℕ) (scope : Scope) (K : Value → State → Observation)
+        (q : Place) (vs : List Value) (g : Names) (t : State) (q1 : Registers) (m1 : Memory) → Stands c heads q (Plain (n.Call destination (vk.Function k) (argument_registers L c.structs c.locals d xs)) ∷ rest)
+        → Fit c g scope q1 t m1 → AreArguments g vs (map q1 (argument_registers L c.structs c.locals d xs)) → t.world.meter.turns ≤ c.level
+        → ((v : Value) (us : List Value) (h : Names) (t2 : State) (n1 : Memory) → Stands c heads (next_place q) rest → IsHeld ty v → IsValueOf h v (first_or_unset us) → Aft c g t m1 h t2 n1 → Fit c h scope q1 t2 n1
+        → EndsSo c (finish (call_result ty v t2) K) (next_place q) (set_registers (writes_of (n.Call destination (vk.Function k) (argument_registers L c.structs c.locals d xs))) us q1) t2.world n1)
         → EndsSo c (finish (c.calls k vs t) (λ v u. finish (call_result ty v u) K)) q q1 t.world m1
     unfolding opens
-    call_leads d rest heads f scope r s m K next q vs g t q1 m1 at aft fit kept rels low =
+    call_leads destination d rest heads scope K q vs g t q1 m1 at fit rels low next =
         let registers = argument_registers L c.structs c.locals d xs in
-        let reg = value_register L d ty in
-        let insn : VmInsn = n.Call (Some reg) (vk.Function k) registers in
+        let insn : VmInsn = n.Call destination (vk.Function k) registers in
         let ws = map q1 registers in
         let K1 : Value → State → Observation = λ v u. finish (call_result ty v u) K in
         meets_same c.rooms c.functions (ap (λ z. finish (z t) K1) (callee.is vs))
@@ -137,26 +139,53 @@ module _ (c : Setting) (found : slice_get c.functions c.number ≡ Some c.code) 
         (λ v us h u n1 held rel aft1 mem bytes.
         let t2 : State = record { registers = t.registers; world = leave_function c.rooms k u.world } in
         let aft2 : Aft c g t m1 h t2 n1 = record { names = aft1.names; lives = aft1.lives; sizes = aft1.sizes; locals = aft1.locals; turned = omega (arith, aft1.turned, less) } in
-        let fit2 : Fit c h scope q1 t2 n1 = fits_after aft2 mem bytes fit in
-        let value = first_or_unset us in
         resume_meets c.rooms c.functions c.number c.code found c.own c.waiting insn q q1 t2.world n1 us at.has.0
-        (meets_same c.rooms c.functions (result_is ty v t2 K scalar held)
-        (next (next_place q) v h t2 (set_register reg value q1) n1 (at_plain c.code.blocks c.last c.end insn at) (after_on {n1 = m1} aft aft2) (fits_temporary d (register_type ty) value fit2)
-        (kept_temporary d (register_type ty) value (omega arith) kept) held (is_at h ty v value q1 reg (is_in h ty v value rel))))))))
+        (next v us h t2 n1 (at_plain c.code.blocks c.last c.end insn at) held rel aft2 (fits_after aft2 mem bytes fit))))))
         (λ none. no_turn c.rooms c.functions c.number c.code found c.own c.waiting insn q q1 t.world m1 at.has.0 refl none refl)))
 
-    calls : ArgumentsMeet c xs → ExprMeets c (Call ty (Function k) xs)
+    -- a scalar result comes into the register of its type
+    calls : IsScalarType ty → ArgumentsMeet c xs → ExprMeets c (Call ty (Function k) xs)
     unfolding opens
-    calls all = record {
+    calls scalar all = record {
       by = λ d rest heads p f scope r s m K at fit low next.
           let registers = argument_registers L c.structs c.locals d xs in
+          let reg = value_register L d ty in
           let at2 = subst (λ z. Stands c heads p (exprs_code L c.structs c.locals d xs (Plain (n.Call z (vk.Function k) registers) ∷ rest))) (destination_is c d ty scalar) at in
           bound c found (and_then (evals c.structs c.locals c.calls scope xs s) (c.calls k)) (call_result ty) K p r s.world m
           (bound c found (evals c.structs c.locals c.calls scope xs s) (c.calls k) (λ v u. finish (call_result ty v u) K) p r s.world m
-          (arguments xs all d (Plain (n.Call (Some (value_register L d ty)) (vk.Function k) registers) ∷ rest) heads p f scope r s m (λ vs t. finish (c.calls k vs t) (λ v u. finish (call_result ty v u) K)) at2 fit low
+          (arguments xs all d (Plain (n.Call (Some reg) (vk.Function k) registers) ∷ rest) heads p f scope r s m (λ vs t. finish (c.calls k vs t) (λ v u. finish (call_result ty v u) K)) at2 fit low
           (λ q vs g t q1 m1 at1 aft fit1 kept rels.
-          call_leads d rest heads f scope r s m K next q vs g t q1 m1 at1 aft fit1 kept rels (omega (arith, aft.turned, low)))));
+          call_leads (Some reg) d rest heads scope K q vs g t q1 m1 at1 fit1 rels (omega (arith, aft.turned, low))
+          (λ v us h t2 n1 at3 held rel aft2 fit2.
+          let value = first_or_unset us in
+          meets_same c.rooms c.functions (result_is ty v t2 K scalar held)
+          (next (next_place q) v h t2 (set_register reg value q1) n1 at3 (after_on {n1 = m1} aft aft2) (fits_temporary d (register_type ty) value fit2)
+          (kept_temporary d (register_type ty) value (omega arith) kept) held (is_at h ty v value q1 reg (is_in h ty v value rel)))))));
     }
 
+  -- where there is no result, none is put
+  voids : (k : ℕ) (xs : Exprs) → FunctionMeets c k Void → ArgumentsMeet c xs → ExprMeets c (Call Void (Function k) xs)
+  unfolding opens
+  voids k xs callee all = record {
+    by = λ d rest heads p f scope r s m K at fit low next.
+        let registers = argument_registers L c.structs c.locals d xs in
+        bound c found (and_then (evals c.structs c.locals c.calls scope xs s) (c.calls k)) (call_result Void) K p r s.world m
+        (bound c found (evals c.structs c.locals c.calls scope xs s) (c.calls k) (λ v u. finish (call_result Void v u) K) p r s.world m
+        (arguments xs all d (Plain (n.Call None (vk.Function k) registers) ∷ rest) heads p f scope r s m (λ vs t. finish (c.calls k vs t) (λ v u. finish (call_result Void v u) K)) at fit low
+        (λ q vs g t q1 m1 at1 aft fit1 kept rels.
+        call_leads Void k xs callee None d rest heads scope K q vs g t q1 m1 at1 fit1 rels (omega (arith, aft.turned, low))
+        (λ v us h t2 n1 at3 held rel aft2 fit2.
+        meets_same c.rooms c.functions (nothing_is v t2 K)
+        (next (next_place q) v h t2 q1 n1 at3 (after_on {n1 = m1} aft aft2) fit2 kept held tt)))));
+  }
+    where
+      nothing_is : (v : Value) (s : State) (K : Value → State → Observation) → finish (call_result Void v s) K ≡ K v s
+      nothing_is (Word j) s K = refl
+      nothing_is (Address a) s K = refl
+      nothing_is Unset s K = refl
+
 pub calls_meet : CallsMeet
-calls_meet c found ty k xs scalar callee all = calls c found ty k xs scalar callee all
+calls_meet c found ty k xs scalar callee all = calls c found ty k xs callee scalar all
+
+pub calls_without_results_meet : CallsWithoutResultsMeet
+calls_without_results_meet c found k xs callee all = voids c found k xs callee all

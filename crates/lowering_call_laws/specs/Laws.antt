@@ -10,7 +10,7 @@ use Rattle.machine_model.specs.Machine.{Frame}
 use Rattle.vm_meaning.specs.Operations.{is_set}
 use Rattle.vm_meaning.specs.Behave.{FunctionCode, Registers, registers_of, first_or_unset}
 use Rattle.c_typed_tree.specs.declared.expressions.Callee.TheVariants.{Function}
-use Rattle.c_typed_tree.specs.Types.{PlainType}
+use Rattle.c_typed_tree.specs.Types.{PlainType, Void}
 use Rattle.c_typed_tree.specs.Expressions.{Call, Exprs, no_exprs, more_exprs, type_of}
 use Rattle.c_semantics.specs.Runs.{State, Run, turn, ◌>>◌}
 use Rattle.c_semantics.specs.Executes.{within_call}
@@ -56,3 +56,8 @@ abbrev pub CallsMeet : Type 0
 CallsMeet =
     (c : Setting) → slice_get c.functions c.number ≡ Some c.code → (ty : PlainType) (k : ℕ) (xs : Exprs) →
     IsScalarType ty → FunctionMeets c k ty → ArgumentsMeet c xs → ExprMeets c (Call ty (Function k) xs)
+
+abbrev pub CallsWithoutResultsMeet : Type 0
+CallsWithoutResultsMeet =
+    (c : Setting) → slice_get c.functions c.number ≡ Some c.code → (k : ℕ) (xs : Exprs) → FunctionMeets c k Void
+    → ArgumentsMeet c xs → ExprMeets c (Call Void (Function k) xs)
