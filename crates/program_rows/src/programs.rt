@@ -4,7 +4,6 @@ use anyhow::{Result, bail, ensure};
 use bk_io::memory::{MemSink, MemSource};
 use c_lexer::TEXT_LIMIT;
 use c_parser::parse;
-use c_typed_tree::TypedUnit;
 use c_types::check;
 use c_weight::weight;
 use lowering::lower;
@@ -46,22 +45,19 @@ fn parts_of(alloc: Global, given: &str) -> Result<Row> {
     Ok(row)
 }
 
-/// The typed unit of a text.
-fn typed(alloc: Global, text: &[u8]) -> Result<TypedUnit> {
+/// The program of a text.
+fn lowered(alloc: Global, text: &[u8]) -> Result<VmProgram> {
     ensure!(text.len() <= TEXT_LIMIT, "a text that is too long");
     match parse(alloc, text) {
         Err(_fault) => bail!("a text that has no tree"),
         Ok(unit) => match check(alloc, &unit) {
             Err(fault) => bail!("a unit that is not well typed: {fault:?}"),
-            Ok(typed) => Ok(typed),
+            Ok(typed) => {
+                ensure!(weight(&typed) <= 131_072, "a unit that is too heavy");
+                Ok(lower(alloc, &typed)?)
+            }
         },
     }
-}
-
-/// The program of a unit.
-fn lowered(alloc: Global, unit: &TypedUnit) -> Result<VmProgram> {
-    ensure!(weight(unit) <= 131_072, "a unit that is too heavy");
-    Ok(lower(alloc, unit)?)
 }
 
 /// How a run ended. Where it was undefined, the number of the instruction is no part of it.
@@ -76,8 +72,7 @@ fn ending(alloc: Global, ending: VmEnding) -> Result<Vec<u8>> {
 /// How the program of a row runs.
 pub fn answer(alloc: Global, given: &str) -> Result<Vec<u8>> {
     let Row { text, input, turns } = parts_of(alloc, given)?;
-    let unit = typed(alloc, text.as_slice())?;
-    let program = lowered(alloc, &unit)?;
+    let program = lowered(alloc, text.as_slice())?;
     let mut input = MemSource::new(input, Vec::new(alloc));
     let mut out = MemSink::new(alloc, ROOM, Vec::new(alloc))?;
     let mut shown = ending(alloc, run_vm(alloc, &program, &mut input, &mut out, turns))?;
