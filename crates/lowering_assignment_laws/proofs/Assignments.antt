@@ -44,7 +44,7 @@ use Rattle.lowering_access_laws.proofs.Writes.{writes_meet}
 use Rattle.lowering_assignment_laws.proofs.Locals.{moves, register_place, register_is}
 
 -- a value of a scalar type stands as what it is
-scalar_in : (f : Names) (ty : PlainType) (v w : Value) → IsScalarType ty → IsIn f ty v w → IsValueOf f v w
+pub scalar_in : (f : Names) (ty : PlainType) (v w : Value) → IsScalarType ty → IsIn f ty v w → IsValueOf f v w
 scalar_in f ty v w (inl t) h = subst (λ z. IsIn f z v w) t.1 h
 scalar_in f ty v w (inr t) h = subst (λ z. IsIn f z v w) t.1 h
 

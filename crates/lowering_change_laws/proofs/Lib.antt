@@ -1,3 +1,5 @@
+pub mod Changes
 pub mod Combine
-pub mod Memory
+pub mod Leads
 pub mod Registers
+pub mod Memory

@@ -1,13 +1,18 @@
--- What is said of the code of compound assignments (C99 6.5.16.2), and of `++` and `--` (6.5.2.4, 6.5.3.1), of integers.
-use Rattle.std.specs.Prelude.{◌≡◌, ℕ, false, slice_get, Some, None}
+-- What is said of the code of compound assignments (C99 6.5.16.2), and of `++` and `--` (6.5.2.4, 6.5.3.1).
+use Rattle.std.specs.Prelude.{◌≡◌, ◌≤◌, ℕ, false, slice_get, Some, None}
+use Rattle.data_object.specs.declared.TheConstants.{MOST_DATA}
 use Rattle.c_arithmetic.specs.declared.integer_type.IntegerType.{IntegerType}
 use Rattle.c_arithmetic.specs.IntegerTypes.{promote}
 use Rattle.c_tree.specs.declared.expressions.AssignOp.{AssignOp}
+use Rattle.c_tree.specs.declared.expressions.AssignOp.TheVariants as a
 use Rattle.c_tree.specs.declared.expressions.BinaryOp.{BinaryOp}
 use Rattle.c_tree.specs.declared.expressions.StepOp.{StepOp}
+use Rattle.c_tree.specs.declared.expressions.StepOp.TheVariants as step
 use Rattle.c_tree.specs.declared.expressions.UnaryOp.TheVariants as u
 use Rattle.c_typed_tree.specs.declared.units.Local.{Local}
 use Rattle.c_typed_tree.specs.View.{type_view}
+use Rattle.c_typed_tree.specs.Types.{PlainType, Pointer}
+use Rattle.c_typed_tree.specs.Layout.{size_of}
 use Rattle.c_typed_tree.specs.Expressions.{Expr, Assign, Unary, Postfix, type_of}
 use Rattle.c_typed_tree.specs.Expressions as e
 use Rattle.c_semantics.specs.Operators.{operator_of, operation_type}
@@ -15,45 +20,45 @@ use Rattle.lowering_code.specs.Expressions.{plain_of, register_of}
 use Rattle.lowering_expression_laws.specs.Parts.{Setting, count, ExprMeets}
 use Rattle.lowering_place_laws.specs.Places.{PlaceMeets}
 
--- a register holds a local of an integer type
-pub record HoldsInteger (c : Setting) (k : ℕ) (t : IntegerType) : Type 0 where
+-- a register holds a local of a type
+pub record Holds (c : Setting) (k : ℕ) (ty : PlainType) : Type 0 where
   pub local : Local
   pub is_there : slice_get c.locals k ≡ Some local
   pub in_register : local.in_memory ≡ false
-  pub is_integer : type_view local.ty ≡ plain_of t
+  pub is_of_type : type_view local.ty ≡ ty
 
--- the code of each of these does what it does, where that of the right side does
-pub record Changes (c : Setting) : Type 0 where
-  pub assignments : (op : AssignOp) (o : BinaryOp) (left right : IntegerType) (k : ℕ) (y : Expr)
-      → operator_of op ≡ Some o → HoldsInteger c k left → type_of y ≡ plain_of right
+-- `+=` for `++`, and `-=` for `--`: the only ones of a pointer
+abbrev pub moving : StepOp → AssignOp
+moving step.Increment = a.Add
+moving step.Decrement = a.Subtract
+
+-- `++` and `--` of a place, before it and behind it
+pub record StepsMeet (c : Setting) (ty : PlainType) (x : Expr) : Type 0 where
+  pub increments : ExprMeets c (Unary ty u.Increment x)
+  pub decrements : ExprMeets c (Unary ty u.Decrement x)
+  pub postfixes : (op : StepOp) → ExprMeets c (Postfix ty op x)
+
+-- changes of a place, where the code of the right side does what it does: of one of an integer type, in the type in which
+-- the operator is done, and of one of a pointer, which is moved by elements
+pub record ChangesMeet (c : Setting) (x : Expr) (ty : PlainType) : Type 0 where
+  pub integers : (left : IntegerType) → ty ≡ plain_of left → (op : AssignOp) (o : BinaryOp) (right : IntegerType) (y : Expr)
+      → operator_of op ≡ Some o → type_of y ≡ plain_of right
       → promote (operation_type o left right) ≡ operation_type o left right → ExprMeets c y
-      → ExprMeets c (Assign (plain_of left) op (e.Local (plain_of left) k) y)
-  pub increments : (t : IntegerType) (k : ℕ) → HoldsInteger c k t
-      → ExprMeets c (Unary (plain_of t) u.Increment (e.Local (plain_of t) k))
-  pub decrements : (t : IntegerType) (k : ℕ) → HoldsInteger c k t
-      → ExprMeets c (Unary (plain_of t) u.Decrement (e.Local (plain_of t) k))
-  pub postfixes : (op : StepOp) (t : IntegerType) (k : ℕ) → HoldsInteger c k t
-      → ExprMeets c (Postfix (plain_of t) op (e.Local (plain_of t) k))
+      → ExprMeets c (Assign ty op x y)
+  pub integer_steps : (left : IntegerType) → ty ≡ plain_of left → StepsMeet c ty x
+  pub pointers : (target : PlainType) → ty ≡ Pointer target → size_of c.structs target ≤ MOST_DATA → (op : StepOp)
+      (right : IntegerType) (y : Expr) → type_of y ≡ plain_of right → ExprMeets c y
+      → ExprMeets c (Assign ty (moving op) x y)
+  pub pointer_steps : (target : PlainType) → ty ≡ Pointer target → size_of c.structs target ≤ MOST_DATA → StepsMeet c ty x
 
-abbrev pub ChangesMeet : Type 0
-ChangesMeet = (c : Setting) → slice_get c.functions c.number ≡ Some c.code → Changes c
+-- of a local that a register holds
+abbrev pub RegistersAreChanged : Type 0
+RegistersAreChanged =
+    (c : Setting) → slice_get c.functions c.number ≡ Some c.code → (ty : PlainType) (k : ℕ) → Holds c k ty
+    → ChangesMeet c (e.Local ty k) ty
 
--- a place that no register holds
-abbrev pub IsInMemory : Setting → Expr → Type 0
-IsInMemory c x = register_of (count c) c.structs c.locals x ≡ None
-
--- the same in memory, where the code of the place does what it does
-pub record MemoryChanges (c : Setting) : Type 0 where
-  pub assignments : (op : AssignOp) (o : BinaryOp) (left right : IntegerType) (x y : Expr) → operator_of op ≡ Some o
-      → IsInMemory c x → type_of y ≡ plain_of right
-      → promote (operation_type o left right) ≡ operation_type o left right → PlaceMeets c x → ExprMeets c y
-      → ExprMeets c (Assign (plain_of left) op x y)
-  pub increments : (t : IntegerType) (x : Expr) → IsInMemory c x → PlaceMeets c x
-      → ExprMeets c (Unary (plain_of t) u.Increment x)
-  pub decrements : (t : IntegerType) (x : Expr) → IsInMemory c x → PlaceMeets c x
-      → ExprMeets c (Unary (plain_of t) u.Decrement x)
-  pub postfixes : (op : StepOp) (t : IntegerType) (x : Expr) → IsInMemory c x → PlaceMeets c x
-      → ExprMeets c (Postfix (plain_of t) op x)
-
-abbrev pub MemoryChangesMeet : Type 0
-MemoryChangesMeet = (c : Setting) → slice_get c.functions c.number ≡ Some c.code → MemoryChanges c
+-- of a place in memory, where its code does what it does
+abbrev pub MemoryIsChanged : Type 0
+MemoryIsChanged =
+    (c : Setting) → slice_get c.functions c.number ≡ Some c.code → (ty : PlainType) (x : Expr)
+    → register_of (count c) c.structs c.locals x ≡ None → PlaceMeets c x → ChangesMeet c x ty

@@ -90,6 +90,15 @@ loaded_held m q v target e =
     by_row (IsNull cells is) = subst (λ z. IsHeld (Pointer target) z) (sym is) refl
     by_row (IsParts a cells is) = subst (λ z. IsHeld (Pointer target) z) (sym is) tt
 
+loaded_set : (m : Memory) (q : Ptr) (v : Value) → load_at m q 8 true ≡ Ok v → vm.is_set v ≡ true
+loaded_set m q v e =
+    let told = load_tells m q 8 true v e in
+    by_row (pointer_is (row_at m q 8) v (value_or_fault-some true (row_at m q 8) v told.value))
+  where
+    by_row : PointerIs (row_at m q 8) v → vm.is_set v ≡ true
+    by_row (IsNull cells is) = ap vm.is_set is
+    by_row (IsParts a cells is) = ap vm.is_set is
+
 -- a type of integers has bytes
 some : (t : IntegerType) → 0 < bytes t
 some i.Char = omega arith
@@ -157,6 +166,21 @@ module _ (c : Setting) (found : slice_get c.functions c.number ≡ Some c.code) 
       (insn_on c found (n.Load mt to pointer (pos left)) q q1 t.world m1 (w ∷ []) stands.has.0 refl (ap (λ z. writes z o2) got.1 ∙ ap (λ z. writes (Gives z) o2) gives)
       (next (extension t0 k) (is_word-extension t0 k) (at_plain c.code.blocks c.last c.end _ stands)))))))
 
+  -- the same of a pointer
+  pub pointers_lead : (target : PlainType) (to pointer left : ℕ) (rest : List CodeItem) (heads : List ℕ) (g : Names) (scope : Scope) (t : State) (m1 : Memory) (K : Value → State → Observation) (q : Place) (q1 : Registers) (base at : Value) → Fit c g scope q1 t m1
+      → IsValueOf g base (q1 pointer) → IsMoved t.world.outer.memory base left at → Stands c heads q (load_from (Pointer target) to pointer left rest)
+      → ((v w : Value) → IsHeld (Pointer target) v → vm.is_set v ≡ true → IsValueOf g v w → Stands c heads (next_place q) rest → EndsSo c (K v t) (next_place q) (set_register to w q1) t.world m1) → EndsSo c (finish (read_at (Pointer target) at t) K) q q1 t.world m1
+  unfolding opens
+  pointers_lead target to pointer left rest heads g scope t m1 K q q1 base (Word k) fit rel moved stands next = meets_anything c.rooms c.functions refl
+  pointers_lead target to pointer left rest heads g scope t m1 K q q1 base Unset fit rel moved stands next = meets_anything c.rooms c.functions refl
+  pointers_lead target to pointer left rest heads g scope t m1 K q q1 base (Address a) fit rel moved stands next =
+      let mt = memory_type (Pointer target) in
+      let o2 = outer_with_memory t.world.outer m1 in
+      access_meets c.rooms c.functions (load_at t.world.outer.memory a 8 true) t K _ (λ v ev.
+      let got = (memories_correspond g t.world.outer.memory m1 fit.memory).1.loads mt base (q1 pointer) left a v rel moved (omega arith) ev in
+      insn_on c found (n.Load mt to pointer (pos left)) q q1 t.world m1 (got.0 ∷ []) stands.has.0 refl (ap (λ z. writes z o2) got.1)
+      (next v got.0 (loaded_held t.world.outer.memory a v target ev) (loaded_set t.world.outer.memory a v ev) got.2 (at_plain c.code.blocks c.last c.end _ stands)))
+
   module _ (d left : ℕ) (rest : List CodeItem) (heads : List ℕ) (f : Names) (scope : Scope) (r : Registers) (s : State) (m : Memory) (K : Value → State → Observation) (q : Place) (base at : Value) (g : Names) (t : State) (q1 : Registers) (m1 : Memory)
       (aft : Aft c f s m g t m1) (fit : Fit c g scope q1 t m1) (kept : KeepsLower L d r q1) (held : IsHeld (Pointer Void) at) (rel : IsValueOf g base (q1 (address_register L d))) (le : left ≤ MOST_DATA) (moved : IsMoved t.world.outer.memory base left at) where
     integer_load : (t0 : IntegerType) (at0 : Value) → at ≡ at0 → Follows c d (plain_of t0) heads rest f scope r s m K → Stands c heads q (load_from (plain_of t0) (value_register L d (plain_of t0)) (address_register L d) left rest)
@@ -170,18 +194,11 @@ module _ (c : Setting) (found : slice_get c.functions c.number ≡ Some c.code) 
 
     pointer_load : (target : PlainType) (at0 : Value) → at ≡ at0 → Follows c d (Pointer target) heads rest f scope r s m K → Stands c heads q (load_from (Pointer target) (value_register L d (Pointer target)) (address_register L d) left rest)
         → EndsSo c (finish (read_at (Pointer target) at0 t) K) q q1 t.world m1
-    unfolding opens
-    pointer_load target (Word k) is next stands = meets_anything c.rooms c.functions refl
-    pointer_load target Unset is next stands = meets_anything c.rooms c.functions refl
-    pointer_load target (Address a) is next stands =
-        let reg = address_register L d in
-        let mt = memory_type (Pointer target) in
-        let o2 = outer_with_memory t.world.outer m1 in
-        access_meets c.rooms c.functions (load_at t.world.outer.memory a 8 true) t K _ (λ v ev.
-        let got = (memories_correspond g t.world.outer.memory m1 fit.memory).1.loads mt base (q1 reg) left a v rel (subst (λ z. IsMoved t.world.outer.memory base left z) is moved) (omega arith) ev in
-        insn_on c found (n.Load mt reg reg (pos left)) q q1 t.world m1 (got.0 ∷ []) stands.has.0 refl (ap (λ z. writes z o2) got.1)
-        (next (next_place q) v g t (set_register reg got.0 q1) m1 (at_plain c.code.blocks c.last c.end _ stands) aft (fits_temporary d P64 got.0 fit)
-        (kept_temporary d P64 got.0 (omega arith) kept) (loaded_held t.world.outer.memory a v target ev) (value_at g v got.0 q1 reg got.2)))
+    pointer_load target at0 is next stands =
+        let reg : ℕ = address_register L d in
+        pointers_lead target reg reg left rest heads g scope t m1 K q q1 base at0 fit rel (subst (λ z. IsMoved t.world.outer.memory base left z) is moved) stands
+        (λ v w heldv set relv stands2.
+        next (next_place q) v g t (set_register reg w q1) m1 stands2 aft (fits_temporary d P64 w fit) (kept_temporary d P64 w (omega arith) kept) heldv (value_at g v w q1 reg relv))
 
     pub load_on : (ty : PlainType) → IsWhole ty → Follows c d ty heads rest f scope r s m K → Stands c heads q (load_code L d ty left rest) → EndsSo c (finish (read_at ty at t) K) q q1 t.world m1
     unfolding opens

@@ -1,28 +1,18 @@
 -- The code of a sum, and of an element, whose left operand is the integer.
-use Rattle.std.proofs.Common.{◌≡◌, ℕ, zero, suc, ◌<◌, ◌≤◌, ◌==◌, ◌%◌, ◌^◌, ◌*◌, ◌&&◌, ℤ, pos, negsuc, neg_ℤ, ◌+ℤ◌, ◌*ℤ◌, List, [], ◌∷◌, Bool, true, false, Some, None, refl, sym, ap, ◌∙◌, subst, arith, inl, eq-eqb}
-use Rattle.std.specs.Prelude.{if◌then◌else◌, slice_get}
-use Rattle.std.proofs.lemmas.Bool.{eqb-true}
-use Rattle.std.proofs.Math.IntN.{*ℤ-zero}
-use Rattle.mem_model.specs.declared.value.Ptr.{Ptr}
+use Rattle.std.proofs.Common.{◌≡◌, ℕ, suc, ◌≤◌, pos, ◌*ℤ◌, List, [], ◌∷◌, Some, refl, sym, ap, ◌∙◌, subst, arith, inl}
+use Rattle.std.specs.Prelude.{slice_get}
 use Rattle.mem_model.specs.declared.value.Value.{Value}
-use Rattle.mem_model.specs.declared.value.Value.TheVariants.{Word, Address, Unset}
 use Rattle.mem_model.specs.Memory.{Memory}
-use Rattle.mem_model.specs.Pointers.{ptr_plus, is_live, size_at, is_offset, pointer_plus}
+use Rattle.mem_model.specs.Pointers.{pointer_plus}
 use Rattle.mem_model.specs.World.{outer_with_memory}
 use Rattle.mem_model.specs.Related.{Names, IsValueOf}
-use Rattle.mem_model.proofs.Pointers.{when-some}
-use Rattle.mem_model.proofs.RowValues.{both}
-use Rattle.mem_model.proofs.RelatedRows.{values_stay}
 use Rattle.mem_model.proofs.RelatedPointers.{moves_correspond}
 use Rattle.data_object.specs.declared.TheConstants.{MOST_DATA}
 use Rattle.c_arithmetic.specs.declared.integer_type.IntegerType.{IntegerType}
 use Rattle.c_arithmetic.specs.declared.integer_type.IntegerType.TheVariants as i
-use Rattle.c_arithmetic.specs.declared.outcome.ArithmeticOutcome.TheVariants as a
-use Rattle.c_arithmetic.specs.Words.{value, word, is_word}
-use Rattle.c_arithmetic.specs.Operations.{conversion, result_in}
+use Rattle.c_arithmetic.specs.Words.{value}
+use Rattle.c_arithmetic.specs.Operations.{conversion}
 use Rattle.c_arithmetic.proofs.Results.{is_word-extension}
-use Rattle.c_arithmetic.proofs.Values.{value-word}
-use Rattle.c_arithmetic.proofs.Conversions.{value-conversion}
 use Rattle.c_tree.specs.declared.expressions.BinaryOp.TheVariants as b
 use Rattle.c_typed_tree.specs.declared.types.StructDef.{StructDef}
 use Rattle.c_typed_tree.specs.Types.{PlainType, Void, Pointer}
@@ -33,31 +23,26 @@ use Rattle.c_semantics.specs.Objects as obj
 use Rattle.c_semantics.specs.Objects.{Scope, read_at, stands_inside, element_plus, move_reason, move_elements, move_by}
 use Rattle.c_semantics.specs.Operators.{binary}
 use Rattle.c_semantics.specs.Evaluates.{eval, element}
-use Rattle.suifvm_ir.specs.declared.types.VmType.TheVariants.{S64, P64}
-use Rattle.suifvm_ir.specs.declared.insn.BinaryOp.TheVariants.{Add, Multiply}
+use Rattle.suifvm_ir.specs.declared.types.VmType.TheVariants.{P64}
+use Rattle.suifvm_ir.specs.declared.insn.BinaryOp.TheVariants.{Add}
 use Rattle.suifvm_ir.specs.declared.insn.VmInsn.TheVariants as n
-use Rattle.vm_meaning.specs.declared.answer.Answer.TheVariants.{Gives, Fails}
 use Rattle.vm_meaning.specs.Operations as vm
 use Rattle.vm_meaning.specs.Effect.{writes}
 use Rattle.vm_meaning.specs.Behave.{Registers, set_register}
-use Rattle.suifvm_ir.specs.declared.insn.VmInsn.{VmInsn}
 use Rattle.lowering_code.specs.declared.item.CodeItem.{CodeItem}
-use Rattle.lowering_code.specs.declared.item.CodeItem.TheVariants.{Plain}
-use Rattle.lowering_code.specs.Registers.{register_type, temporary, value_register, address_register, bytes_register}
-use Rattle.lowering_code.specs.Expressions.{plain_of, cap_offset, is_kept, narrow_type, convert_code, sized_code, scaled_code, add_code, binary_code, element_code, load_code, expr_code}
+use Rattle.lowering_code.specs.Registers.{register_type, value_register, address_register, bytes_register}
+use Rattle.lowering_code.specs.Expressions.{plain_of, cap_offset, sized_code, scaled_code, add_code, binary_code, element_code, load_code, expr_code}
 use Rattle.lowering_states.specs.Places.{Place, next_place}
 use Rattle.lowering_states.specs.Runs.{opens, Observation, finish}
 use Rattle.lowering_states.specs.States.{IsIn, KeepsLower}
 use Rattle.lowering_states.proofs.Steps.{meets_same, number_meets, known_meets}
-use Rattle.lowering_states.proofs.States.{set_same, set_other, other_depth, kept_all, kept_on, kept_reads, kept_temporary, after_on, value_at, fits_temporary}
-use Rattle.lowering_values.proofs.Integers.{kept_is, register-promoted, kept_conversion, made_conversion}
-use Rattle.lowering_values.proofs.Operators.{operators_correspond}
+use Rattle.lowering_states.proofs.States.{kept_on, kept_reads, kept_temporary, after_on, value_at, fits_temporary}
 use Rattle.lowering_expression_places.proofs.Behind.{at_plain}
 use Rattle.lowering_expression_laws.specs.Parts.{Setting, count, EndsSo, Stands, Fit, Follows, ExprMeets}
-use Rattle.lowering_expression_laws.proofs.Forms.{WordIn, word_in, insn_on, bound, value_of_word}
+use Rattle.lowering_expression_laws.proofs.Forms.{WordIn, word_in, insn_on, bound}
 use Rattle.lowering_place_laws.specs.Places.{PlaceMeets}
 use Rattle.lowering_place_laws.specs.Laws.{IsWhole}
-use Rattle.lowering_place_laws.proofs.Places.{held_pointer, long_word, moved_held, own_base}
+use Rattle.lowering_place_laws.proofs.Places.{held_pointer, moved_held, own_base}
 use Rattle.lowering_place_laws.proofs.Accesses.{load_on}
 use Rattle.lowering_pointer_laws.specs.Laws.{PointersAboveAreMoved}
 use Rattle.lowering_pointer_laws.proofs.Numbers.{IsSmall}

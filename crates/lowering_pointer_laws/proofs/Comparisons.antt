@@ -17,7 +17,7 @@ use Rattle.c_tree.specs.declared.expressions.BinaryOp.TheVariants as b
 use Rattle.c_typed_tree.specs.Types.{PlainType, Pointer}
 use Rattle.c_typed_tree.specs.Expressions.{Expr, Binary, type_of}
 use Rattle.c_semantics.specs.Reasons.{Reason, ComparesApart, ComparesAtEnd}
-use Rattle.c_semantics.specs.Runs.{State, Run, and_then, or_undefined, pure}
+use Rattle.c_semantics.specs.Runs.{State, Run, and_then, or_undefined}
 use Rattle.c_semantics.specs.Objects.{Scope}
 use Rattle.c_semantics.specs.Operators.{unless_dead, pure_truth, binary}
 use Rattle.c_semantics.specs.Evaluates.{eval}
@@ -40,7 +40,7 @@ use Rattle.lowering_states.proofs.States.{kept_on, kept_reads, kept_temporary, a
 use Rattle.lowering_expression_places.proofs.Behind.{at_plain}
 use Rattle.lowering_expression_laws.specs.Parts.{Setting, count, EndsSo, Stands, Fit, Aft, Follows, ExprMeets}
 use Rattle.lowering_expression_laws.proofs.Forms.{held_word, insn_on, bound}
-use Rattle.lowering_pointer_laws.specs.Laws.{Comparisons, PointersAreCompared}
+use Rattle.lowering_pointer_laws.specs.Laws.{PointersAreCompared}
 
 truth_word : (x : Bool) → is_word i.Int (truth x) ≡ true
 truth_word true = refl

@@ -1,68 +1,54 @@
 -- The code of differences: of a pointer and an integer, and of two pointers.
-use Rattle.std.proofs.Common.{◌≡◌, ℕ, zero, suc, ◌≤◌, ◌==◌, ◌%◌, ◌^◌, ◌*◌, ◌&&◌, ℤ, pos, negsuc, neg_ℤ, ◌+ℤ◌, ◌*ℤ◌, List, [], ◌∷◌, Bool, true, false, Some, None, refl, sym, ap, ◌∙◌, subst, arith, inl, eq-eqb}
+use Rattle.std.proofs.Common.{◌≡◌, ℕ, zero, suc, ◌≤◌, ◌<◌, ◌*◌, ℤ, pos, negsuc, neg_ℤ, ◌*ℤ◌, List, [], ◌∷◌, Some, refl, sym, ap, ◌∙◌, subst, arith}
 use Rattle.std.specs.Prelude.{if◌then◌else◌, slice_get}
-use Rattle.std.proofs.lemmas.Bool.{eqb-true}
 use Rattle.std.proofs.Math.IntN.{neg_ℤ-neg_ℤ}
-use Rattle.mem_model.specs.declared.value.Ptr.{Ptr}
 use Rattle.mem_model.specs.declared.value.Value.{Value}
-use Rattle.mem_model.specs.declared.value.Value.TheVariants.{Word, Address, Unset}
+use Rattle.mem_model.specs.declared.value.Value.TheVariants.{Word}
 use Rattle.mem_model.specs.Memory.{Memory}
-use Rattle.mem_model.specs.Pointers.{ptr_plus, is_live, size_at, is_offset, pointer_plus}
+use Rattle.mem_model.specs.Pointers.{pointer_plus}
 use Rattle.mem_model.specs.World.{outer_with_memory}
 use Rattle.mem_model.specs.Related.{Names, IsValueOf}
-use Rattle.mem_model.proofs.Pointers.{when-some}
-use Rattle.mem_model.proofs.RowValues.{both}
 use Rattle.mem_model.proofs.RelatedRows.{values_stay}
 use Rattle.mem_model.proofs.RelatedPointers.{moves_correspond}
 use Rattle.data_object.specs.declared.TheConstants.{MOST_DATA}
 use Rattle.c_arithmetic.specs.declared.integer_type.IntegerType.{IntegerType}
 use Rattle.c_arithmetic.specs.declared.integer_type.IntegerType.TheVariants as i
 use Rattle.c_arithmetic.specs.declared.outcome.ArithmeticOutcome.TheVariants as a
-use Rattle.c_arithmetic.specs.Words.{value, word, is_word}
+use Rattle.c_arithmetic.specs.Words.{value, word}
 use Rattle.c_arithmetic.specs.Operations.{negation, conversion, result_in}
 use Rattle.c_arithmetic.proofs.Results.{is_word-extension}
 use Rattle.c_arithmetic.proofs.Values.{value-word}
-use Rattle.c_arithmetic.proofs.Conversions.{value-conversion}
 use Rattle.c_tree.specs.declared.expressions.BinaryOp.TheVariants as b
 use Rattle.c_typed_tree.specs.declared.types.StructDef.{StructDef}
-use Rattle.c_typed_tree.specs.Types.{PlainType, Void, Pointer}
+use Rattle.c_typed_tree.specs.Types.{PlainType, Pointer}
 use Rattle.c_typed_tree.specs.Layout.{size_of}
-use Rattle.c_typed_tree.specs.Expressions.{Expr, Binary, Index, type_of}
-use Rattle.c_semantics.specs.Runs.{State, Run, and_then, number, pure}
-use Rattle.c_semantics.specs.Objects as obj
-use Rattle.c_semantics.specs.Objects.{Scope, read_at, stands_inside, element_plus, move_reason, move_elements, move_by}
+use Rattle.c_typed_tree.specs.Expressions.{Expr, Binary, type_of}
+use Rattle.c_semantics.specs.Runs.{State, Run, and_then, number}
+use Rattle.c_semantics.specs.Objects.{Scope, element_plus, move_reason, move_elements}
 use Rattle.c_semantics.specs.Operators.{pointer_and_integer, binary}
-use Rattle.c_semantics.specs.Evaluates.{eval, element}
+use Rattle.c_semantics.specs.Evaluates.{eval}
 use Rattle.suifvm_ir.specs.declared.types.VmType.TheVariants.{S64, P64}
 use Rattle.suifvm_ir.specs.declared.insn.UnaryOp.TheVariants.{Negate}
 use Rattle.suifvm_ir.specs.declared.insn.BinaryOp.TheVariants.{Add}
 use Rattle.suifvm_ir.specs.declared.insn.VmInsn.TheVariants as n
-use Rattle.vm_meaning.specs.declared.answer.Answer.TheVariants.{Gives, Fails}
 use Rattle.vm_meaning.specs.Operations as vm
 use Rattle.vm_meaning.specs.Effect.{writes}
 use Rattle.vm_meaning.specs.Behave.{Registers, set_register}
-use Rattle.suifvm_ir.specs.declared.insn.VmInsn.{VmInsn}
 use Rattle.lowering_code.specs.declared.item.CodeItem.{CodeItem}
-use Rattle.lowering_code.specs.declared.item.CodeItem.TheVariants.{Plain}
-use Rattle.lowering_code.specs.Registers.{register_type, temporary, value_register, address_register, bytes_register}
-use Rattle.lowering_code.specs.Expressions.{plain_of, cap_offset, is_kept, narrow_type, convert_code, sized_code, scaled_code, add_code, binary_code, negate_code, expr_code}
+use Rattle.lowering_code.specs.Registers.{value_register, address_register, bytes_register}
+use Rattle.lowering_code.specs.Expressions.{plain_of, cap_offset, sized_code, scaled_code, add_code, binary_code, negate_code, expr_code}
 use Rattle.lowering_states.specs.Places.{Place, next_place}
 use Rattle.lowering_states.specs.Runs.{opens, Observation, finish}
 use Rattle.lowering_states.specs.States.{IsIn, KeepsLower}
 use Rattle.lowering_states.proofs.Steps.{meets_same, number_meets, known_meets}
-use Rattle.lowering_states.proofs.States.{set_same, set_other, other_depth, kept_all, kept_on, kept_reads, kept_temporary, after_on, value_at, fits_temporary}
-use Rattle.lowering_values.proofs.Integers.{kept_is, register-promoted, kept_conversion, made_conversion}
-use Rattle.lowering_values.proofs.Operators.{operators_correspond}
+use Rattle.lowering_states.proofs.States.{set_same, kept_all, kept_on, kept_reads, kept_temporary, after_on, value_at, fits_temporary}
 use Rattle.lowering_expression_places.proofs.Behind.{at_plain}
-use Rattle.lowering_expression_laws.specs.Parts.{Setting, count, EndsSo, Stands, Fit, Follows, ExprMeets}
+use Rattle.lowering_expression_laws.specs.Parts.{Setting, count, EndsSo, Stands, Fit, ExprMeets}
 use Rattle.lowering_expression_laws.proofs.Forms.{WordIn, word_in, insn_on, unary_on, bound}
-use Rattle.lowering_place_laws.specs.Places.{PlaceMeets}
-use Rattle.lowering_place_laws.specs.Laws.{IsWhole}
-use Rattle.lowering_place_laws.proofs.Places.{held_pointer, long_word, moved_held, own_base}
-use Rattle.lowering_place_laws.proofs.Accesses.{load_on}
+use Rattle.lowering_place_laws.proofs.Places.{moved_held}
 use Rattle.lowering_pointer_laws.specs.Laws.{PointersAreMoved}
 use Rattle.lowering_pointer_laws.proofs.Numbers.{IsSmall, small_fits}
-use Rattle.lowering_pointer_laws.proofs.Moves.{IsMovedBy, moved_by, long_bytes, kept_both, long_leads, sized_leads, sums, elements, element_places}
+use Rattle.lowering_pointer_laws.proofs.Moves.{IsMovedBy, moved_by, long_bytes, KeepsOthers, kept_bytes, kept_both, long_leads, sized_leads, sums, elements, element_places}
 
 -- ---- numbers
 
@@ -109,40 +95,37 @@ abbrev run_by : (c : Setting) (x y : Expr) → (Value → Value → Run Value) �
 run_by c x y done scope = λ s. and_then (eval c.structs c.locals c.calls scope x s) (λ v t1. and_then (eval c.structs c.locals c.calls scope y t1) (done v))
 
 module _ (c : Setting) (found : slice_get c.functions c.number ≡ Some c.code) (rest : List CodeItem) (heads : List ℕ) (g : Names) (scope : Scope) (s : State) (m : Memory) where
-  -- the pointer at a depth is moved back by the elements above it
-  moved_back : {o : Observation} (d : ℕ) (t : IntegerType) (k size : ℕ) (v u : Value) (q : Place) (r : Registers) → size ≤ MOST_DATA → IsMovedBy s.world.outer.memory v (neg_ℤ (value t k) *ℤ pos size) u
-      → Stands c heads q (scaled_code (count c) (suc d) (suc (suc d)) (plain_of t) (cap_offset size) (negate_code (bytes_register (count c) (suc d)) (add_code (address_register (count c) d) (address_register (count c) d) (bytes_register (count c) (suc d)) rest)))
-      → Fit c g scope r s m → IsValueOf g v (r (address_register (count c) d)) → WordIn (count c) (suc d) t k r
-      → ((q1 : Place) (r1 : Registers) → Stands c heads q1 rest → Fit c g scope r1 s m → KeepsLower (count c) d r r1 → IsValueOf g u (r1 (address_register (count c) d)) → EndsSo c o q1 r1 s.world m) → EndsSo c o q r s.world m
-  moved_back {o = o} d t k size v u q r le is at fit rel one next =
-      let addr = address_register (count c) d in
-      let reg = bytes_register (count c) (suc d) in
+  -- the pointer at a depth is moved back by the elements at another one; what stands below both stays
+  pub moved_back : {o : Observation} (a d free low : ℕ) → d < free → low ≤ a → low ≤ d → (t : IntegerType) (k size : ℕ) (v u : Value) (q : Place) (r : Registers) → size ≤ MOST_DATA → IsMovedBy s.world.outer.memory v (neg_ℤ (value t k) *ℤ pos size) u
+      → Stands c heads q (scaled_code (count c) d free (plain_of t) (cap_offset size) (negate_code (bytes_register (count c) d) (add_code (address_register (count c) a) (address_register (count c) a) (bytes_register (count c) d) rest)))
+      → Fit c g scope r s m → IsValueOf g v (r (address_register (count c) a)) → WordIn (count c) d t k r
+      → ((q1 : Place) (r1 : Registers) → Stands c heads q1 rest → Fit c g scope r1 s m → KeepsLower (count c) low r r1 → IsValueOf g u (r1 (address_register (count c) a)) → EndsSo c o q1 r1 s.world m) → EndsSo c o q r s.world m
+  moved_back {o = o} a d free low above below_a below_d t k size v u q r le is at fit rel one next =
+      let addr = address_register (count c) a in
+      let reg = bytes_register (count c) d in
       let z : ℤ = value t k *ℤ pos size in
       let back : IsSmall (neg_ℤ z) = subst IsSmall (neg_times (value t k) size) (is.small (λ p live. fit.small p.object live)) in
       let small : IsSmall z = small_negated z back in
       let capped : cap_offset size ≡ size = omega (arith, le) in
       let tail : List CodeItem = negate_code reg (add_code addr addr reg rest) in
-      let at1 = subst (λ n. Stands c heads q (scaled_code (count c) (suc d) (suc (suc d)) (plain_of t) n tail)) capped at in
-      long_leads c found rest heads g scope s m (suc d) t k (sized_code (count c) (suc d) (suc (suc d)) size tail) q r at1 fit one
+      let at1 = subst (λ n. Stands c heads q (scaled_code (count c) d free (plain_of t) n tail)) capped at in
+      long_leads c found rest heads g scope s m d t k (sized_code (count c) d free size tail) q r at1 fit one
       (λ q1 r1 at2 fit1 kept1 held1.
-      sized_leads c found rest heads g scope s m (suc d) (suc (suc d)) (omega arith) size (conversion t i.Long k) z tail q1 r1 le (long_bytes t k size small) small (is_word-extension i.Long _) at2 fit1 held1
+      sized_leads c found rest heads g scope s m d free above size (conversion t i.Long k) z tail q1 r1 le (long_bytes t k size small) small (is_word-extension i.Long _) at2 fit1 held1
       (λ q2 r2 b at3 fit2 kept2 held2 value_is word_is.
       let w1 : ℕ = word i.Long (neg_ℤ z) in
       let r3 : Registers = set_register reg (Word w1) r2 in
       let at4 = at_plain c.code.blocks c.last c.end _ at3 in
-      let kept3 : KeepsLower (count c) (suc d) r r3 = kept_temporary (suc d) S64 (Word w1) (omega arith) (kept_both kept1 kept2).lower in
-      let same : r3 addr ≡ r addr = kept_reads d P64 (omega arith) kept3 in
+      let kept3 : KeepsOthers (count c) d r r3 = kept_bytes d (Word w1) (omega arith) (kept_both kept1 kept2) in
+      let same : r3 addr ≡ r addr = kept3.addresses a in
       let moved : pointer_plus s.world.outer.memory v (neg_ℤ z) ≡ Some u = ap (λ y. pointer_plus s.world.outer.memory v y) (sym (neg_times (value t k) size)) ∙ is.moved in
       let x = moves_correspond g s.world.outer.memory m fit2.memory v (r3 addr) u (neg_ℤ z) (subst (λ n. IsValueOf g v n) (sym same) rel) moved in
       insn_on c found (n.Unary Negate S64 reg reg) q2 r2 s.world m (Word w1 ∷ []) at3.has.0 refl
-      (unary_on c found Negate (suc d) i.Long b r2 s.world m refl (record { is_one = word_is; stands = held2 }) ∙ ap (λ y. writes (vm.outcome_answer y) (outer_with_memory s.world.outer m)) (negation_is b z value_is back))
+      (unary_on c found Negate d i.Long b r2 s.world m refl (record { is_one = word_is; stands = held2 }) ∙ ap (λ y. writes (vm.outcome_answer y) (outer_with_memory s.world.outer m)) (negation_is b z value_is back))
       (insn_on c found (n.Binary Add P64 addr addr reg) (next_place q2) r3 s.world m (x.0 ∷ []) at4.has.0 refl
       (ap (λ y. writes (vm.pointer_answer m Add (r3 addr) y) (outer_with_memory s.world.outer m)) (set_same r2 reg (Word w1)) ∙ ap (λ y. writes (vm.value_answer (pointer_plus m (r3 addr) y)) (outer_with_memory s.world.outer m)) (value-word i.Long (neg_ℤ z) (small_fits (neg_ℤ z) back))
       ∙ ap (λ y. writes (vm.value_answer y) (outer_with_memory s.world.outer m)) x.1)
-      (next (next_place (next_place q2)) (set_register addr x.0 r3) (at_plain c.code.blocks c.last c.end _ at4) (fits_temporary d P64 x.0 (fits_temporary (suc d) S64 (Word w1) fit2)) (kept_temporary d P64 x.0 (omega arith) (lower kept3)) (value_at g u x.0 r3 addr x.2)))))
-    where
-      lower : {r2 : Registers} → KeepsLower (count c) (suc d) r r2 → KeepsLower (count c) d r r2
-      lower h = record { same = λ i low high. h.same i low (omega (arith, high)) }
+      (next (next_place (next_place q2)) (set_register addr x.0 r3) (at_plain c.code.blocks c.last c.end _ at4) (fits_temporary a P64 x.0 (fits_temporary d S64 (Word w1) fit2)) (kept_temporary a P64 x.0 below_a (kept_on below_d kept_all kept3.lower)) (value_at g u x.0 r3 addr x.2)))))
 
 module _ (c : Setting) (found : slice_get c.functions c.number ≡ Some c.code) (target : PlainType) (t : IntegerType) (x y : Expr) (le : size_of c.structs target ≤ MOST_DATA) (ex : type_of x ≡ Pointer target) (ey : type_of y ≡ plain_of t) (hx : ExprMeets c x) (hy : ExprMeets c y) where
   abbrev size : ℕ
@@ -174,7 +157,7 @@ module _ (c : Setting) (found : slice_get c.functions c.number ≡ Some c.code) 
         (number_meets c.rooms c.functions w u (λ k u1. finish (moves k u1) K) _ (λ k is.
         known_meets c.rooms c.functions (move_reason u.world.outer.memory v) (element_plus u.world.outer.memory v (neg_ℤ (value t k) *ℤ pos size)) u K _ (λ result e.
         let moved = moved_by u.world.outer.memory v (neg_ℤ (value t k) *ℤ pos size) result e in
-        moved_back c found rest heads h scope u m2 d t k size v result q2 q3 le moved at2 fit2 rel (word_in h (count c) (suc d) (type_of y) t w k q3 ey is held2 stands2)
+        moved_back c found rest heads h scope u m2 d (suc d) (suc (suc d)) d (omega arith) (omega arith) (omega arith) t k size v result q2 q3 le moved at2 fit2 rel (word_in h (count c) (suc d) (type_of y) t w k q3 ey is held2 stands2)
         (λ q4 r4 at4 fit4 kept4 rel4.
         next q4 result h u r4 m2 at4 (after_on aft aft2) fit4 (kept_on (omega arith) (kept_on (omega arith) kept kept2) kept4) (moved_held u.world.outer.memory v result (neg_ℤ (value t k) *ℤ pos size) target moved.moved) rel4)))))))));
   }

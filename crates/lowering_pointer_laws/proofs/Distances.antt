@@ -1,12 +1,12 @@
 -- The code of the distance of two pointers in elements.
-use Rattle.std.proofs.Common.{◌≡◌, ◌≢◌, ℕ, zero, suc, ◌+◌, ◌-◌, ◌*◌, ◌%◌, ◌^◌, ◌<◌, ◌≤◌, ◌==◌, ◌&&◌, cond, ltb, ℤ, pos, negsuc, neg_ℤ, ◌+ℤ◌, ◌-ℤ◌, ◌*ℤ◌, ◌<ℤ◌, List, ◌∷◌, [], Bool, true, false, Option, Some, None, refl, sym, ap, ◌∙◌, subst, arith, lt-ltb, ltb-false}
+use Rattle.std.proofs.Common.{◌≡◌, ◌≢◌, ℕ, zero, suc, ◌-◌, ◌%◌, ◌^◌, ◌≤◌, ◌==◌, ◌&&◌, cond, ltb, ℤ, pos, negsuc, ◌+ℤ◌, ◌-ℤ◌, ◌*ℤ◌, ◌<ℤ◌, List, ◌∷◌, [], Bool, true, false, Some, None, refl, sym, ap, ◌∙◌, subst, arith, lt-ltb}
 use Rattle.std.specs.Prelude as prelude
 use Rattle.std.specs.Prelude.{if◌then◌else◌, slice_get, not, nat_lt, int_div, int_rem}
 use Rattle.std.specs.Ordering.{int_eq}
 use Rattle.std.specs.Int.{w64}
 use Rattle.std.proofs.Math.IntN.{+ℤ_idr}
 use Rattle.std.proofs.lemmas.Int.{quot-rem, quot_fits}
-use Rattle.std.proofs.lemmas.Bool.{eqb-true, cases_eq}
+use Rattle.std.proofs.lemmas.Bool.{eqb-true}
 use Rattle.std.proofs.lemmas.Bool.Decides.{Decides-int_eq}
 use Rattle.mem_model.specs.declared.value.Ptr.{Ptr}
 use Rattle.mem_model.specs.declared.value.Value.{Value}
@@ -30,10 +30,9 @@ use Rattle.c_typed_tree.specs.Types.{PlainType, Pointer}
 use Rattle.c_typed_tree.specs.Layout.{size_of}
 use Rattle.c_typed_tree.specs.Expressions.{Expr, Binary, type_of}
 use Rattle.c_semantics.specs.Reasons.{ComparesApart}
-use Rattle.c_semantics.specs.Runs.{State, Run, and_then, or_undefined, pure, undefined}
-use Rattle.c_semantics.specs.Objects.{Scope, stands_inside}
+use Rattle.c_semantics.specs.Runs.{State, Run, or_undefined, pure, undefined}
+use Rattle.c_semantics.specs.Objects.{Scope}
 use Rattle.c_semantics.specs.Operators.{unless_dead, binary, bytes_between, elements}
-use Rattle.c_semantics.specs.Evaluates.{eval}
 use Rattle.suifvm_ir.specs.declared.types.VmType.TheVariants.{S64, P64}
 use Rattle.suifvm_ir.specs.declared.insn.BinaryOp.TheVariants.{Subtract, Divide}
 use Rattle.suifvm_ir.specs.declared.insn.VmInsn.TheVariants as n
@@ -43,12 +42,12 @@ use Rattle.vm_meaning.specs.Effect.{writes}
 use Rattle.vm_meaning.specs.Behave.{Registers, set_register}
 use Rattle.lowering_code.specs.declared.item.CodeItem.{CodeItem}
 use Rattle.lowering_code.specs.declared.item.CodeItem.TheVariants.{Plain}
-use Rattle.lowering_code.specs.Registers.{register_type, value_register, address_register, bytes_register}
+use Rattle.lowering_code.specs.Registers.{address_register, bytes_register}
 use Rattle.lowering_code.specs.Expressions.{plain_of, cap_offset, divided_code, binary_code, expr_code}
 use Rattle.lowering_states.specs.Places.{Place, next_place}
 use Rattle.lowering_states.specs.Runs.{opens, Observation, finish}
 use Rattle.lowering_states.proofs.Steps.{meets_anything, meets_same, known_meets}
-use Rattle.lowering_states.proofs.States.{set_same, ne_eqb, set_other, other_depth, kept_temporary, value_at, fits_temporary}
+use Rattle.lowering_states.proofs.States.{set_same, ne_eqb, set_other, other_depth, kept_temporary, fits_temporary}
 use Rattle.lowering_values.proofs.Operators.{operators_correspond}
 use Rattle.lowering_expression_places.proofs.Behind.{at_plain}
 use Rattle.lowering_states.specs.States.{KeepsLower}

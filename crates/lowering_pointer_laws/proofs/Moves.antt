@@ -114,7 +114,7 @@ pub record KeepsOthers (L j : ℕ) (r q : Registers) : Type 0 where
 kept_others : {L j : ℕ} {r : Registers} → KeepsOthers L j r r
 kept_others = record { lower = kept_all; addresses = λ e. refl }
 
-kept_bytes : {L j : ℕ} (e : ℕ) (v : Value) {r q : Registers} → j ≤ e → KeepsOthers L j r q → KeepsOthers L j r (set_register (bytes_register L e) v q)
+pub kept_bytes : {L j : ℕ} (e : ℕ) (v : Value) {r q : Registers} → j ≤ e → KeepsOthers L j r q → KeepsOthers L j r (set_register (bytes_register L e) v q)
 kept_bytes {L = L} e v {q = q} le h = record {
   lower = kept_temporary e S64 v le h.lower;
   addresses = λ k. set_other q (bytes_register L e) (address_register L k) v (λ same. absurd (omega (arith, same))) ∙ h.addresses k;
@@ -182,30 +182,26 @@ module _ (c : Setting) (found : slice_get c.functions c.number ≡ Some c.code) 
           (next (next_place (next_place q)) (set_register reg (Word bytes) r1) bytes (at_plain c.code.blocks c.last c.end _ at3) (fits_temporary j S64 (Word bytes) (fits_temporary free S64 (Word size) fit))
           (kept_bytes j (Word bytes) (omega arith) (kept_bytes free (Word size) (omega (arith, above_it)) kept_others)) (set_same r1 reg (Word bytes)) (value-word i.Long z (small_fits z small)) (is_word-extension i.Long _)))
 
-  -- the pointer at a depth is moved by the elements above it
-  moved_leads : {o : Observation} (d : ℕ) (t : IntegerType) (k size : ℕ) (v u : Value) (q : Place) (r : Registers) → size ≤ MOST_DATA → IsMovedBy s.world.outer.memory v (value t k *ℤ pos size) u
-      → Stands c heads q (scaled_code L (suc d) (suc (suc d)) (plain_of t) (cap_offset size) (add_code (address_register L d) (address_register L d) (bytes_register L (suc d)) rest)) → Fit c g scope r s m → IsValueOf g v (r (address_register L d)) → WordIn L (suc d) t k r
-      → ((q1 : Place) (r1 : Registers) → Stands c heads q1 rest → Fit c g scope r1 s m → KeepsLower L d r r1 → IsValueOf g u (r1 (address_register L d)) → EndsSo c o q1 r1 s.world m) → EndsSo c o q r s.world m
-  moved_leads {o = o} d t k size v u q r le is at fit rel one next =
-      let addr = address_register L d in
-      let reg = bytes_register L (suc d) in
+  -- the pointer at a depth is moved by the elements at another one; what stands below both stays
+  pub moved_leads : {o : Observation} (a d free low : ℕ) → d < free → low ≤ a → low ≤ d → (t : IntegerType) (k size : ℕ) (v u : Value) (q : Place) (r : Registers) → size ≤ MOST_DATA → IsMovedBy s.world.outer.memory v (value t k *ℤ pos size) u
+      → Stands c heads q (scaled_code L d free (plain_of t) (cap_offset size) (add_code (address_register L a) (address_register L a) (bytes_register L d) rest)) → Fit c g scope r s m → IsValueOf g v (r (address_register L a)) → WordIn L d t k r
+      → ((q1 : Place) (r1 : Registers) → Stands c heads q1 rest → Fit c g scope r1 s m → KeepsLower L low r r1 → IsValueOf g u (r1 (address_register L a)) → EndsSo c o q1 r1 s.world m) → EndsSo c o q r s.world m
+  moved_leads {o = o} a d free low above below_a below_d t k size v u q r le is at fit rel one next =
+      let addr = address_register L a in
+      let reg = bytes_register L d in
       let small : IsSmall (value t k *ℤ pos size) = is.small (λ p live. fit.small p.object live) in
       let capped : cap_offset size ≡ size = omega (arith, le) in
-      let at1 = subst (λ z. Stands c heads q (scaled_code L (suc d) (suc (suc d)) (plain_of t) z (add_code addr addr reg rest))) capped at in
-      long_leads (suc d) t k (sized_code L (suc d) (suc (suc d)) size (add_code addr addr reg rest)) q r at1 fit one
+      let at1 = subst (λ z. Stands c heads q (scaled_code L d free (plain_of t) z (add_code addr addr reg rest))) capped at in
+      long_leads d t k (sized_code L d free size (add_code addr addr reg rest)) q r at1 fit one
       (λ q1 r1 at2 fit1 kept1 held1.
-      sized_leads (suc d) (suc (suc d)) (omega arith) size (conversion t i.Long k) (value t k *ℤ pos size) (add_code addr addr reg rest) q1 r1 le (long_bytes t k size small) small (is_word-extension i.Long _) at2 fit1 held1
+      sized_leads d free above size (conversion t i.Long k) (value t k *ℤ pos size) (add_code addr addr reg rest) q1 r1 le (long_bytes t k size small) small (is_word-extension i.Long _) at2 fit1 held1
       (λ q2 r2 b at3 fit2 kept2 held2 value_is _.
-      let kept3 : KeepsLower L (suc d) r r2 = (kept_both kept1 kept2).lower in
-      let same : r2 addr ≡ r addr = kept_reads d P64 (omega arith) kept3 in
-      let x = moves_correspond g s.world.outer.memory m fit2.memory v (r2 addr) u (value t k *ℤ pos size) (subst (λ z. IsValueOf g v z) (sym same) rel) is.moved in
+      let kept3 : KeepsOthers L d r r2 = kept_both kept1 kept2 in
+      let x = moves_correspond g s.world.outer.memory m fit2.memory v (r2 addr) u (value t k *ℤ pos size) (subst (λ z. IsValueOf g v z) (sym (kept3.addresses a)) rel) is.moved in
       insn_on c found (n.Binary Add P64 addr addr reg) q2 r2 s.world m (x.0 ∷ []) at3.has.0 refl
       (ap (λ z. writes (vm.pointer_answer m Add (r2 addr) z) (outer_with_memory s.world.outer m)) held2 ∙ ap (λ z. writes (vm.value_answer (pointer_plus m (r2 addr) z)) (outer_with_memory s.world.outer m)) value_is
       ∙ ap (λ z. writes (vm.value_answer z) (outer_with_memory s.world.outer m)) x.1)
-      (next (next_place q2) (set_register addr x.0 r2) (at_plain c.code.blocks c.last c.end _ at3) (fits_temporary d P64 x.0 fit2) (kept_temporary d P64 x.0 (omega arith) (lower kept3)) (value_at g u x.0 r2 addr x.2))))
-    where
-      lower : {r2 : Registers} → KeepsLower L (suc d) r r2 → KeepsLower L d r r2
-      lower h = record { same = λ i low high. h.same i low (omega (arith, high)) }
+      (next (next_place q2) (set_register addr x.0 r2) (at_plain c.code.blocks c.last c.end _ at3) (fits_temporary a P64 x.0 fit2) (kept_temporary a P64 x.0 below_a (kept_on below_d kept_all kept3.lower)) (value_at g u x.0 r2 addr x.2))))
 
 -- ---- sums and elements
 
@@ -273,7 +269,7 @@ module _ (c : Setting) (found : slice_get c.functions c.number ≡ Some c.code) 
       (number_meets c.rooms c.functions w u (λ k u1. finish (moves k u1) K) _ (λ k is.
       known_meets c.rooms c.functions (move_reason u.world.outer.memory v) (element_plus u.world.outer.memory v (value t k *ℤ pos size)) u K _ (λ result e.
       let moved = moved_by u.world.outer.memory v (value t k *ℤ pos size) result e in
-      moved_leads c found rest heads h scope u m2 d t k size v result q2 q3 le moved at2 fit2 rel (word_in h (count c) (suc d) (type_of y) t w k q3 ey is held2 stands2)
+      moved_leads c found rest heads h scope u m2 d (suc d) (suc (suc d)) d (omega arith) (omega arith) (omega arith) t k size v result q2 q3 le moved at2 fit2 rel (word_in h (count c) (suc d) (type_of y) t w k q3 ey is held2 stands2)
       (λ q4 r4 at4 fit4 kept4 rel4.
       next q4 result h u r4 m2 at4 (after_on aft aft2) fit4 (kept_on (omega arith) (kept_on (omega arith) kept kept2) kept4) (moved_held u.world.outer.memory v result (value t k *ℤ pos size) target moved.moved) rel4))))))))
 
