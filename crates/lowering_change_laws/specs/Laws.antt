@@ -38,18 +38,19 @@ pub record StepsMeet (c : Setting) (ty : PlainType) (x : Expr) : Type 0 where
   pub decrements : ExprMeets c (Unary ty u.Decrement x)
   pub postfixes : (op : StepOp) → ExprMeets c (Postfix ty op x)
 
--- changes of a place, where the code of the right side does what it does: of one of an integer type, in the type in which
--- the operator is done, and of one of a pointer, which is moved by elements
+-- changes of a place, where the code of the right side does what it does: of an integer, in the type in which the
+-- operator is done, and of a pointer, which is moved by elements
 pub record ChangesMeet (c : Setting) (x : Expr) (ty : PlainType) : Type 0 where
-  pub integers : (left : IntegerType) → ty ≡ plain_of left → (op : AssignOp) (o : BinaryOp) (right : IntegerType) (y : Expr)
-      → operator_of op ≡ Some o → type_of y ≡ plain_of right
+  pub integers : (left : IntegerType) → ty ≡ plain_of left → (op : AssignOp) (o : BinaryOp) (right : IntegerType)
+      (y : Expr) → operator_of op ≡ Some o → type_of y ≡ plain_of right
       → promote (operation_type o left right) ≡ operation_type o left right → ExprMeets c y
       → ExprMeets c (Assign ty op x y)
   pub integer_steps : (left : IntegerType) → ty ≡ plain_of left → StepsMeet c ty x
   pub pointers : (target : PlainType) → ty ≡ Pointer target → size_of c.structs target ≤ MOST_DATA → (op : StepOp)
       (right : IntegerType) (y : Expr) → type_of y ≡ plain_of right → ExprMeets c y
       → ExprMeets c (Assign ty (moving op) x y)
-  pub pointer_steps : (target : PlainType) → ty ≡ Pointer target → size_of c.structs target ≤ MOST_DATA → StepsMeet c ty x
+  pub pointer_steps : (target : PlainType) → ty ≡ Pointer target → size_of c.structs target ≤ MOST_DATA
+      → StepsMeet c ty x
 
 -- of a local that a register holds
 abbrev pub RegistersAreChanged : Type 0

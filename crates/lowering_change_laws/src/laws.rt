@@ -2,8 +2,8 @@
 
 ghost use Rattle.lowering_change_laws.specs.Laws.{RegistersAreChanged, MemoryIsChanged};
 
-/// The code of a compound assignment to a scalar that a register holds, and of `++` and `--` of one, before it and behind
-/// it, does what these do, where that of the right side does.
+/// The code of a compound assignment to a scalar that a register holds, and of `++` and `--` of one, before it and
+/// behind it, does what these do, where that of the right side does.
 pub fn registers_are_changed()
     ensures { RegistersAreChanged }
 {}
