@@ -50,11 +50,15 @@ set_too f (Word k) w r e = ap vm.is_set r
 set_too f (Address k) w r e = ap vm.is_set r.1
 set_too f Unset w r e = absurd (cc)
 
-all_set : (f : Names) (vs ws : List Value) → AreArguments f vs ws → list_all vm.is_set ws ≡ true
-all_set f [] [] h = refl
-all_set f [] (w ∷ ws) h = absurd h
-all_set f (v ∷ vs) [] h = absurd h
-all_set f (v ∷ vs) (w ∷ ws) h = ap (λ z. z && list_all vm.is_set ws) h.0 ∙ all_set f vs ws h.2
+all_set : (f : Names) (tys : List PlainType) (vs ws : List Value) → AreArguments f tys vs ws → list_all vm.is_set ws ≡ true
+all_set f [] [] [] h = refl
+all_set f [] [] (w ∷ ws) h = absurd h
+all_set f [] (v ∷ vs) [] h = absurd h
+all_set f [] (v ∷ vs) (w ∷ ws) h = absurd h
+all_set f (ty ∷ tys) [] [] h = absurd h
+all_set f (ty ∷ tys) [] (w ∷ ws) h = absurd h
+all_set f (ty ∷ tys) (v ∷ vs) [] h = absurd h
+all_set f (ty ∷ tys) (v ∷ vs) (w ∷ ws) h = ap (λ z. z && list_all vm.is_set ws) h.0 ∙ all_set f tys vs ws h.3
 
 -- the value of a call, as its type holds it
 result_is : (ty : PlainType) (v : Value) (s : State) (K : Value → State → Observation) → IsScalarType ty → IsHeld ty v → finish (call_result ty v s) K ≡ K v s
@@ -83,38 +87,40 @@ module _ (c : Setting) (found : slice_get c.functions c.number ≡ Some c.code) 
 
   -- ---- arguments
 
-  abbrev ArgumentsFollow : (d : ℕ) → Exprs → (heads : List ℕ) → (rest : List CodeItem) → Names → Scope → Registers → State → Memory → (List Value → State → Observation) → Type 0
-  ArgumentsFollow d xs heads rest f scope r s m K =
+  abbrev ArgumentsFollow : (d : ℕ) → List PlainType → Exprs → (heads : List ℕ) → (rest : List CodeItem) → Names → Scope → Registers → State → Memory → (List Value → State → Observation) → Type 0
+  ArgumentsFollow d tys xs heads rest f scope r s m K =
       (q : Place) (vs : List Value) (g : Names) (t : State) (q1 : Registers) (m1 : Memory) → Stands c heads q rest → Aft c f s m g t m1 → Fit c g scope q1 t m1 → KeepsLower L d r q1
-      → AreArguments g vs (map q1 (argument_registers L c.structs c.locals d xs)) → EndsSo c (K vs t) q q1 t.world m1
+      → AreArguments g tys vs (map q1 (argument_registers L c.structs c.locals d xs)) → EndsSo c (K vs t) q q1 t.world m1
 
-  arguments : (xs : Exprs) → ArgumentsMeet c xs → (d : ℕ) (rest : List CodeItem) (heads : List ℕ) (p : Place) (f : Names) (scope : Scope) (r : Registers) (s : State) (m : Memory) (K : List Value → State → Observation)
-      → Stands c heads p (exprs_code L c.structs c.locals d xs rest) → Fit c f scope r s m → s.world.meter.turns ≤ c.level → ArgumentsFollow d xs heads rest f scope r s m K
+  arguments : (tys : List PlainType) (xs : Exprs) → ArgumentsMeet c tys xs → (d : ℕ) (rest : List CodeItem) (heads : List ℕ) (p : Place) (f : Names) (scope : Scope) (r : Registers) (s : State) (m : Memory) (K : List Value → State → Observation)
+      → Stands c heads p (exprs_code L c.structs c.locals d xs rest) → Fit c f scope r s m → s.world.meter.turns ≤ c.level → ArgumentsFollow d tys xs heads rest f scope r s m K
       → EndsSo c (finish (evals c.structs c.locals c.calls scope xs s) K) p r s.world m
   unfolding opens
-  arguments no_exprs all d rest heads p f scope r s m K at fit low next = next p [] f s r m at after_same fit kept_all tt
-  arguments (more_exprs x xs) all d rest heads p f scope r s m K at fit low next =
+  arguments [] (more_exprs x xs) all d rest heads p f scope r s m K at fit low next = absurd all
+  arguments (ty ∷ tys) no_exprs all d rest heads p f scope r s m K at fit low next = absurd all
+  arguments [] no_exprs all d rest heads p f scope r s m K at fit low next = next p [] f s r m at after_same fit kept_all tt
+  arguments (ty ∷ tys) (more_exprs x xs) all d rest heads p f scope r s m K at fit low next =
       let more : Value → Run (List Value) = λ v t. and_then (evals c.structs c.locals c.calls scope xs t) (λ vs. pure (v ∷ vs)) in
       bound c found (and_then (eval c.structs c.locals c.calls scope x s) (use_value UsesNoValue)) more K p r s.world m
       (bound c found (eval c.structs c.locals c.calls scope x s) (use_value UsesNoValue) (λ v t. finish (more v t) K) p r s.world m
-      (all.1.by d (exprs_code L c.structs c.locals (suc d) xs rest) heads p f scope r s m (λ v t. finish (use_value UsesNoValue v t) (λ v t1. finish (more v t1) K)) at fit low
+      (all.2.by d (exprs_code L c.structs c.locals (suc d) xs rest) heads p f scope r s m (λ v t. finish (use_value UsesNoValue v t) (λ v t1. finish (more v t1) K)) at fit low
       (λ q v g t q1 m1 at1 aft fit1 kept held stands.
       used_meets c.rooms c.functions UsesNoValue v t (λ v t1. finish (more v t1) K) _ (λ set.
       bound c found (evals c.structs c.locals c.calls scope xs t) (λ vs. pure (v ∷ vs)) K q q1 t.world m1
-      (arguments xs all.2 (suc d) rest heads q g scope q1 t m1 (λ vs u. K (v ∷ vs) u) at1 fit1 (omega (arith, aft.turned, low))
+      (arguments tys xs all.3 (suc d) rest heads q g scope q1 t m1 (λ vs u. K (v ∷ vs) u) at1 fit1 (omega (arith, aft.turned, low))
       (λ q2 vs h u q3 m2 at2 aft2 fit2 kept2 rels.
       let reg = value_register L d (type_of x) in
       let same : q3 reg ≡ q1 reg = kept_reads d (register_type (type_of x)) (omega arith) kept2 in
-      let rel : IsValueOf h v (q3 reg) = subst (λ z. IsValueOf h v z) (sym same) (values_stay g h v (q1 reg) aft2.names (scalar_in g (type_of x) v (q1 reg) all.0 stands)) in
-      next q2 (v ∷ vs) h u q3 m2 at2 (after_on aft aft2) fit2 (kept_on (omega arith) kept kept2) (set_too h v (q3 reg) rel set, rel, rels)))))))
+      let rel : IsValueOf h v (q3 reg) = subst (λ z. IsValueOf h v z) (sym same) (values_stay g h v (q1 reg) aft2.names (scalar_in g (type_of x) v (q1 reg) (subst IsScalarType (sym all.0) all.1) stands)) in
+      next q2 (v ∷ vs) h u q3 m2 at2 (after_on aft aft2) fit2 (kept_on (omega arith) kept kept2) (set_too h v (q3 reg) rel set, subst (λ z. IsHeld z v) all.0 held, rel, rels)))))))
 
   -- ---- calls
 
-  module _ (ty : PlainType) (k : ℕ) (xs : Exprs) (callee : FunctionMeets c k ty) where
+  module _ (ty : PlainType) (k : ℕ) (tys : List PlainType) (xs : Exprs) (callee : FunctionMeets c k tys ty) where
     -- once the arguments stand in registers
     call_leads : (destination : Option ℕ) (d : ℕ) (rest : List CodeItem) (heads : List ℕ) (scope : Scope) (K : Value → State → Observation)
         (q : Place) (vs : List Value) (g : Names) (t : State) (q1 : Registers) (m1 : Memory) → Stands c heads q (Plain (n.Call destination (vk.Function k) (argument_registers L c.structs c.locals d xs)) ∷ rest)
-        → Fit c g scope q1 t m1 → AreArguments g vs (map q1 (argument_registers L c.structs c.locals d xs)) → t.world.meter.turns ≤ c.level
+        → Fit c g scope q1 t m1 → AreArguments g tys vs (map q1 (argument_registers L c.structs c.locals d xs)) → t.world.meter.turns ≤ c.level
         → ((v : Value) (us : List Value) (h : Names) (t2 : State) (n1 : Memory) → Stands c heads (next_place q) rest → IsHeld ty v → IsValueOf h v (first_or_unset us) → Aft c g t m1 h t2 n1 → Fit c h scope q1 t2 n1
         → EndsSo c (finish (call_result ty v t2) K) (next_place q) (set_registers (writes_of (n.Call destination (vk.Function k) (argument_registers L c.structs c.locals d xs))) us q1) t2.world n1)
         → EndsSo c (finish (c.calls k vs t) (λ v u. finish (call_result ty v u) K)) q q1 t.world m1
@@ -134,7 +140,7 @@ module _ (c : Setting) (found : slice_get c.functions c.number ≡ Some c.code) 
         let back : Value → Run Value = λ v u. Gives v (record { registers = t.registers; world = leave_function c.rooms k u.world }) in
         bound c found (callee.body vs inner) back K1 q q1 t.world m1
         (calling c.rooms c.functions c.number c.code found c.own c.waiting insn q q1 t.world m1 mt k callee.code ws at.has.0 refl some callee.found
-        (ap (λ z. if z then machine.Calls k ws (outer_with_memory t.world.outer m1) else machine.Stops machine.HasNoMeaning (outer_with_memory t.world.outer m1)) (all_set g vs ws rels))
+        (ap (λ z. if z then machine.Calls k ws (outer_with_memory t.world.outer m1) else machine.Stops machine.HasNoMeaning (outer_with_memory t.world.outer m1)) (all_set g tys vs ws rels))
         (callee.by vs ws g inner m1 (frame_of c.number c.own q q1 ∷ c.waiting) (λ v u. finish (back v u) K1) rels fit.statics fit.memory fit.small fit.bytes (omega (arith, less, low))
         (λ v us h u n1 held rel aft1 mem bytes.
         let t2 : State = record { registers = t.registers; world = leave_function c.rooms k u.world } in
@@ -144,7 +150,7 @@ module _ (c : Setting) (found : slice_get c.functions c.number ≡ Some c.code) 
         (λ none. no_turn c.rooms c.functions c.number c.code found c.own c.waiting insn q q1 t.world m1 at.has.0 refl none refl)))
 
     -- a scalar result comes into the register of its type
-    calls : IsScalarType ty → ArgumentsMeet c xs → ExprMeets c (Call ty (Function k) xs)
+    calls : IsScalarType ty → ArgumentsMeet c tys xs → ExprMeets c (Call ty (Function k) xs)
     unfolding opens
     calls scalar all = record {
       by = λ d rest heads p f scope r s m K at fit low next.
@@ -153,7 +159,7 @@ module _ (c : Setting) (found : slice_get c.functions c.number ≡ Some c.code) 
           let at2 = subst (λ z. Stands c heads p (exprs_code L c.structs c.locals d xs (Plain (n.Call z (vk.Function k) registers) ∷ rest))) (destination_is c d ty scalar) at in
           bound c found (and_then (evals c.structs c.locals c.calls scope xs s) (c.calls k)) (call_result ty) K p r s.world m
           (bound c found (evals c.structs c.locals c.calls scope xs s) (c.calls k) (λ v u. finish (call_result ty v u) K) p r s.world m
-          (arguments xs all d (Plain (n.Call (Some reg) (vk.Function k) registers) ∷ rest) heads p f scope r s m (λ vs t. finish (c.calls k vs t) (λ v u. finish (call_result ty v u) K)) at2 fit low
+          (arguments tys xs all d (Plain (n.Call (Some reg) (vk.Function k) registers) ∷ rest) heads p f scope r s m (λ vs t. finish (c.calls k vs t) (λ v u. finish (call_result ty v u) K)) at2 fit low
           (λ q vs g t q1 m1 at1 aft fit1 kept rels.
           call_leads (Some reg) d rest heads scope K q vs g t q1 m1 at1 fit1 rels (omega (arith, aft.turned, low))
           (λ v us h t2 n1 at3 held rel aft2 fit2.
@@ -164,16 +170,16 @@ module _ (c : Setting) (found : slice_get c.functions c.number ≡ Some c.code) 
     }
 
   -- where there is no result, none is put
-  voids : (k : ℕ) (xs : Exprs) → FunctionMeets c k Void → ArgumentsMeet c xs → ExprMeets c (Call Void (Function k) xs)
+  voids : (k : ℕ) (tys : List PlainType) (xs : Exprs) → FunctionMeets c k tys Void → ArgumentsMeet c tys xs → ExprMeets c (Call Void (Function k) xs)
   unfolding opens
-  voids k xs callee all = record {
+  voids k tys xs callee all = record {
     by = λ d rest heads p f scope r s m K at fit low next.
         let registers = argument_registers L c.structs c.locals d xs in
         bound c found (and_then (evals c.structs c.locals c.calls scope xs s) (c.calls k)) (call_result Void) K p r s.world m
         (bound c found (evals c.structs c.locals c.calls scope xs s) (c.calls k) (λ v u. finish (call_result Void v u) K) p r s.world m
-        (arguments xs all d (Plain (n.Call None (vk.Function k) registers) ∷ rest) heads p f scope r s m (λ vs t. finish (c.calls k vs t) (λ v u. finish (call_result Void v u) K)) at fit low
+        (arguments tys xs all d (Plain (n.Call None (vk.Function k) registers) ∷ rest) heads p f scope r s m (λ vs t. finish (c.calls k vs t) (λ v u. finish (call_result Void v u) K)) at fit low
         (λ q vs g t q1 m1 at1 aft fit1 kept rels.
-        call_leads Void k xs callee None d rest heads scope K q vs g t q1 m1 at1 fit1 rels (omega (arith, aft.turned, low))
+        call_leads Void k tys xs callee None d rest heads scope K q vs g t q1 m1 at1 fit1 rels (omega (arith, aft.turned, low))
         (λ v us h t2 n1 at3 held rel aft2 fit2.
         meets_same c.rooms c.functions (nothing_is v t2 K)
         (next (next_place q) v h t2 q1 n1 at3 (after_on {n1 = m1} aft aft2) fit2 kept held tt)))));
@@ -185,7 +191,7 @@ module _ (c : Setting) (found : slice_get c.functions c.number ≡ Some c.code) 
       nothing_is Unset s K = refl
 
 pub calls_meet : CallsMeet
-calls_meet c found ty k xs scalar callee all = calls c found ty k xs callee scalar all
+calls_meet c found ty k tys xs scalar callee all = calls c found ty k tys xs callee scalar all
 
 pub calls_without_results_meet : CallsWithoutResultsMeet
-calls_without_results_meet c found k xs callee all = voids c found k xs callee all
+calls_without_results_meet c found k tys xs callee all = voids c found k tys xs callee all

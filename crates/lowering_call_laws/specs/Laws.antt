@@ -20,26 +20,30 @@ use Rattle.lowering_states.specs.States.{IsHeld, After, is_live, size_in}
 use Rattle.lowering_expression_laws.specs.Parts.{Setting, ExprMeets}
 use Rattle.lowering_expression_laws.specs.Laws.{IsScalarType}
 
--- arguments on both sides, each of them set
-abbrev pub AreArguments : Names → List Value → List Value → Type 0
-AreArguments f [] [] = Unit {0}
-AreArguments f (v ∷ vs) (w ∷ ws) = (is_set w ≡ true) × IsValueOf f v w × AreArguments f vs ws
-AreArguments f _ _ = ⊥
+-- arguments for parameters of these types on both sides, each of them set and of its type
+abbrev pub AreArguments : Names → List PlainType → List Value → List Value → Type 0
+AreArguments f [] [] [] = Unit {0}
+AreArguments f (ty ∷ tys) (v ∷ vs) (w ∷ ws) =
+    (is_set w ≡ true) × IsHeld ty v × IsValueOf f v w × AreArguments f tys vs ws
+AreArguments f _ _ _ = ⊥
 
--- arguments of scalar types whose code does what they do
-abbrev pub ArgumentsMeet : Setting → Exprs → Type 0
-ArgumentsMeet c no_exprs = Unit {0}
-ArgumentsMeet c (more_exprs x xs) = IsScalarType (type_of x) × ExprMeets c x × ArgumentsMeet c xs
+-- expressions of these types, each of them scalar, whose code does what they do
+abbrev pub ArgumentsMeet : Setting → List PlainType → Exprs → Type 0
+ArgumentsMeet c [] no_exprs = Unit {0}
+ArgumentsMeet c (ty ∷ tys) (more_exprs x xs) =
+    (type_of x ≡ ty) × IsScalarType ty × ExprMeets c x × ArgumentsMeet c tys xs
+ArgumentsMeet c _ _ = ⊥
 
--- the code of a function whose result has a type does what its body does, one level down: from its entry, where its
--- objects have begun, the run ends as the value of the body, handed on, does, where a return with that value does
-pub record FunctionMeets (c : Setting) (k : ℕ) (ty : PlainType) : Type 0 where
+-- the code of a function whose parameters and result have these types does what its body does, one level down: from its
+-- entry, where its objects have begun, the run ends as the value of the body, handed on, does, where a return with that
+-- value does
+pub record FunctionMeets (c : Setting) (k : ℕ) (tys : List PlainType) (ty : PlainType) : Type 0 where
   pub code : FunctionCode
   pub found : slice_get c.functions k ≡ Some code
   pub body : List Value → Run Value
   pub is : (vs : List Value) → c.calls k vs ≡ (turn >> within_call c.rooms k (body vs))
   pub by : (vs ws : List Value) (f : Names) (s : State) (n : Memory) (waiting : List (Frame Registers))
-      (K : Value → State → Observation) → AreArguments f vs ws → ((j : ℕ) → j < c.statics → f j ≡ Some j)
+      (K : Value → State → Observation) → AreArguments f tys vs ws → ((j : ℕ) → j < c.statics → f j ≡ Some j)
       → IsMemoryOf f s.world.outer.memory n
       → ((o : ℕ) → is_live s.world.outer.memory o ≡ true → size_in s.world.outer.memory o ≤ MOST_DATA)
       → All (λ b. b < 256) s.world.outer.input → s.world.meter.turns < c.level →
@@ -54,10 +58,11 @@ pub record FunctionMeets (c : Setting) (k : ℕ) (ty : PlainType) : Type 0 where
 
 abbrev pub CallsMeet : Type 0
 CallsMeet =
-    (c : Setting) → slice_get c.functions c.number ≡ Some c.code → (ty : PlainType) (k : ℕ) (xs : Exprs) →
-    IsScalarType ty → FunctionMeets c k ty → ArgumentsMeet c xs → ExprMeets c (Call ty (Function k) xs)
+    (c : Setting) → slice_get c.functions c.number ≡ Some c.code → (ty : PlainType) (k : ℕ) (tys : List PlainType)
+    (xs : Exprs) → IsScalarType ty → FunctionMeets c k tys ty → ArgumentsMeet c tys xs
+    → ExprMeets c (Call ty (Function k) xs)
 
 abbrev pub CallsWithoutResultsMeet : Type 0
 CallsWithoutResultsMeet =
-    (c : Setting) → slice_get c.functions c.number ≡ Some c.code → (k : ℕ) (xs : Exprs) → FunctionMeets c k Void
-    → ArgumentsMeet c xs → ExprMeets c (Call Void (Function k) xs)
+    (c : Setting) → slice_get c.functions c.number ≡ Some c.code → (k : ℕ) (tys : List PlainType) (xs : Exprs) →
+    FunctionMeets c k tys Void → ArgumentsMeet c tys xs → ExprMeets c (Call Void (Function k) xs)

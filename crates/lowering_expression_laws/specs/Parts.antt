@@ -27,7 +27,7 @@ use Rattle.lowering_states.specs.States.{IsHeld, IsIn, Fits, KeepsLower, After}
 
 -- a call of a function of the code: its number, the number of its first object, its code, the number of its last block
 -- and how that ends, and the calls that wait; and what the C meaning has beside it: how many objects of static storage,
--- the structs, the locals of the function, and what functions do one level down
+-- the structs, the locals of the function, the type of its result, and what functions do one level down
 pub record Setting : Type 0 where
   pub rooms : Rooms
   pub functions : List FunctionCode
@@ -40,6 +40,7 @@ pub record Setting : Type 0 where
   pub statics : ℕ
   pub structs : List StructDef
   pub locals : List Local
+  pub result : PlainType
   pub calls : Functions
   pub level : ℕ
 

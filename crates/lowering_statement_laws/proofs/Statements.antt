@@ -7,7 +7,7 @@ use Rattle.mem_model.specs.Memory.{Memory}
 use Rattle.mem_model.specs.World.{outer_with_memory}
 use Rattle.mem_model.specs.Related.{Names, IsValueOf}
 use Rattle.machine_model.specs.Code as machine
-use Rattle.c_typed_tree.specs.Types.{PlainType}
+use Rattle.c_typed_tree.specs.Types.{PlainType, Void}
 use Rattle.c_typed_tree.specs.Expressions.{Expr, type_of}
 use Rattle.c_typed_tree.specs.Statements.{Stmt, Stmts, no_stmts, more_stmts, no_else, else_stmt}
 use Rattle.c_typed_tree.specs.Statements as q
@@ -98,16 +98,16 @@ module _ (c : Setting) (found : slice_get c.functions c.number ≡ Some c.code) 
   unfolding opens
   continues = record { by = λ brk con rest heads p f scope r s m K apart at fit low way. jump c.rooms c.functions c.number c.code found c.own c.waiting (c.last - con) p r s.world m at.has.0 (way.continues f s r m after_same fit) }
 
-  pub returns : StmtMeets c again (q.Return None)
+  pub returns : c.result ≡ Void → StmtMeets c again (q.Return None)
   unfolding opens
-  returns = record {
+  returns none = record {
     by = λ brk con rest heads p f scope r s m K apart at fit low way.
-        returning c.rooms c.functions c.number c.code found c.own c.waiting (n.Return None) p r s.world m [] at.has.0 refl refl (way.returns None [] f s r m after_same fit refl);
+        returning c.rooms c.functions c.number c.code found c.own c.waiting (n.Return None) p r s.world m [] at.has.0 refl refl (way.returns None [] f s r m after_same fit (none, refl));
   }
 
-  pub values : (x : Expr) → IsScalarType (type_of x) → ExprMeets c x → StmtMeets c again (q.Return (Some x))
+  pub values : (x : Expr) → type_of x ≡ c.result → IsScalarType (type_of x) → ExprMeets c x → StmtMeets c again (q.Return (Some x))
   unfolding opens
-  values x scalar hx = record {
+  values x same scalar hx = record {
     by = λ brk con rest heads p f scope r s m K apart at fit low way.
         let reg = value_register L 0 (type_of x) in
         let value : TypedRegister = record { ty = register_type (type_of x); register = reg } in
@@ -119,7 +119,7 @@ module _ (c : Setting) (found : slice_get c.functions c.number ≡ Some c.code) 
         let ok = returnable g (type_of x) v (q1 reg) scalar held stands set in
         returning c.rooms c.functions c.number c.code found c.own c.waiting (n.Return (Some value)) q q1 t.world m1 (q1 reg ∷ []) at1.has.0 refl
         (ap (λ z. if z then machine.Returns (q1 reg ∷ []) (outer_with_memory t.world.outer m1) else machine.Stops machine.HasNoMeaning (outer_with_memory t.world.outer m1)) ok.0)
-        (way.returns (Some v) (q1 reg ∷ []) g t q1 m1 aft fit1 (q1 reg, refl, ok.1))))));
+        (way.returns (Some v) (q1 reg ∷ []) g t q1 m1 aft fit1 (q1 reg, refl, subst (λ z. IsHeld z v) same held, ok.1))))));
   }
 
   -- a test, and where it leads

@@ -3,6 +3,7 @@ use Rattle.std.specs.Prelude.{◌≡◌, ℕ, List, slice_get, Some, None}
 use Rattle.suifvm_ir.specs.declared.insn.VmInsn.{VmInsn}
 use Rattle.c_typed_tree.specs.declared.types.StructDef.{StructDef}
 use Rattle.c_typed_tree.specs.declared.units.Local.{Local}
+use Rattle.c_typed_tree.specs.Types.{Void}
 use Rattle.c_typed_tree.specs.Expressions.{Expr, type_of}
 use Rattle.c_typed_tree.specs.Statements.{Stmt, If, Break, Continue, Return, Expression, Empty, no_else, else_stmt, Stmts, no_stmts, more_stmts}
 use Rattle.c_semantics.specs.Runs.{Run}
@@ -25,8 +26,10 @@ pub record Statements (c : Setting) (again : Scope → Stmt → Run Flow) : Type
   pub empty : StmtMeets c again Empty
   pub breaks : StmtMeets c again Break
   pub continues : StmtMeets c again Continue
-  pub returns : StmtMeets c again (Return None)
-  pub values : (x : Expr) → IsScalarType (type_of x) → ExprMeets c x → StmtMeets c again (Return (Some x))
+  -- without a value from a function of type void, and with one of its type from any other
+  pub returns : c.result ≡ Void → StmtMeets c again (Return None)
+  pub values : (x : Expr) → type_of x ≡ c.result → IsScalarType (type_of x) → ExprMeets c x
+      → StmtMeets c again (Return (Some x))
   pub choices : (x : Expr) (s t : Stmt) → IsScalarType (type_of x) → ExprMeets c x → StmtMeets c again s
       → StmtMeets c again t → StmtMeets c again (If x s (else_stmt t))
   pub conditions : (x : Expr) (s : Stmt) → IsScalarType (type_of x) → ExprMeets c x → StmtMeets c again s

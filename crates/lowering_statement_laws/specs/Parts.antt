@@ -8,6 +8,7 @@ use Rattle.mem_model.specs.Memory.{Memory, end_objects}
 use Rattle.mem_model.specs.World.{World, with_memory, with_meter, leave_call}
 use Rattle.mem_model.specs.Related.{Names, IsValueOf}
 use Rattle.vm_meaning.specs.Behave.{Registers}
+use Rattle.c_typed_tree.specs.Types.{PlainType, Void}
 use Rattle.c_typed_tree.specs.Statements.{Stmt, Declare, Stmts, no_stmts, more_stmts}
 use Rattle.c_typed_tree.specs.Declarations.{declarations}
 use Rattle.c_semantics.specs.Runs.{State, Run}
@@ -17,6 +18,7 @@ use Rattle.lowering_code.specs.declared.item.CodeItem.{CodeItem}
 use Rattle.lowering_code.specs.Statements.{stmt_code, stmts_code}
 use Rattle.lowering_states.specs.Places.{Place, start_of_block}
 use Rattle.lowering_states.specs.Runs.{Observation, finish, Resumes}
+use Rattle.lowering_states.specs.States.{IsHeld}
 use Rattle.lowering_expression_laws.specs.Parts.{Setting, count, EndsSo, Stands, Fit, Aft}
 
 -- ---- locals that are objects
@@ -39,10 +41,10 @@ AreApart scope xs = (number : ℕ) → 0 < inner_of_all number xs → scope numb
 
 -- ---- what a statement does
 
--- what a call returns on both sides
-abbrev pub IsReturned : Names → Option Value → List Value → Type 0
-IsReturned f None ws = ws ≡ []
-IsReturned f (Some v) ws = (w : Value) × (ws ≡ w ∷ []) × IsValueOf f v w
+-- what a call of a function with such a result returns on both sides: a value of the type, or none where it is void
+abbrev pub IsReturned : PlainType → Names → Option Value → List Value → Type 0
+IsReturned ty f None ws = (ty ≡ Void) × (ws ≡ [])
+IsReturned ty f (Some v) ws = (w : Value) × (ws ≡ w ∷ []) × IsHeld ty v × IsValueOf f v w
 
 module _ (c : Setting) where
   -- the world that the call leaves
@@ -60,7 +62,7 @@ module _ (c : Setting) where
     pub continues : (g : Names) (t : State) (r : Registers) (m : Memory) → Aft c f s n g t m → Fit c g scope r t m
         → EndsSo c (K Continues t) (start_of_block (c.last - continue_to)) r t.world m
     pub returns : (v : Option Value) (ws : List Value) (g : Names) (t : State) (r : Registers) (m : Memory)
-        → Aft c f s n g t m → Fit c g scope r t m → IsReturned g v ws
+        → Aft c f s n g t m → Fit c g scope r t m → IsReturned c.result g v ws
         → Resumes c.rooms c.functions (K (Returns v) t) ws (world_left t.world m) c.waiting
 
   -- again is what a statement does one level down
