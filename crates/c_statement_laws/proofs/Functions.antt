@@ -17,7 +17,7 @@ use Rattle.c_typed_tree.proofs.Views.{view_block}
 use Rattle.c_typed_tree.specs.Typing.{Context, is_scalar, is_fit}
 use Rattle.c_typed_tree.specs.TypingStatements as typing
 use Rattle.c_typed_tree.specs.TypingStatements.{is_typed_stmt}
-use Rattle.c_typed_tree.specs.Lawful.{type_of_local, context_of, is_object_type, is_result, IsTypedFn}
+use Rattle.c_typed_tree.specs.Lawful.{type_of_local, context_of, is_object_type, is_result, is_block, IsTypedFn}
 use Rattle.c_checks.specs.Checks.{walk}
 use Rattle.c_checks.specs.Scopes.{enter}
 use Rattle.c_judgements.specs.Types.{State}
@@ -147,6 +147,7 @@ made_typed u d ty list s found e declares given =
       scalars = parameters_scalar (Entered d s).1.0 v.0 v.1.1.addressed (ended_moves c given.structs d (Some ty) list s).grows all.0;
       count = given.count;
       locals = addressed_lawful u.structs v.1.1.addressed v.0 (moves.stands covers stands).lawful;
+      block = along is_block (view_block found) refl;
       body = along (is_typed_stmt c (type_view ty) typing.no_jumps) (view_block found) (subst (λ o. IfSome o (Are c given.structs d (Some ty) list s)) e all.1);
       declares = declares.declares;
     }

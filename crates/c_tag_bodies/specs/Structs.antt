@@ -1,5 +1,5 @@
 -- The struct or enum of a body (C99 6.7.2.1 to 6.7.2.3).
-use Rattle.std.specs.Prelude.{ℕ, if◌then◌else◌, Bool, true, false, List, [], ◌∷◌, Option, Some, None, is_some, slice_set}
+use Rattle.std.specs.Prelude.{ℕ, if◌then◌else◌, Bool, true, false, List, [], ◌∷◌, Option, Some, None, is_some, slice_get, slice_set}
 use Rattle.std.specs.List.{list_all}
 use Rattle.c_scopes.specs.Names.{Entry, find}
 use Rattle.c_declared_types.specs.declared.declared.DeclaredType.{DeclaredType}
@@ -7,6 +7,7 @@ use Rattle.c_declared_types.specs.declared.declared.DeclaredType.TheVariants as 
 use Rattle.c_struct_layout.specs.declared.fields.Field.{Field}
 use Rattle.c_struct_layout.specs.StructLayout.{struct_of}
 use Rattle.c_typed_tree.specs.declared.types.StructDef.{StructDef}
+use Rattle.c_typed_tree.specs.Layout.{is_complete}
 use Rattle.c_typed_tree.specs.View.{type_view}
 use Rattle.c_type_faults.specs.declared.faults.Kind.TheVariants.{Redeclared, BadType}
 use Rattle.c_checks.specs.declared.notes.Notes.{Notes}
@@ -99,10 +100,15 @@ abbrev pub too_large : ℕ → (faulty : Bool) → Notes → Notes
 too_large at true n = n
 too_large at false n = with_fault at BadType n
 
+-- what a struct holds is said once: one that is complete stays as it is (6.7.2.3 p1)
+abbrev pub with_members : (number : ℕ) → StructDef → List (Entry (Option ℕ)) → Notes → Notes
+with_members number structure names n =
+    if is_complete (slice_get n.structs number) then n else with_struct number structure names n
+
 -- a struct has the members that are without a fault
 abbrev pub complete : ℕ → (number : ℕ) → Members → Option StructDef → Notes → Notes
 complete at number m None n = too_large at m.faulty n
-complete at number m (Some structure) n = with_struct number structure m.names n
+complete at number m (Some structure) n = with_members number structure m.names n
 
 abbrev pub struct_ended : ℕ → (tag : Option (List ℕ)) → (number : Option ℕ) → Members → Notes → Notes
 struct_ended at tag None m n = n

@@ -1,9 +1,10 @@
 //! The struct or enum of a body (C99 6.7.2.1 to 6.7.2.3).
 
-ghost use Rattle.std.specs.Prelude.{◌≡◌, ◌≤◌, All, IfOk, IsTrue, OnOk, is_some, slice_set};
+ghost use Rattle.std.specs.Prelude.{◌≡◌, ◌≤◌, All, IfOk, IsTrue, OnOk, is_some, slice_get, slice_set};
 ghost use Rattle.std.specs.Bool.{OnTrue};
 ghost use Rattle.std.specs.List.{list_all};
 ghost use Rattle.c_scopes.specs.Names.{find};
+ghost use Rattle.c_typed_tree.specs.Layout as layout;
 ghost use Rattle.c_typed_tree.specs.Layout.{is_object};
 ghost use Rattle.c_typed_tree.specs.Typing.{depth_of, most_depth};
 ghost use Rattle.c_typed_tree.specs.View.{type_view};
@@ -201,6 +202,32 @@ fn set_struct<'a>(
     set_element(alloc, &mut notes.members, number as usize, names);
 }
 
+/// Whether a struct is complete.
+fn is_complete(structs: &[StructDef], number: u32) -> bool
+    ensures { result ≡ layout.is_complete (slice_get structs.now number) }
+{
+    match structs.get(number as usize) {
+        Some(structure) => structure.complete,
+        None => false,
+    }
+}
+
+/// Writes down a struct with the names of its members, unless it is complete already.
+fn set_members<'a>(
+    alloc: Global,
+    notes: &mut Notes<'a>,
+    number: u32,
+    structure: StructDef,
+    members: &mut Members<'a>,
+)
+    ensures { notes.new ≡ spec.with_members number structure members.old.names notes.old }
+{
+    if is_complete(notes.structs.as_slice(), number) {
+        return;
+    }
+    set_struct(alloc, notes, number, structure, members);
+}
+
 /// A struct that is larger than the data may be, unless a member has a fault.
 fn too_large(notes: &mut Notes<'_>, at: u32, faulty: bool) -> Result<(), AllocError>
     ensures { OnOk result (notes.new ≡ spec.too_large at faulty notes.old) }
@@ -234,7 +261,7 @@ fn complete<'a>(
     match structure {
         None => too_large(notes, at, members.faulty),
         Some(structure) => {
-            set_struct(alloc, notes, number, structure, members);
+            set_members(alloc, notes, number, structure, members);
             Ok(())
         }
     }

@@ -9,6 +9,7 @@ use Rattle.c_typed_tree.specs.declared.types.Member.{Member}
 use Rattle.c_typed_tree.specs.declared.units.Local.{Local}
 use Rattle.c_typed_tree.specs.declared.units.TypedFn.{TypedFn}
 use Rattle.c_typed_tree.specs.declared.units.TypedUnit.{TypedUnit}
+use Rattle.c_typed_tree.specs.Statements.{Stmt, Block}
 use Rattle.c_typed_tree.specs.Types.{PlainType}
 use Rattle.c_typed_tree.specs.View.{type_view, stmt_view}
 use Rattle.c_typed_tree.specs.Layout.{is_object, IsLaidOut}
@@ -91,8 +92,13 @@ abbrev pub is_identifier : List ℕ → Bool
 is_identifier [] = false
 is_identifier (b ∷ bytes) = is_letter b && list_all is_letter_or_digit bytes
 
--- a function of a unit: its parameters are its first locals, its body is well typed and declares each other
--- local once
+-- the body of a function is a block (C99 6.9.1)
+abbrev pub is_block : Stmt → Bool
+is_block (Block ss) = true
+is_block s = false
+
+-- a function of a unit: its parameters are its first locals, its body is a block that is well typed and declares each
+-- other local once
 pub record IsTypedFn (u : TypedUnit) (f : TypedFn) : Type 0 where
   pub name : IsTrue (is_identifier f.name)
   pub result : IsTrue (is_result u.structs (type_view f.result))
@@ -100,6 +106,7 @@ pub record IsTypedFn (u : TypedUnit) (f : TypedFn) : Type 0 where
   pub scalars : IsTrue (list_all is_scalar (parameters_of f))
   pub count : length f.locals < 2 ^ 32
   pub locals : IsTrue (list_all (is_lawful_local u.structs) f.locals)
+  pub block : IsTrue (is_block (stmt_view f.body))
   pub body : IsTrue (is_typed_stmt (context_of u f) (type_view f.result) no_jumps (stmt_view f.body))
   pub declares : (number : ℕ) → declarations number (stmt_view f.body) ≡ due_declarations f.params (length f.locals) number
 

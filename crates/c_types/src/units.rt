@@ -1,8 +1,7 @@
 //! Whole units.
 
-ghost use Rattle.std.specs.Prelude.{◌≡◌, All, IfOk, IfErr, IfSome, Some, None, [], replicate, slice_set};
+ghost use Rattle.std.specs.Prelude.{◌≡◌, IfOk, IfErr, IfSome, Some, None, [], replicate, slice_set};
 ghost use Rattle.c_typed_tree.specs.Lawful.{IsLawful};
-ghost use Rattle.unit_checks.specs.Bodies.{HasBlock};
 ghost use Rattle.c_types.specs.Units as spec;
 
 use crate::faults::TypeFault;
@@ -78,7 +77,6 @@ fn functions_in(
 fn lawful_unit(alloc: Global, unit: TypedUnit) -> Result<Option<TypedUnit>, AllocError>
     ensures same { IfOk result (λ r. IfSome r (λ u. unit ≡ u)) }
     ensures lawful { IfOk result (λ r. IfSome r IsLawful) }
-    ensures blocks { IfOk result (λ r. IfSome r (λ u. All HasBlock u.functions)) }
 {
     if is_lawful(alloc, &unit)? {
         return Ok(Some(unit));
@@ -97,7 +95,6 @@ fn whole_unit(
 ) -> Result<Option<TypedUnit>, AllocError>
     ensures unit { IfOk result (λ r. IfSome r (λ u. spec.unit_with structs objects texts count functions ≡ Some u)) }
     ensures lawful { IfOk result (λ r. IfSome r IsLawful) }
-    ensures blocks { IfOk result (λ r. IfSome r (λ u. All HasBlock u.functions)) }
 {
     match functions_in(alloc, count, functions)? {
         None => Ok(None),
@@ -127,7 +124,6 @@ fn make_unit(
 ) -> Result<TypedUnit, AllocError>
     ensures unit { IfOk result (λ r. spec.unit_with structs objects texts count functions ≡ Some r) }
     ensures lawful { IfOk result IsLawful }
-    ensures blocks { IfOk result (λ u. All HasBlock u.functions) }
 {
     match whole_unit(alloc, structs, objects, texts, count, functions)? {
         None => Err(AllocError),
@@ -135,7 +131,7 @@ fn make_unit(
     }
 }
 
-/// The typed tree of a unit, which is lawful, with a block as the body of each function.
+/// The typed tree of a unit, which is lawful.
 ///
 /// # Errors
 ///
@@ -144,7 +140,6 @@ fn make_unit(
 pub fn check(alloc: Global, unit: &TranslationUnit) -> Result<TypedUnit, TypeFault>
     ensures typed { IfOk result (spec.IsTyped unit.now) }
     ensures lawful { IfOk result IsLawful }
-    ensures blocks { IfOk result (λ u. All HasBlock u.functions) }
     ensures fault { IfErr result (spec.IsFaulty unit.now) }
 {
     let UnitState { so_far, notes, .. } = judge(alloc, unit)?;

@@ -134,7 +134,7 @@ module _ (u : TypedUnit) (l : IsLawful u) (all : List VmFunction) (calls : Takes
 
   within : (f : TypedFn) (g : VmFunction) → IsTypedFn u f → CanBeLowered u.structs f → IsLowered u.structs f g → IsWithinWeight u.structs f g
   within f g t can is = record {
-    registers = λ block. omega (arith, is.temps, is.params, ap blocks_top is.blocks, top_low u f all l.typed.structs t calls block);
+    registers = omega (arith, is.temps, is.params, ap blocks_top is.blocks, top_low u f all l.typed.structs t calls);
     arguments = subst (λ bs. AllInsns (λ i. arguments_of i ≤ function_weight u.structs f) bs) (sym is.blocks) (arguments_few u f all l.typed.structs t calls);
     cost = omega (arith, is.params, ap (λ bs. sum_by (λ b. sum_by insn_cost b) bs) is.blocks, ap (λ bs. edge_count targets_of flows_on_of bs) is.blocks, cost_low u f all l.typed.structs t calls (2 ^ 32 - 1) (good f can));
   }

@@ -14,7 +14,7 @@ use Rattle.c_typed_tree.specs.Declarations.{declarations, due_declarations}
 use Rattle.c_typed_tree.specs.Typing.{is_scalar, is_same_type, int}
 use Rattle.c_typed_tree.specs.TypingStatements.{no_jumps, is_typed_stmt}
 use Rattle.c_typed_tree.specs.Weight.{stmt_weight, function_weight, unit_weight}
-use Rattle.c_typed_tree.specs.Lawful.{IsLawful, IsTypedFn, IsLawfulStruct, is_identifier, is_result, type_of_local, is_lawful_local, context_of, is_main, is_start}
+use Rattle.c_typed_tree.specs.Lawful.{IsLawful, IsTypedFn, IsLawfulStruct, is_identifier, is_result, type_of_local, is_lawful_local, is_block, context_of, is_main, is_start}
 
 -- what the function is
 pub record IsEmptyMain (f : TypedFn) : Type 0 where
@@ -47,6 +47,7 @@ module _ (u : TypedUnit) (f : TypedFn) (structs : u.structs ≡ []) (globals : u
     scalars = ap (λ n. list_all is_scalar (map type_of_local (take n f.locals))) m.params;
     count = omega (arith, ap (λ l. length l) m.locals);
     locals = ap (λ l. list_all (is_lawful_local u.structs) l) m.locals;
+    block = ap is_block m.body;
     body = ap (λ s. is_typed_stmt (context_of u f) (type_view f.result) no_jumps s) m.body;
     declares = λ n. ap (λ s. declarations n s) m.body ∙ sym (ap (λ l. due_declarations f.params (length l) n) m.locals ∙ none_due f.params n);
   }

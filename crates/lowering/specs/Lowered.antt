@@ -1,8 +1,7 @@
 -- The functions of a program, each the code of a function of the unit.
-use Rattle.std.specs.Prelude.{◌≡◌, ◌≤◌, ◌+◌, ◌*◌, max, IsTrue, List, [], ◌∷◌}
+use Rattle.std.specs.Prelude.{◌≡◌, ◌≤◌, ◌+◌, ◌*◌, max, List, [], ◌∷◌}
 use Rattle.c_typed_tree.specs.declared.types.StructDef.{StructDef}
 use Rattle.c_typed_tree.specs.declared.units.TypedFn.{TypedFn}
-use Rattle.c_typed_tree.specs.View.{stmt_view}
 use Rattle.c_typed_tree.specs.Weight.{function_weight}
 use Rattle.suifvm_ir.specs.Functions.{AllInsns}
 use Rattle.suifvm_ir.specs.Programs.{VmFunction}
@@ -10,7 +9,7 @@ use Rattle.suifvm_ir.specs.Cost.{cost}
 use Rattle.lowering_code.specs.Functions.{objects_of, function_blocks}
 use Rattle.lowering_layout.specs.Tops.{blocks_top}
 use Rattle.lowering_layout.specs.Views.{GoesBackToMarks}
-use Rattle.lowering_bounds.specs.Laws.{is_block, arguments_of}
+use Rattle.lowering_bounds.specs.Laws.{arguments_of}
 
 -- a function of a program is the code of one of a unit, with its name, its parameters and its memory locals. It has no
 -- more registers than its parameters and its code name
@@ -31,7 +30,7 @@ AreLowered ds (f ∷ fs) (g ∷ gs) = IsLowered ds f g × AreLowered ds fs gs
 
 -- what the code of a function takes, by its weight
 pub record IsWithinWeight (ds : List StructDef) (f : TypedFn) (g : VmFunction) : Type 0 where
-  pub registers : IsTrue (is_block (stmt_view f.body)) → g.temps ≤ 7 * function_weight ds f
+  pub registers : g.temps ≤ 7 * function_weight ds f
   pub arguments : AllInsns (λ i. arguments_of i ≤ function_weight ds f) g.blocks
   pub cost : cost g ≤ 2048 * (function_weight ds f + 1)
 

@@ -23,7 +23,7 @@ use Rattle.c_layout_laws.proofs.Truth.{front, back, none_some, all_at}
 use Rattle.lowering_bounds.specs.model.Costs.{items_cost}
 use Rattle.lowering_bounds.specs.model.Depths.{stmt_depths}
 use Rattle.lowering_bounds.proofs.Pieces as m
-use Rattle.lowering_bounds.specs.Laws.{TakesArguments, is_block, arguments_of}
+use Rattle.lowering_bounds.specs.Laws.{TakesArguments, arguments_of}
 use Rattle.lowering_bounds.proofs.Statements.{body_emits}
 use Rattle.lowering_bounds.proofs.Weights.{locals_declared, few_registers}
 use Rattle.lowering_bounds.proofs.Blocks.{is_narrow, merge, PassesWays, Q, holds_all, blocks_low, BlocksCost, blocks_cost}
@@ -99,12 +99,12 @@ module _ (u : TypedUnit) (f : TypedFn) (fs : List VmFunction) (structs : All (Is
       (λ b a. All-weaker (Q most narrow) (λ i. arguments_of i ≤ W) (λ i q. leb-true (arguments_of i) W (back (names_what_is_there fs u.globals (objects_of u.structs f.locals) i) (nat_le (arguments_of i) W) q.1)) b a)
       (function_blocks u.structs f) all_hold
 
-  pub top_low : IsTrue (is_block (stmt_view f.body)) → max f.params (blocks_top (function_blocks u.structs f)) ≤ 7 * function_weight u.structs f
-  top_low block =
+  pub top_low : max f.params (blocks_top (function_blocks u.structs f)) ≤ 7 * function_weight u.structs f
+  top_low =
       omega (
         arith,
         blocks_low most narrow (function_blocks u.structs f) all_hold,
-        few_registers (context_of u f) (type_view f.result) no_jumps (stmt_view f.body) (length f.locals) f.params block t.body (locals_declared f.params (length f.locals) (stmt_view f.body) t.declares),
+        few_registers (context_of u f) (type_view f.result) no_jumps (stmt_view f.body) (length f.locals) f.params t.block t.body (locals_declared f.params (length f.locals) (stmt_view f.body) t.declares),
       )
 
   module _ (large : ℕ) (good : IsGood large 0 (items_of u.structs f)) where

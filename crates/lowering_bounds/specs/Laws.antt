@@ -1,9 +1,7 @@
 -- What the code of a function of a unit keeps, by the weight of the function.
-use Rattle.std.specs.Prelude.{◌≡◌, ◌≤◌, ◌+◌, ◌*◌, max, ℕ, Bool, true, false, IsTrue, List, All, map, length, slice_get, sum_by, Some}
+use Rattle.std.specs.Prelude.{◌≡◌, ◌≤◌, ◌+◌, ◌*◌, max, ℕ, IsTrue, List, All, map, length, slice_get, sum_by, Some}
 use Rattle.c_typed_tree.specs.declared.units.TypedFn.{TypedFn}
 use Rattle.c_typed_tree.specs.declared.units.TypedUnit.{TypedUnit}
-use Rattle.c_typed_tree.specs.Statements.{Stmt, Block}
-use Rattle.c_typed_tree.specs.View.{stmt_view}
 use Rattle.c_typed_tree.specs.Typing.{Signature}
 use Rattle.c_typed_tree.specs.Weight.{function_weight}
 use Rattle.c_typed_tree.specs.Lawful.{IsLawfulStruct, IsTypedFn, signature_of}
@@ -16,11 +14,6 @@ use Rattle.suifvm_ir.specs.Cost.{insn_cost}
 use Rattle.lowering_code.specs.Functions.{objects_of, items_of, function_blocks}
 use Rattle.lowering_layout.specs.Good.{IsGood}
 use Rattle.lowering_layout.specs.Tops.{blocks_top}
-
--- the body of a function in a text is a block (C99 6.9.1)
-abbrev pub is_block : Stmt → Bool
-is_block (Block ss) = true
-is_block s = false
 
 -- how many arguments an instruction gives
 abbrev pub arguments_of : VmInsn → ℕ
@@ -46,10 +39,9 @@ NamesAreThere u f fs =
     AllInsns (λ i. IsTrue (names_what_is_there fs u.globals (objects_of u.structs f.locals) i))
     (function_blocks u.structs f)
 
--- its registers are few where its body is a block
+-- its registers are few
 abbrev pub HasFewRegisters : (u : TypedUnit) → (f : TypedFn) → (fs : List VmFunction) → Type 0
 HasFewRegisters u f fs =
-    IsTrue (is_block (stmt_view f.body)) →
     max f.params (blocks_top (function_blocks u.structs f)) ≤ 7 * function_weight u.structs f
 
 -- a call gives few arguments

@@ -3,8 +3,8 @@
 ghost use Rattle.lowering_bounds.specs.Laws.{OfFunctions, NamesAreThere, HasFewRegisters, GivesFewArguments, CostsLittle, IsSmall};
 
 /// The code of a well typed function of weight w names objects, bytes and functions that are there. It has at most
-/// `7 * w` registers where its body is a block, no call with more than w arguments, a cost of at most `2048 * (w + 1)`,
-/// and a size of at most a 24th of that.
+/// `7 * w` registers, no call with more than w arguments, a cost of at most `2048 * (w + 1)`, and a size of at most a
+/// 24th of that.
 pub fn code_is_within_weight()
     ensures names { OfFunctions NamesAreThere }
     ensures registers { OfFunctions HasFewRegisters }

@@ -8,7 +8,6 @@ ghost use Rattle.c_typed_tree.specs.Lawful as spec;
 ghost use Rattle.c_typed_tree.specs.Typing.{is_scalar};
 ghost use Rattle.c_typed_tree.specs.TypingStatements.{no_jumps, is_typed_stmt};
 ghost use Rattle.c_typed_tree.specs.View.{type_view, stmt_view};
-ghost use Rattle.unit_checks.specs.Bodies.{is_block, HasBlock};
 
 use c_tree::Seq;
 use c_type_rules::types::{is_scalar, is_void};
@@ -146,6 +145,27 @@ fn has_lawful_head(function: &TypedFn, structs: &[StructDef]) -> bool
     are_lawful_locals(structs, function.locals.as_slice())
 }
 
+/// Whether a statement is a block.
+#[tactic(auto, unfolding(c_typed_tree::specs::model::View::opens))]
+fn is_block(statement: &TStmt) -> bool
+    ensures { result ≡ spec.is_block (stmt_view statement.now) }
+{
+    match statement {
+        TStmt::Block(_) => true,
+        TStmt::If { .. } => false,
+        TStmt::While { .. } => false,
+        TStmt::Do { .. } => false,
+        TStmt::For { .. } => false,
+        TStmt::Switch { .. } => false,
+        TStmt::Break => false,
+        TStmt::Continue => false,
+        TStmt::Return(_) => false,
+        TStmt::Expression(_) => false,
+        TStmt::Empty => false,
+        TStmt::Local(_) => false,
+    }
+}
+
 /// Whether a function of a unit is well typed, with its locals numbered in the order of their declarations.
 #[tactic(auto, using(crate::proofs::Lawful::typed_function))]
 fn is_typed_function(
@@ -156,6 +176,9 @@ fn is_typed_function(
     ensures { IfOk result (λ b. OnTrue b (spec.IsTypedFn unit.now function.now)) }
 {
     if !has_lawful_head(function, unit.structs.as_slice()) || !declares_locals(function) {
+        return Ok(false);
+    }
+    if !is_block(&function.body) {
         return Ok(false);
     }
     if !is_typed_statement(&function.body, alloc, unit, function, false, false)? {
@@ -174,45 +197,6 @@ pub(crate) fn are_typed_functions(alloc: Global, unit: &TypedUnit) -> Result<boo
         }
     }
     Ok(true)
-}
-
-/// Whether a statement is a block.
-#[tactic(auto, unfolding(c_typed_tree::specs::model::View::opens))]
-fn is_block(statement: &TStmt) -> bool
-    ensures { result ≡ is_block (stmt_view statement.now) }
-{
-    match statement {
-        TStmt::Block(_) => true,
-        TStmt::If { .. } => false,
-        TStmt::While { .. } => false,
-        TStmt::Do { .. } => false,
-        TStmt::For { .. } => false,
-        TStmt::Switch { .. } => false,
-        TStmt::Break => false,
-        TStmt::Continue => false,
-        TStmt::Return(_) => false,
-        TStmt::Expression(_) => false,
-        TStmt::Empty => false,
-        TStmt::Local(_) => false,
-    }
-}
-
-fn has_block(function: &TypedFn) -> bool
-    ensures { OnTrue result (HasBlock function.now) }
-{
-    is_block(&function.body)
-}
-
-/// Whether the body of each function is a block.
-pub(crate) fn have_blocks(functions: &[TypedFn]) -> bool
-    ensures { OnTrue result (All HasBlock functions.now) }
-{
-    for function in functions {
-        if !has_block(function) {
-            return false;
-        }
-    }
-    true
 }
 
 // ---- `main` (C99 5.1.2.2.1)

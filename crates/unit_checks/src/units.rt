@@ -3,9 +3,8 @@
 ghost use Rattle.std.specs.Prelude.{◌≤◌, ◌<◌, ◌^◌, All, IfOk, length};
 ghost use Rattle.std.specs.Bool.{OnTrue};
 ghost use Rattle.c_typed_tree.specs.Lawful.{unit_nodes, IsLawful};
-ghost use Rattle.unit_checks.specs.Bodies.{HasBlock};
 
-use crate::functions::{are_typed_functions, has_main, have_blocks};
+use crate::functions::{are_typed_functions, has_main};
 use crate::structs::are_lawful_structs;
 use c_typed_tree::TypedUnit;
 use node_counts::unit_nodes;
@@ -24,12 +23,11 @@ fn is_countable(unit: &TypedUnit) -> bool
     unit_nodes(unit) <= 1 << 40
 }
 
-/// Whether a unit is lawful, with blocks as the bodies of its functions, and with the locals of each numbered in the
-/// order of their declarations. It fails only where memory is short.
+/// Whether a unit is lawful, with the locals of each function numbered in the order of their declarations. It fails only
+/// where memory is short.
 #[tactic(auto, using(crate::proofs::Lawful::lawful_unit))]
 pub fn is_lawful(alloc: Global, unit: &TypedUnit) -> Result<bool, AllocError>
-    ensures lawful { IfOk result (λ b. OnTrue b (IsLawful unit.now)) }
-    ensures blocks { IfOk result (λ b. OnTrue b (All HasBlock unit.now.functions)) }
+    ensures { IfOk result (λ b. OnTrue b (IsLawful unit.now)) }
 {
     if !is_countable(unit) || !has_main(&unit.functions) {
         return Ok(false);
@@ -37,9 +35,6 @@ pub fn is_lawful(alloc: Global, unit: &TypedUnit) -> Result<bool, AllocError>
     if !are_lawful_structs(unit.structs.as_slice())
         || !are_lawful_objects(unit.globals.as_slice())
     {
-        return Ok(false);
-    }
-    if !have_blocks(unit.functions.as_slice()) {
         return Ok(false);
     }
     if !are_typed_functions(alloc, unit)? {
