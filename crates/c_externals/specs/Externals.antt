@@ -19,6 +19,7 @@ use Rattle.c_checks.specs.Checks.{each}
 use Rattle.c_judgements.specs.Types.{State, type_named}
 use Rattle.c_tag_bodies.specs.Bodies.{Scope, declared_type}
 use Rattle.c_initialisers.specs.Unfit.{judge_init}
+use Rattle.c_statements.specs.declared.functions.FunctionType.{FunctionType}
 use Rattle.c_statements.specs.Functions.{function}
 use Rattle.c_unit_names.specs.declared.names.NameDeclaration.{NameDeclaration}
 use Rattle.c_declarations.specs.declared.walk.UnitSoFar.{UnitSoFar}
@@ -68,20 +69,23 @@ with_main_in name r = (r.0, (main_with name r.0 r.1.0, r.1.1))
 abbrev pub with_definition : ℕ → TypeNode → Option DeclaredType × Walk → Option DeclaredType × Walk
 with_definition at node r = in_notes r.1 (each r.0 (defined_type at node) r.1.1.1)
 
--- the type of the result of a function
-abbrev pub result_of : Option DeclaredType → Option CType
-result_of None = None
-result_of (Some (d.Value ty)) = None
-result_of (Some (d.Unsized element)) = None
-result_of (Some (d.Function of parameters)) = Some of
+abbrev pub type_with : CType → List CType → FunctionType
+type_with of parameters = record { result = of; parameters = parameters }
+
+-- the type of a function that is defined, where its declaration has no fault
+abbrev pub type_of_function : Option DeclaredType → Option FunctionType
+type_of_function None = None
+type_of_function (Some (d.Value ty)) = None
+type_of_function (Some (d.Unsized element)) = None
+type_of_function (Some (d.Function of parameters)) = Some (type_with of parameters)
 
 -- a body is judged behind the declaration of its name, which may call itself there
-abbrev pub body_judged : Declaration → (result : Option CType) → List Stmt → Walk → Walk
+abbrev pub body_judged : Declaration → Option FunctionType → List Stmt → Walk → Walk
 body_judged e of list w = body_kept e.name w.0 (function e of list w.1)
 
 abbrev pub definition_with : Definitions → Declaration → Option Storage → List Stmt → Option DeclaredType × Walk → Walk
 definition_with ds e storage list r =
-    body_judged e (result_of r.0) list (function_with_type ds e.at e.name storage true r)
+    body_judged e (type_of_function r.0) list (function_with_type ds e.at e.name storage true r)
 
 abbrev pub definition : Definitions → Declaration → Option Storage → List Stmt → DeclaredType → Walk → Walk
 definition ds e storage list ty w =

@@ -14,9 +14,10 @@ use c_declarations::{
 };
 use c_declared_types::DeclaredType;
 use c_definitions::Definitions;
+use c_judgements::leaves::copy_types;
 use c_judgements::types::type_named;
 use c_scopes::Table;
-use c_statements::function;
+use c_statements::{FunctionType, function};
 use c_tag_bodies::declared_type;
 use c_tree::{Declaration, External, FunctionEnd, Init, Stmt, Storage, TypeNode};
 use c_typed_tree::CType;
@@ -171,29 +172,43 @@ fn type_of_definition(
     }
 }
 
-/// The type of the result of a function.
-fn result_of(alloc: Global, ty: &Option<DeclaredType>) -> Result<Option<CType>, AllocError>
-    ensures { IfOk result (λ r. r ≡ spec.result_of ty.now) }
+/// A copy of the type of a function.
+fn copy_type(alloc: Global, of: &CType, parameters: &[CType]) -> Result<FunctionType, AllocError>
+    ensures { IfOk result (λ r. r ≡ spec.type_with of.now parameters.now) }
+{
+    Ok(FunctionType {
+        result: of.copy(alloc)?,
+        parameters: copy_types(alloc, parameters)?,
+    })
+}
+
+/// The type of a function that is defined, where its declaration has no fault.
+fn type_of_function(
+    alloc: Global,
+    ty: &Option<DeclaredType>,
+) -> Result<Option<FunctionType>, AllocError>
+    ensures { IfOk result (λ r. r ≡ spec.type_of_function ty.now) }
 {
     match ty {
         None => Ok(None),
         Some(ty) => match ty {
             DeclaredType::Value(_) => Ok(None),
             DeclaredType::Unsized(_) => Ok(None),
-            DeclaredType::Function { result, .. } => Ok(Some(result.copy(alloc)?)),
+            DeclaredType::Function { result, parameters } => {
+                Ok(Some(copy_type(alloc, result, parameters.as_slice())?))
+            }
         },
     }
 }
 
-/// Judges the body of a function, and keeps the function. `of` is the type of its result, where its declaration has no
-/// fault.
+/// Judges the body of a function, and keeps the function. `of` is its type, where its declaration has no fault.
 fn judge_body<'a>(
     alloc: Global,
     unit: &mut UnitSoFar<'a>,
     env: &mut Env<'a>,
     notes: &mut Notes<'a>,
     d: &'a Declaration,
-    of: Option<CType>,
+    of: Option<FunctionType>,
     list: &'a [Stmt],
 ) -> Result<(), AllocError>
     ensures { OnOk result ((unit.new, (env.new, notes.new))
@@ -221,7 +236,7 @@ fn declare_definition<'a>(
     let ty = function_type(notes, d.at, ty)?;
     see_definition(unit, d.name.as_slice(), &ty);
     let ty = type_of_definition(notes, d.at, &d.ty, ty)?;
-    let of = result_of(alloc, &ty)?;
+    let of = type_of_function(alloc, &ty)?;
     declare_function(
         alloc,
         definitions,

@@ -15,7 +15,8 @@ use Rattle.c_judgements.specs.Types.{State}
 use Rattle.c_statement_rules.specs.Jumps.{no_jumps}
 use Rattle.c_statement_rules.specs.Locals.{memory_at, with_addressed}
 use Rattle.c_statements.specs.Statements.{statement}
-use Rattle.c_statements.specs.Functions.{parameters, parameters_of, typed_function, function}
+use Rattle.c_statements.specs.declared.functions.FunctionType.{FunctionType}
+use Rattle.c_statements.specs.Functions.{declared_parameters, parameters_of, result_of, typed_function, function}
 use Rattle.c_local_laws.specs.Laws.{DeclaresItsLocals}
 use Rattle.c_local_laws.proofs.Numbers.{Declares, declares_none, count_of, walk_says}
 use Rattle.c_local_laws.proofs.Statements.{stmt_here, stmts_here, stmts_push, statement_says}
@@ -46,10 +47,10 @@ typed_says name (Some ty) true params ls (Some list) h = record {
   declares = λ k. ap (declarations k) (view_block list) ∙ (h k).due;
 }
 
-pub function_says : (d : Declaration) (of : Option CType) (list : List Stmt) (s : State) → IfSome (function d of list s).0 DeclaresItsLocals
+pub function_says : (d : Declaration) (of : Option FunctionType) (list : List Stmt) (s : State) → IfSome (function d of list s).0 DeclaresItsLocals
 function_says d of list s =
-    let p = parameters (parameters_of d.ty) true ([], (enter s.0, s.1)) in
-    let f = walk (statement of no_jumps) list (Some []) p.1 in
-    typed_says d.name of p.0 (length p.1.0) (with_addressed f.1.1.1.addressed f.1.0) f.0
+    let p = declared_parameters of (parameters_of d.ty) ([], (enter s.0, s.1)) in
+    let f = walk (statement (result_of of) no_jumps) list (Some []) p.1 in
+    typed_says d.name (result_of of) p.0 (length p.1.0) (with_addressed f.1.1.1.addressed f.1.0) f.0
     (λ k. subst (λ n. Declares k (length p.1.0) n (count_of (stmts_here k) f.0)) (sym (addressed_length f.1.1.1.addressed f.1.0))
-    (walk_says k (statement of no_jumps) (stmt_here k) (stmts_here k) (stmts_push k) (statement_says k of no_jumps) list (Some []) p.1 (length p.1.0) (declares_none k (length p.1.0))))
+    (walk_says k (statement (result_of of) no_jumps) (stmt_here k) (stmts_here k) (stmts_push k) (statement_says k (result_of of) no_jumps) list (Some []) p.1 (length p.1.0) (declares_none k (length p.1.0))))

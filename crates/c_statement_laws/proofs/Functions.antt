@@ -4,7 +4,6 @@ use Rattle.std.proofs.lemmas.List.{take-map}
 use Rattle.std.specs.List.{list_all}
 use Rattle.c_tree.specs.declared.types.Declaration.{Declaration}
 use Rattle.c_tree.specs.declared.statements.Stmt.{Stmt}
-use Rattle.c_typed_tree.specs.declared.types.CType.{CType}
 use Rattle.c_typed_tree.specs.declared.types.StructDef.{StructDef}
 use Rattle.c_typed_tree.specs.declared.statements.TStmt.{TStmt}
 use Rattle.c_typed_tree.specs.declared.statements.TStmt as t
@@ -24,7 +23,8 @@ use Rattle.c_judgements.specs.Types.{State}
 use Rattle.c_statement_rules.specs.Jumps.{no_jumps}
 use Rattle.c_statement_rules.specs.Locals.{BodyState, with_addressed}
 use Rattle.c_statements.specs.Statements.{statement}
-use Rattle.c_statements.specs.Functions.{parameters, typed_function, without_addresses, function}
+use Rattle.c_statements.specs.declared.functions.FunctionType.{FunctionType}
+use Rattle.c_statements.specs.Functions.{declared_parameters, result_of, typed_function, without_addresses, function}
 use Rattle.c_statements.specs.Functions as own
 use Rattle.c_type_laws.proofs.Truth.{front, back, also, along}
 use Rattle.c_judgement_laws.specs.Covers.{AreInMemory, HaveTexts, IsLawfulContext}
@@ -32,10 +32,10 @@ use Rattle.c_judgement_laws.proofs.Structs.{object_fits}
 use Rattle.c_expression_laws.proofs.Parts.{left}
 use Rattle.c_local_laws.specs.Laws.{DeclaresItsLocals}
 use Rattle.c_local_laws.proofs.Functions.{function_says}
-use Rattle.c_statement_laws.specs.Laws.{IsGiven, Leaves}
+use Rattle.c_statement_laws.specs.Laws.{is_parameter, IsGiven, Leaves}
 use Rattle.c_statement_laws.proofs.Locals.{Grows, addressed_types, addressed_has, addressed_in_memory, addressed_lawful}
-use Rattle.c_statement_laws.proofs.Moves.{Covers, Stands, Moves, moves_none, moves_then, walk_moves}
-use Rattle.c_statement_laws.proofs.Names.{parameters_moves}
+use Rattle.c_statement_laws.proofs.Moves.{Covers, Stands, Moves, moves_none, moves_then, moves_under, walk_moves}
+use Rattle.c_statement_laws.proofs.Names.{declared_parameters_moves}
 use Rattle.c_statement_laws.proofs.Forms.{IsStmt, AreStmts, stmts_more}
 use Rattle.c_statement_laws.proofs.Statements.{statement_moves}
 use Rattle.c_statement_laws.proofs.Parts.{result_type}
@@ -49,10 +49,6 @@ result_fits ds (Int n s) h = object_fits ds (Int n s) (back (is_scalar (Int n s)
 result_fits ds (Pointer x) h = object_fits ds (Pointer x) (back (is_scalar (Pointer x)) (is_object_type ds (Pointer x)) h)
 result_fits ds (Array x n) h = object_fits ds (Array x n) (back (is_scalar (Array x n)) (is_object_type ds (Array x n)) h)
 result_fits ds (Struct n) h = object_fits ds (Struct n) (back (is_scalar (Struct n)) (is_object_type ds (Struct n)) h)
-
-given_fits : (ds : List StructDef) (of : Option CType) → IfSome of (λ ty. IsTrue (is_result ds (type_view ty))) → IfSome of (λ ty. IsTrue (is_fit ds (type_view ty)))
-given_fits ds None h = tt
-given_fits ds (Some ty) h = result_fits ds (type_view ty) h
 
 -- ---- parameters
 
@@ -86,83 +82,88 @@ abbrev Start : State → BodyState
 Start s = ([], (enter s.0, s.1))
 
 -- its parameters
-abbrev Entered : Declaration → State → Bool × BodyState
-Entered d s = parameters (own.parameters_of d.ty) true (Start s)
+abbrev Entered : Declaration → Option FunctionType → State → Bool × BodyState
+Entered d of s = declared_parameters of (own.parameters_of d.ty) (Start s)
 
 -- its statements
-abbrev Ended : Declaration → Option CType → List Stmt → State → Option (List TStmt) × BodyState
-Ended d of list s = walk (statement of no_jumps) list (Some []) (Entered d s).1
+abbrev Ended : Declaration → Option FunctionType → List Stmt → State → Option (List TStmt) × BodyState
+Ended d of list s = walk (statement (result_of of) no_jumps) list (Some []) (Entered d of s).1
 
-module _ (c : Context) (lawful : IsLawfulContext c) (d : Declaration) (of : Option CType) (list : List Stmt) (s : State) where
+module _ (c : Context) (lawful : IsLawfulContext c) (d : Declaration) (of : Option FunctionType) (list : List Stmt) (s : State) where
+  -- what statements know of the function
+  abbrev HasResult : Type 0
+  HasResult = IfSome (result_of of) (λ ty. IsTrue (is_fit c.structs (type_view ty)))
+
   abbrev Known : Type 0
-  Known = IfSome of (λ ty. IsTrue (is_fit c.structs (type_view ty)))
+  Known = HasResult × IfSome of (λ t. IsTrue (list_all (is_parameter c.structs) t.parameters))
 
   abbrev Are : List TStmt → Type 0
-  Are xs = AreStmts c lawful Known (result_type of) no_jumps xs
+  Are xs = AreStmts c lawful HasResult (result_type (result_of of)) no_jumps xs
 
-  entered_moves : Moves c Known (AllScalars (Entered d s).1.0) (Start s) (Entered d s).1
-  entered_moves = parameters_moves c Known lawful (own.parameters_of d.ty) true (Start s) (Start s) (moves_none c Known (Start s) refl)
+  entered_moves : Moves c Known (AllScalars (Entered d of s).1.0) (Start s) (Entered d of s).1
+  entered_moves = declared_parameters_moves c Known lawful of (own.parameters_of d.ty) (Start s) (λ k. k.1) refl
 
-  ended_moves : Moves c Known (IfSome (Ended d of list s).0 Are) (Entered d s).1 (Ended d of list s).1
+  ended_moves : Moves c Known (IfSome (Ended d of list s).0 Are) (Entered d of s).1 (Ended d of list s).1
   ended_moves =
-      walk_moves c Known Are (IsStmt c lawful Known (result_type of) no_jumps) (stmts_more c lawful Known (result_type of) no_jumps) (statement of no_jumps)
-      (statement_moves c lawful of no_jumps) list (Some []) (Entered d s).1 (Entered d s).1 (moves_none c Known (Entered d s).1 refl)
+      moves_under c HasResult Known (Entered d of s).1 (Ended d of list s).1 (λ k. k.0)
+      (walk_moves c HasResult Are (IsStmt c lawful HasResult (result_type (result_of of)) no_jumps) (stmts_more c lawful HasResult (result_type (result_of of)) no_jumps) (statement (result_of of) no_jumps)
+      (statement_moves c lawful (result_of of) no_jumps) list (Some []) (Entered d of s).1 (Entered d of s).1 (moves_none c HasResult (Entered d of s).1 refl))
 
-  body_moves : Moves c Known (AllScalars (Entered d s).1.0 × IfSome (Ended d of list s).0 Are) (Start s) (Ended d of list s).1
-  body_moves = moves_then c Known (Start s) (Entered d s).1 (Ended d of list s).1 entered_moves ended_moves
+  body_moves : Moves c Known (AllScalars (Entered d of s).1.0 × IfSome (Ended d of list s).0 Are) (Start s) (Ended d of list s).1
+  body_moves = moves_then c Known (Start s) (Entered d of s).1 (Ended d of list s).1 entered_moves ended_moves
 
 -- ---- a function
 
 -- the function that is made of a body without a fault
-abbrev Made : Declaration → CType → List Stmt → State → List TStmt → TypedFn
-Made d ty list s found = record {
+abbrev Made : Declaration → FunctionType → List Stmt → State → List TStmt → TypedFn
+Made d of list s found = record {
   name = d.name;
-  result = ty;
-  params = length (Entered d s).1.0;
-  locals = with_addressed (Ended d (Some ty) list s).1.1.1.addressed (Ended d (Some ty) list s).1.0;
+  result = of.result;
+  params = length (Entered d (Some of) s).1.0;
+  locals = with_addressed (Ended d (Some of) list s).1.1.1.addressed (Ended d (Some of) list s).1.0;
   body = t.Block found;
 }
 
-made_typed : (u : TypedUnit) (d : Declaration) (ty : CType) (list : List Stmt) (s : State) (found : List TStmt) → (Ended d (Some ty) list s).0 ≡ Some found → DeclaresItsLocals (Made d ty list s found)
-    → IsGiven u d (Some ty) s (function d (Some ty) list s).1 (Made d ty list s found) → IsTypedFn u (Made d ty list s found)
-made_typed u d ty list s found e declares given =
-    let c = context_of u (Made d ty list s found) in
-    let v = (Ended d (Some ty) list s).1 in
-    let moves = body_moves c given.structs d (Some ty) list s in
+made_typed : (u : TypedUnit) (d : Declaration) (of : FunctionType) (list : List Stmt) (s : State) (found : List TStmt) → (Ended d (Some of) list s).0 ≡ Some found → DeclaresItsLocals (Made d of list s found)
+    → IsGiven u d (Some of) s (function d (Some of) list s).1 (Made d of list s found) → IsTypedFn u (Made d of list s found)
+made_typed u d of list s found e declares given =
+    let c = context_of u (Made d of list s found) in
+    let v = (Ended d (Some of) list s).1 in
+    let moves = body_moves c given.structs d (Some of) list s in
     let covers : Covers c v = record {
       locals = addressed_has c v.1.1.addressed v.0 refl;
       knows = record { structs_known = given.knows.structs_known; tags_known = given.knows.tags_known; untagged_known = given.knows.untagged_known };
       takes = record { locals = addressed_in_memory c v.1.1.addressed v.0 refl; objects = given.texts };
     } in
-    let stands : Stands c (Known c given.structs d (Some ty) list s) (Start s) = record {
+    let stands : Stands c (Known c given.structs d (Some of) list s) (Start s) = record {
       scope = record { names = given.scope.names; typedefs = given.scope.typedefs };
       lawful = refl;
-      function = result_fits u.structs (type_view ty) given.result;
+      function = (result_fits u.structs (type_view of.result) given.result, given.parameters);
     } in
     let all = moves.found covers stands in
     record {
       name = given.name;
       result = given.result;
       params = declares.params;
-      scalars = parameters_scalar (Entered d s).1.0 v.0 v.1.1.addressed (ended_moves c given.structs d (Some ty) list s).grows all.0;
+      scalars = parameters_scalar (Entered d (Some of) s).1.0 v.0 v.1.1.addressed (ended_moves c given.structs d (Some of) list s).grows all.0;
       count = given.count;
       locals = addressed_lawful u.structs v.1.1.addressed v.0 (moves.stands covers stands).lawful;
       block = along is_block (view_block found) refl;
-      body = along (is_typed_stmt c (type_view ty) typing.no_jumps) (view_block found) (subst (λ o. IfSome o (Are c given.structs d (Some ty) list s)) e all.1);
+      body = along (is_typed_stmt c (type_view of.result) typing.no_jumps) (view_block found) (subst (λ o. IfSome o (Are c given.structs d (Some of) list s)) e all.1);
       declares = declares.declares;
     }
 
-typed_where : (u : TypedUnit) (d : Declaration) (of : Option CType) (list : List Stmt) (s : State) (sound : Bool) (o : Option (List TStmt)) → (Ended d of list s).0 ≡ o
-    → IfSome (typed_function d.name of sound (length (Entered d s).1.0) (with_addressed (Ended d of list s).1.1.1.addressed (Ended d of list s).1.0) o) DeclaresItsLocals
-    → IfSome (typed_function d.name of sound (length (Entered d s).1.0) (with_addressed (Ended d of list s).1.1.1.addressed (Ended d of list s).1.0) o)
+typed_where : (u : TypedUnit) (d : Declaration) (of : Option FunctionType) (list : List Stmt) (s : State) (sound : Bool) (o : Option (List TStmt)) → (Ended d of list s).0 ≡ o
+    → IfSome (typed_function d.name (result_of of) sound (length (Entered d of s).1.0) (with_addressed (Ended d of list s).1.1.1.addressed (Ended d of list s).1.0) o) DeclaresItsLocals
+    → IfSome (typed_function d.name (result_of of) sound (length (Entered d of s).1.0) (with_addressed (Ended d of list s).1.1.1.addressed (Ended d of list s).1.0) o)
     (λ f. IsGiven u d of s (function d of list s).1 f → IsTypedFn u f)
 typed_where u d None list s sound o e h = tt
-typed_where u d (Some ty) list s false o e h = tt
-typed_where u d (Some ty) list s true None e h = tt
-typed_where u d (Some ty) list s true (Some found) e h = made_typed u d ty list s found e h
+typed_where u d (Some of) list s false o e h = tt
+typed_where u d (Some of) list s true None e h = tt
+typed_where u d (Some of) list s true (Some found) e h = made_typed u d of list s found e h
 
-pub function_typed : (u : TypedUnit) (d : Declaration) (of : Option CType) (list : List Stmt) (s : State) → IfSome (function d of list s).0 (λ f. IsGiven u d of s (function d of list s).1 f → IsTypedFn u f)
-function_typed u d of list s = typed_where u d of list s (Entered d s).0 (Ended d of list s).0 refl (function_says d of list s)
+pub function_typed : (u : TypedUnit) (d : Declaration) (of : Option FunctionType) (list : List Stmt) (s : State) → IfSome (function d of list s).0 (λ f. IsGiven u d of s (function d of list s).1 f → IsTypedFn u f)
+function_typed u d of list s = typed_where u d of list s (Entered d of s).0 (Ended d of list s).0 refl (function_says d of list s)
 
 -- ---- what a body leaves
 
@@ -176,7 +177,7 @@ none_in_memory : (c : Context) (ns : List ℕ) → AreInMemory (record { structs
 none_in_memory c [] = tt
 none_in_memory c (n ∷ ns) = (refl, none_in_memory c ns)
 
-pub function_leaves : (c : Context) → IsLawfulContext c → (d : Declaration) (of : Option CType) (list : List Stmt) (s : State) → Leaves c s (function d of list s).1
+pub function_leaves : (c : Context) → IsLawfulContext c → (d : Declaration) (of : Option FunctionType) (list : List Stmt) (s : State) → Leaves c s (function d of list s).1
 function_leaves c lawful d of list s =
     let v = (Ended d of list s).1 in
     let moves = body_moves c lawful d of list s in

@@ -53,6 +53,22 @@ module _ (c : Context) (known : Type 0) where
   pub moves_known : {X Y : Type 0} (w u : BodyState) → (Covers c u → known → X → Y) → Moves c known X w u → Moves c known Y w u
   moves_known w u f m = record { grows = m.grows; later = m.later; env = m.env; stands = m.stands; found = λ h g. f h g.function (m.found h g) }
 
+  -- where more is known of the function
+  pub moves_under : {X : Type 0} (more : Type 0) (w u : BodyState) → (more → known) → Moves c known X w u → Moves c more X w u
+  moves_under more w u f m = record {
+    grows = m.grows;
+    later = m.later;
+    env = m.env;
+    stands = λ h g. behind g (m.stands h (before g));
+    found = λ h g. m.found h (before g);
+  }
+    where
+      before : Stands c more w → Stands c known w
+      before g = record { scope = g.scope; lawful = g.lawful; function = f g.function }
+
+      behind : Stands c more w → Stands c known u → Stands c more u
+      behind g t = record { scope = t.scope; lawful = t.lawful; function = g.function }
+
   pub moves_then : {X Y : Type 0} (w u v : BodyState) → Moves c known X w u → Moves c known Y u v → Moves c known (X × Y) w v
   moves_then w u v m n = record {
     grows = grows_then w.0 u.0 v.0 m.grows n.grows;

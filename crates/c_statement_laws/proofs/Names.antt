@@ -45,7 +45,8 @@ use Rattle.c_statement_rules.specs.Objects.{no_object, object_type}
 use Rattle.c_statement_rules.specs.Forms.{first_value, first_locals}
 use Rattle.c_statement_rules.specs.Locals.{BodyState, with_notes, local_of_type, local_named, no_name, parameter_named, no_initialiser, with_initialiser, local_with_value, without_initialiser}
 use Rattle.c_statements.specs.Parts.{type_of, value_of, initialiser_of, local_of, first_of}
-use Rattle.c_statements.specs.Functions.{parameter_of as one_parameter, parameters}
+use Rattle.c_statements.specs.declared.functions.FunctionType.{FunctionType}
+use Rattle.c_statements.specs.Functions.{parameter_of as one_parameter, parameters, typed_parameters, declared_parameters}
 use Rattle.c_type_laws.specs.Typed.{AreKnown, IsTypedIn}
 use Rattle.c_type_laws.proofs.Truth.{no_true, front, back, also, three, along, either_left}
 use Rattle.c_type_laws.proofs.Types.{known_object}
@@ -57,7 +58,8 @@ use Rattle.c_expression_laws.proofs.Types.{parameter_typed}
 use Rattle.c_statement_rule_laws.proofs.Parts.{initialiser_typed}
 use Rattle.c_statement_laws.proofs.Locals.{Grows, grows_then, has_fewer, get_last, one_more}
 use Rattle.c_expression_laws.proofs.Parts.{extends_then}
-use Rattle.c_statement_laws.proofs.Moves.{Covers, Moves, moves_none, moves_as, moves_then, moves_both, moves_quiet, part_moves, two_moves, later_ruled, walk_moves}
+use Rattle.c_statement_laws.specs.Laws.{is_parameter}
+use Rattle.c_statement_laws.proofs.Moves.{Covers, Moves, moves_none, moves_as, moves_known, moves_then, moves_both, moves_quiet, part_moves, two_moves, later_ruled, walk_moves}
 use Rattle.c_statement_laws.proofs.Parts.{IsValue, judge_moves, value_moves, type_moves}
 
 -- ---- types of objects, by the structs of the notes and by those of the context
@@ -352,3 +354,24 @@ module _ (c : Context) (known : Type 0) where
     pub parameters_moves : (ps : List Parameter) (sound : Bool) (v w : BodyState) → Moves c known (AreScalars w.0) v w → Moves c known (AreScalars (parameters ps sound w).1.0) v (parameters ps sound w).1
     parameters_moves [] sound v w m = m
     parameters_moves (p ∷ ps) sound v w m = parameters_moves ps (sound && is_some (one_parameter p w).0) v (one_parameter p w).1 (parameter_moves p v w m)
+
+    -- those whose types the declarator gives
+    pub typed_parameters_moves : (ps : List Parameter) (tys : List CType) (sound : Bool) (v w : BodyState) → (known → IsTrue (list_all (is_parameter c.structs) tys)) → Moves c known (AreScalars w.0) v w
+        → Moves c known (AreScalars (typed_parameters ps tys sound w).1.0) v (typed_parameters ps tys sound w).1
+    typed_parameters_moves [] [] sound v w given m = m
+    typed_parameters_moves [] (ty ∷ tys) sound v w given m = m
+    typed_parameters_moves (p ∷ ps) [] sound v w given m = m
+    typed_parameters_moves (p ∷ ps) (ty ∷ tys) sound v w given m =
+        let r = parameter_named p.at p.name (Some ty) w in
+        let own = is_parameter c.structs ty in
+        let rest = list_all (is_parameter c.structs) tys in
+        let object = is_object_type c.structs (type_view ty) in
+        let scalar = is_scalar (type_view ty) in
+        typed_parameters_moves ps tys (sound && is_some r.0) v r.1 (λ k. back own rest (given k))
+        (named_parameter_moves p.at p.name (Some ty) v w
+        (moves_known c known v w (λ h k s. (s, (front object scalar (front own rest (given k)), back object scalar (front own rest (given k))))) m))
+
+    pub declared_parameters_moves : (of : Option FunctionType) (ps : List Parameter) (w : BodyState) → (known → IfSome of (λ t. IsTrue (list_all (is_parameter c.structs) t.parameters))) → AreScalars w.0
+        → Moves c known (AreScalars (declared_parameters of ps w).1.0) w (declared_parameters of ps w).1
+    declared_parameters_moves None ps w given h = parameters_moves ps true w w (moves_none c known w h)
+    declared_parameters_moves (Some of) ps w given h = typed_parameters_moves ps of.parameters true w w given (moves_none c known w h)

@@ -121,7 +121,9 @@ fn no_name(
     }
 }
 
-fn parameter_named<'a>(
+/// Declares a parameter of a function's definition, with its type if that has no fault. One without a name has the fault
+/// BadType, if it has none besides. It fails only where memory is short.
+pub fn parameter_named<'a>(
     alloc: Global,
     locals: &mut Seq<Local>,
     env: &mut Env<'a>,

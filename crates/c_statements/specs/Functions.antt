@@ -1,5 +1,6 @@
--- The body of a function (C99 6.9.1). Parameters and the outermost block are one scope. The parameters are judged once
--- more there, with their numbers: what the declarator has noted of them is noted at the same places.
+-- The body of a function (C99 6.9.1). Parameters and the outermost block are one scope. Where the declarator has no fault
+-- the parameters have the types that it gives; else they are judged once more there, and what the declarator has noted of
+-- them is noted at the same places.
 use Rattle.std.specs.Prelude.{ℕ, ◌&&◌, Bool, true, false, List, [], ◌∷◌, Option, Some, None, length, is_some}
 use Rattle.c_tree.specs.declared.types.TypeNode as n
 use Rattle.c_tree.specs.declared.types.Declaration.{Declaration}
@@ -17,7 +18,8 @@ use Rattle.c_checks.specs.Scopes.{enter, leave}
 use Rattle.c_judgements.specs.Types.{State}
 use Rattle.c_statement_rules.specs.declared.locals.NewLocal.{NewLocal}
 use Rattle.c_statement_rules.specs.Jumps.{no_jumps}
-use Rattle.c_statement_rules.specs.Locals.{BodyState, beside, parameter_declared, with_addressed}
+use Rattle.c_statement_rules.specs.Locals.{BodyState, beside, parameter_named, parameter_declared, with_addressed}
+use Rattle.c_statements.specs.declared.functions.FunctionType.{FunctionType}
 use Rattle.c_statements.specs.Parts.{type_of}
 use Rattle.c_statements.specs.Statements.{statement}
 
@@ -41,6 +43,22 @@ abbrev pub parameters : List Parameter → (sound : Bool) → BodyState → Bool
 parameters [] sound s = (sound, s)
 parameters (p ∷ ps) sound s = and_then (parameter_of p s) (λ r. parameters ps (sound && is_some r))
 
+-- whether none has a fault, and each has its type
+abbrev pub typed_parameters : List Parameter → List CType → (sound : Bool) → BodyState → Bool × BodyState
+typed_parameters [] [] sound s = (sound, s)
+typed_parameters [] (ty ∷ tys) sound s = (false, s)
+typed_parameters (p ∷ ps) [] sound s = (false, s)
+typed_parameters (p ∷ ps) (ty ∷ tys) sound s =
+    and_then (parameter_named p.at p.name (Some ty) s) (λ r. typed_parameters ps tys (sound && is_some r))
+
+abbrev pub declared_parameters : Option FunctionType → List Parameter → BodyState → Bool × BodyState
+declared_parameters None ps s = parameters ps true s
+declared_parameters (Some of) ps s = typed_parameters ps of.parameters true s
+
+abbrev pub result_of : Option FunctionType → Option CType
+result_of None = None
+result_of (Some of) = Some of.result
+
 -- ---- the function, where nothing in it has a fault
 
 abbrev pub typed_body : List ℕ → CType → (params : ℕ) → List Local → Option (List t.TStmt) → Option TypedFn
@@ -58,10 +76,10 @@ abbrev pub without_addresses : Notes → Notes
 without_addresses n = with_taken [] n.texts n
 
 -- the locals whose address was taken are objects of memory
-abbrev pub function : Declaration → (result : Option CType) → List Stmt → State → Option TypedFn × State
+abbrev pub function : Declaration → Option FunctionType → List Stmt → State → Option TypedFn × State
 function d of list s =
-    and_then (parameters (parameters_of d.ty) true ([], (enter s.0, s.1))) (λ sound u.
-    and_then (walk (statement of no_jumps) list (Some []) u) (λ found v. (
-      typed_function d.name of sound (length u.0) (with_addressed v.1.1.addressed v.0) found,
+    and_then (declared_parameters of (parameters_of d.ty) ([], (enter s.0, s.1))) (λ sound u.
+    and_then (walk (statement (result_of of) no_jumps) list (Some []) u) (λ found v. (
+      typed_function d.name (result_of of) sound (length u.0) (with_addressed v.1.1.addressed v.0) found,
       (leave s.0.outside v.1.0, without_addresses v.1.1),
     )))

@@ -8,12 +8,21 @@ ghost use Rattle.c_statements.specs.Functions as spec;
 use crate::descent::statements;
 use crate::parts::type_of;
 use c_checks::{Env, Notes, enter, leave};
-use c_statement_rules::locals::{declare_parameter, keep_in_memory};
+use c_statement_rules::locals::{declare_parameter, keep_in_memory, parameter_named};
 use c_statement_rules::{Jumps, NewLocal};
 use c_tree::{Declaration, Name, Parameter, Seq, Stmt, TypeNode};
 use c_typed_tree::{CType, Local, TStmt, TypedFn};
 use std::alloc::{AllocError, Global};
 use std::mem::replace;
+
+/// The type of a function.
+#[derive(Drop)]
+pub struct FunctionType {
+    /// `void` or a scalar.
+    pub result: CType,
+    /// Scalars: an array is a pointer here.
+    pub parameters: Seq<CType>,
+}
 
 /// The parameters of the declarator of a function.
 #[tactic(auto, using(crate::proofs::Rows::parameters_of_takes), unfolding(crate::specs::Functions::parameters_of))]
@@ -63,6 +72,73 @@ fn parameters<'a>(
         sound = sound && found.is_some();
     }
     Ok(sound)
+}
+
+/// Declares parameters of types that were judged, and says whether none has a fault and each has its type.
+fn typed_parameters<'a>(
+    alloc: Global,
+    list: &'a [Parameter],
+    types: Seq<CType>,
+    locals: &mut Seq<Local>,
+    env: &mut Env<'a>,
+    notes: &mut Notes<'a>,
+) -> Result<bool, AllocError>
+    ensures { Finds (spec.typed_parameters list.now types true (locals.old, (env.old, notes.old)))
+        result (locals.new, (env.new, notes.new)) }
+{
+    let mut sound = true;
+    let mut rest = Seq::into_vec(types).into_iter();
+    for p in list {
+        match rest.next() {
+            None => return Ok(false),
+            Some(ty) => {
+                let found = parameter_named(alloc, locals, env, notes, p.at, &p.name, Some(ty))?;
+                sound = sound && found.is_some();
+            }
+        }
+    }
+    Ok(sound && rest.next().is_none())
+}
+
+/// What a definition declares before its body.
+#[derive(Drop)]
+struct Head {
+    /// The type of the result, where the declarator has no fault.
+    result: Option<CType>,
+    /// Whether no parameter has a fault.
+    sound: bool,
+}
+
+/// Declares the parameters of a definition, with the types of the declarator where that has no fault.
+fn declare_parameters<'a>(
+    alloc: Global,
+    of: Option<FunctionType>,
+    list: &'a [Parameter],
+    locals: &mut Seq<Local>,
+    env: &mut Env<'a>,
+    notes: &mut Notes<'a>,
+) -> Result<Head, AllocError>
+    ensures result { IfOk result (λ r. r.result ≡ spec.result_of of) }
+    ensures sound { IfOk result (λ r. spec.declared_parameters of list.now (locals.old, (env.old, notes.old))
+        ≡ (r.sound, (locals.new, (env.new, notes.new)))) }
+{
+    match of {
+        None => {
+            let sound = parameters(alloc, list, locals, env, notes)?;
+            Ok(Head {
+                result: None,
+                sound,
+            })
+        }
+        Some(of) => {
+            let FunctionType { result, parameters } = of;
+            let sound = typed_parameters(alloc, list, parameters, locals, env, notes)?;
+            Ok(Head {
+                result: Some(result),
+                sound,
+            })
+        }
+    }
 }
 
 fn typed_body(
@@ -128,12 +204,12 @@ fn end_locals(alloc: Global, locals: &mut Seq<Local>, notes: &mut Notes<'_>)
     keep_in_memory(alloc, locals, addressed.as_slice());
 }
 
-/// Judges the body of the function that a declaration defines. `of` is the type of its result, where that declaration
-/// has no fault. Parameters and the outermost block of the body are one scope.
+/// Judges the body of the function that a declaration defines. `of` is its type, where that declaration has no fault.
+/// Parameters and the outermost block of the body are one scope.
 pub fn function<'a>(
     alloc: Global,
     declaration: &'a Declaration,
-    of: Option<CType>,
+    of: Option<FunctionType>,
     list: &'a [Stmt],
     env: &mut Env<'a>,
     notes: &mut Notes<'a>,
@@ -142,14 +218,10 @@ pub fn function<'a>(
 {
     let mut locals = Seq::new(alloc);
     let outside = enter(env);
-    let sound = parameters(
-        alloc,
-        parameters_of(&declaration.ty),
-        &mut locals,
-        env,
-        notes,
-    )?;
+    let list_of = parameters_of(&declaration.ty);
+    let head = declare_parameters(alloc, of, list_of, &mut locals, env, notes)?;
     let params = count_of(&locals)?;
+    let Head { result: of, sound } = head;
     let found = statements(alloc, list, &of, Jumps::none(), &mut locals, env, notes)?;
     leave(env, outside);
     end_locals(alloc, &mut locals, notes);

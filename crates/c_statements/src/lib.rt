@@ -10,4 +10,4 @@ mod functions;
 mod parts;
 
 pub use descent::{statement, statements};
-pub use functions::function;
+pub use functions::{FunctionType, function};
