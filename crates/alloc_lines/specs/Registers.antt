@@ -1,10 +1,10 @@
 -- An instruction with the registers that an allocation states for its temporaries: those that it reads, in order, then
 -- those that it writes. So a temporary's number stands for a register.
 use Rattle.std.specs.Prelude.{ℕ, ◌+◌, List, slice_index_or}
-use Rattle.temp_ir.specs.declared.insn.Source.{Source}
-use Rattle.temp_ir.specs.declared.insn.Source.TheVariants as source
-use Rattle.temp_ir.specs.declared.insn.Operand.{Operand}
-use Rattle.temp_ir.specs.declared.insn.Operand.TheVariants as operand
+use Rattle.temp_ir.specs.declared.insn.FirstOperand.{FirstOperand}
+use Rattle.temp_ir.specs.declared.insn.FirstOperand.TheVariants as source
+use Rattle.temp_ir.specs.declared.insn.SecondOperand.{SecondOperand}
+use Rattle.temp_ir.specs.declared.insn.SecondOperand.TheVariants as operand
 use Rattle.temp_ir.specs.declared.insn.TempInsn.{TempInsn}
 use Rattle.temp_ir.specs.declared.insn.TempInsn.TheVariants.{Address, ObjectAddress, Load, Store, Operate, Extend, ToFixed, FromFixed, SetFixed, WriteArgument, ReadArgument, Branch, Jump, Call, Divide, Serve, Return, Mark}
 
@@ -13,20 +13,20 @@ abbrev pub register_at : (registers : List ℕ) → (k : ℕ) → ℕ
 register_at registers k = slice_index_or registers k 0
 
 -- how many temporaries an operand is
-abbrev pub source_count : Source → ℕ
+abbrev pub source_count : FirstOperand → ℕ
 source_count source.Zero = 0
 source_count (source.Temp t) = 1
 
-abbrev pub operand_count : Operand → ℕ
+abbrev pub operand_count : SecondOperand → ℕ
 operand_count (operand.Temp t) = 1
 operand_count (operand.Literal n) = 0
 
 -- an operand, of which the register stands at a place of the list
-abbrev pub source_in : (registers : List ℕ) → (k : ℕ) → Source → Source
+abbrev pub source_in : (registers : List ℕ) → (k : ℕ) → FirstOperand → FirstOperand
 source_in registers k source.Zero = source.Zero
 source_in registers k (source.Temp t) = source.Temp (register_at registers k)
 
-abbrev pub operand_in : (registers : List ℕ) → (k : ℕ) → Operand → Operand
+abbrev pub operand_in : (registers : List ℕ) → (k : ℕ) → SecondOperand → SecondOperand
 operand_in registers k (operand.Temp t) = operand.Temp (register_at registers k)
 operand_in registers k (operand.Literal n) = operand.Literal n
 

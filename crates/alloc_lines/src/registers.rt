@@ -3,7 +3,7 @@
 ghost use Rattle.std.specs.Prelude.{◌≡◌, ◌≤◌};
 ghost use Rattle.alloc_lines.specs.Registers as stated;
 
-use temp_ir::insn::{Operand, Source, TempInsn};
+use temp_ir::insn::{FirstOperand, SecondOperand, TempInsn};
 
 /// The register with a number in the list, or 0 where there is none.
 fn register_at(registers: &[u8], k: usize) -> u32
@@ -16,44 +16,44 @@ fn register_at(registers: &[u8], k: usize) -> u32
 }
 
 /// How many temporaries a first operand is.
-fn source_count(source: Source) -> usize
+fn source_count(source: FirstOperand) -> usize
     ensures is { result ≡ stated.source_count source }
     ensures few { result ≤ 1 }
 {
     match source {
-        Source::Zero => 0,
-        Source::Temp(_) => 1,
+        FirstOperand::Zero => 0,
+        FirstOperand::Temp(_) => 1,
     }
 }
 
 /// How many temporaries a second operand is.
-fn operand_count(operand: Operand) -> usize
+fn operand_count(operand: SecondOperand) -> usize
     ensures is { result ≡ stated.operand_count operand }
     ensures few { result ≤ 1 }
 {
     match operand {
-        Operand::Temp(_) => 1,
-        Operand::Literal(_) => 0,
+        SecondOperand::Temp(_) => 1,
+        SecondOperand::Literal(_) => 0,
     }
 }
 
 /// A first operand, of which the register stands at a place of the list.
-fn source_in(registers: &[u8], k: usize, source: Source) -> Source
+fn source_in(registers: &[u8], k: usize, source: FirstOperand) -> FirstOperand
     ensures { result ≡ stated.source_in registers.now k source }
 {
     match source {
-        Source::Zero => Source::Zero,
-        Source::Temp(_) => Source::Temp(register_at(registers, k)),
+        FirstOperand::Zero => FirstOperand::Zero,
+        FirstOperand::Temp(_) => FirstOperand::Temp(register_at(registers, k)),
     }
 }
 
 /// A second operand, of which the register stands at a place of the list.
-fn operand_in(registers: &[u8], k: usize, operand: Operand) -> Operand
+fn operand_in(registers: &[u8], k: usize, operand: SecondOperand) -> SecondOperand
     ensures { result ≡ stated.operand_in registers.now k operand }
 {
     match operand {
-        Operand::Temp(_) => Operand::Temp(register_at(registers, k)),
-        Operand::Literal(number) => Operand::Literal(number),
+        SecondOperand::Temp(_) => SecondOperand::Temp(register_at(registers, k)),
+        SecondOperand::Literal(number) => SecondOperand::Literal(number),
     }
 }
 

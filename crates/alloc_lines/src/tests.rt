@@ -9,7 +9,7 @@ use std::alloc::{AllocError, Global};
 use std::test::Fail;
 use suifvm_ir::block::Block;
 use suifvm_ir::function::Func;
-use temp_ir::insn::{Operand, Source, TempInsn};
+use temp_ir::insn::{FirstOperand, SecondOperand, TempInsn};
 use temp_ir::operation::{AddressOp, Operation};
 
 /// A list of three.
@@ -43,15 +43,15 @@ fn doubling(alloc: Global) -> Result<Func<TempInsn>, AllocError> {
     let number = TempInsn::Address {
         op: AddressOp::Lda,
         destination: 0,
-        base: Source::Zero,
+        base: FirstOperand::Zero,
         plus: 5,
     };
     blocks.push(block_of(alloc, number)?)?;
     let sum = TempInsn::Operate {
         op: Operation::Addq,
         destination: 1,
-        left: Source::Temp(0),
-        right: Operand::Temp(0),
+        left: FirstOperand::Temp(0),
+        right: SecondOperand::Temp(0),
     };
     blocks.push(block_of(alloc, sum)?)?;
     blocks.push(block_of(alloc, TempInsn::Return { with_value: false })?)?;

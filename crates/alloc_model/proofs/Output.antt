@@ -10,9 +10,9 @@ use Rattle.temp_ir.specs.declared.operation.Service.{Service}
 use Rattle.temp_ir.specs.declared.operation.Service.TheVariants.{End, PutByte, GetByte, Trap}
 use Rattle.temp_ir.specs.declared.insn.TempInsn.{TempInsn}
 use Rattle.temp_ir.specs.declared.insn.TempInsn.TheVariants as i
-use Rattle.alloc_model.specs.Contents.{Content, Plain, Bundle, Answer, Gives, TrapsWith, Fails}
+use Rattle.alloc_model.specs.Contents.{Content, Plain, Bundle, ContentAnswer, Gives, TrapsWith, Fails}
 use Rattle.alloc_model.specs.Effect.{fails, writes, changes, branches, content_at, service_number, is_number, end_act, put_act, trap_act, serve_act, widest_call, does}
-use Rattle.alloc_model.specs.Temporaries.{FunctionCode, Temps, temp_code, temp_site, next_if, site_or_next, site_in, is_left_at, blocks_in}
+use Rattle.alloc_model.specs.Temporaries.{TemporaryCode, Temps, temp_code, temp_site, next_if, site_or_next, site_in, is_left_at, blocks_in}
 use Rattle.alloc_model.specs.Places.{Plan, Places, placed_code, placed_site, placed_site_in, transfers_at, registers_at}
 
 -- the output of an outer part is a front of the one that is left
@@ -26,7 +26,7 @@ if_extends : (o : Outer) (b : Bool) (x y : Act Content) → Extends o x → Exte
 if_extends o true x y h k = h
 if_extends o false x y h k = k
 
-writes_extends : (a : Answer) (o : Outer) → Extends o (writes a o)
+writes_extends : (a : ContentAnswer) (o : Outer) → Extends o (writes a o)
 writes_extends (Gives c) o = same o.output
 writes_extends (TrapsWith code) o = same o.output
 writes_extends Fails o = same o.output
@@ -108,7 +108,7 @@ module _ (S : Type 0) where
   site_keeps insn block at None keeps = tt
   site_keeps insn block at (Some insns) keeps = insn_keeps (insn at) block (is_left_at insns at) (slice_get insns at) (keeps at)
 
-pub temps_keep : (functions : List FunctionCode) → KeepsOutput Content Temps (temp_code functions)
+pub temps_keep : (functions : List TemporaryCode) → KeepsOutput Content Temps (temp_code functions)
 temps_keep functions p s is =
     let blocks : List (List TempInsn) = blocks_in (slice_get functions p.function) in
     subst (OfSite Temps) is

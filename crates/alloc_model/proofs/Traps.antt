@@ -16,12 +16,12 @@ use Rattle.temp_ir.specs.declared.insn.TempInsn.{TempInsn}
 use Rattle.temp_ir.specs.declared.insn.TempInsn.TheVariants as i
 use Rattle.temp_ir.specs.Insns.{is_checked, service_may_trap, may_trap_of}
 use Rattle.temp_ir.specs.Operations.{operate_op}
-use Rattle.alloc_model.specs.Contents.{Content, Plain, Bundle, Answer, Gives, TrapsWith, Fails, content_answer, effect_answer, operate_answer, extend_answer, other_content}
+use Rattle.alloc_model.specs.Contents.{Content, Plain, Bundle, ContentAnswer, Gives, TrapsWith, Fails, content_answer, effect_answer, operate_answer, extend_answer, other_content}
 use Rattle.alloc_model.specs.Effect.{fails, writes, changes, branches, content_at, left_of, right_of, operand_of, service_number, is_number, argument_answer, end_act, put_act, serve_act, does}
 use Rattle.alloc_model.specs.Laws.{OnlyTheseTrap}
 
 -- an answer, and an act, that is no trap
-abbrev Calm : Answer → Type 0
+abbrev Calm : ContentAnswer → Type 0
 Calm (Gives c) = Unit {0}
 Calm (TrapsWith code) = ⊥
 Calm Fails = Unit {0}
@@ -40,16 +40,16 @@ abbrev OnlyIf : Bool → Act Content → Type 0
 OnlyIf true a = Unit {0}
 OnlyIf false a = NoTrap a
 
-abbrev CalmUnless : Bool → Answer → Type 0
+abbrev CalmUnless : Bool → ContentAnswer → Type 0
 CalmUnless true a = Unit {0}
 CalmUnless false a = Calm a
 
-writes_calm : (a : Answer) (o : Outer) → Calm a → NoTrap (writes a o)
+writes_calm : (a : ContentAnswer) (o : Outer) → Calm a → NoTrap (writes a o)
 writes_calm (Gives c) o h = tt
 writes_calm (TrapsWith code) o h = absurd h
 writes_calm Fails o h = tt
 
-writes_only : (test : Bool) (a : Answer) (o : Outer) → CalmUnless test a → OnlyIf test (writes a o)
+writes_only : (test : Bool) (a : ContentAnswer) (o : Outer) → CalmUnless test a → OnlyIf test (writes a o)
 writes_only true a o h = tt
 writes_only false a o h = writes_calm a o h
 
@@ -57,7 +57,7 @@ option_calm : (c : Option Content) → Calm (content_answer c)
 option_calm (Some c) = tt
 option_calm None = tt
 
-calm_unless : (test : Bool) (a : Answer) → Calm a → CalmUnless test a
+calm_unless : (test : Bool) (a : ContentAnswer) → Calm a → CalmUnless test a
 calm_unless true a h = tt
 calm_unless false a h = h
 

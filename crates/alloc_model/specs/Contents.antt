@@ -20,8 +20,8 @@ use Rattle.temp_ir.specs.declared.operation.LoadOp.{LoadOp}
 use Rattle.temp_ir.specs.declared.operation.LoadOp.TheVariants.{Ldbu, Ldwu, Ldl, Ldq}
 use Rattle.temp_ir.specs.declared.operation.StoreOp.{StoreOp}
 use Rattle.temp_ir.specs.declared.operation.StoreOp.TheVariants.{Stb, Stw, Stl, Stq}
-use Rattle.temp_ir.specs.declared.operation.BranchOp.{BranchOp}
-use Rattle.temp_ir.specs.declared.operation.BranchOp.TheVariants.{Beq, Bne}
+use Rattle.temp_ir.specs.declared.operation.TempBranchOp.{TempBranchOp}
+use Rattle.temp_ir.specs.declared.operation.TempBranchOp.TheVariants.{Beq, Bne}
 use Rattle.temp_ir.specs.declared.operation.Operation.{Operation}
 use Rattle.temp_ir.specs.declared.operation.Operation.TheVariants.{Addq, Subq, Cmpeq, Cmpult, Cmpule, Bis}
 use Rattle.temp_ir.specs.declared.operation.ExtendOp.{ExtendOp}
@@ -41,20 +41,20 @@ unset = Plain Unset
 -- ---- what comes of an operation
 
 -- a content, a trap with a code, or nothing that has a meaning
-pub data Answer : Type 0 where
-  Gives : Content → Answer
-  TrapsWith : (code : ℕ) → Answer
-  Fails : Answer
+pub data ContentAnswer : Type 0 where
+  Gives : Content → ContentAnswer
+  TrapsWith : (code : ℕ) → ContentAnswer
+  Fails : ContentAnswer
 
-abbrev pub word_answer : (n : ℕ) → Answer
+abbrev pub word_answer : (n : ℕ) → ContentAnswer
 word_answer n = Gives (word n)
 
-abbrev pub content_answer : Option Content → Answer
+abbrev pub content_answer : Option Content → ContentAnswer
 content_answer (Some c) = Gives c
 content_answer None = Fails
 
 -- a signed result that does not fit is the trap 3
-abbrev pub effect_answer : OperationEffect → Answer
+abbrev pub effect_answer : OperationEffect → ContentAnswer
 effect_answer (isa.Gives n) = word_answer n
 effect_answer Keeps = Fails
 effect_answer Overflows = TrapsWith 3
@@ -92,11 +92,11 @@ other_content m Bis (Plain (Word zero)) (Plain (Address p)) = Some (Plain (Addre
 other_content m Bis (Plain (Word zero)) (Bundle cells) = Some (Bundle cells)
 other_content m _ a b = None
 
-abbrev pub operate_answer : Memory → Operation → (a b : Content) → Answer
+abbrev pub operate_answer : Memory → Operation → (a b : Content) → ContentAnswer
 operate_answer m op (Plain (Word a)) (Plain (Word b)) = effect_answer (operation_effect (operate_op op) a b)
 operate_answer m op a b = content_answer (other_content m op a b)
 
-abbrev pub extend_answer : ExtendOp → Content → Answer
+abbrev pub extend_answer : ExtendOp → Content → ContentAnswer
 extend_answer op (Plain (Word n)) = effect_answer (operation_effect (extend_op op) 0 n)
 extend_answer op _ = Fails
 
@@ -190,12 +190,12 @@ stored_memory m op value pointer plus =
 -- ---- branches
 
 -- a pointer is tested against null
-abbrev pub pointer_test : BranchOp → Option Bool → Option Bool
+abbrev pub pointer_test : TempBranchOp → Option Bool → Option Bool
 pointer_test Beq null = null
 pointer_test Bne null = option_map not null
 pointer_test _ null = None
 
-abbrev pub test_of : BranchOp → Memory → Content → Option Bool
+abbrev pub test_of : TempBranchOp → Memory → Content → Option Bool
 test_of op m (Plain (Word n)) = Some (is_taken (branch_op op) n)
 test_of op m (Plain (Address p)) = pointer_test op (is_null m (Address p))
 test_of op m _ = None

@@ -10,21 +10,21 @@ use Rattle.machine_model.specs.Code.{Exits, Traps, HasNoMeaning, Act, Writes, Ju
 use Rattle.alpha_isa.specs.Arithmetic.{word_from, sign_extension}
 use Rattle.alpha_isa.specs.Step.{input_word}
 use Rattle.alpha_rt.specs.Routine as rt
-use Rattle.suifvm_ir.specs.declared.insn.Place.{Place}
-use Rattle.suifvm_ir.specs.declared.insn.Place.TheVariants.{Global, Local}
-use Rattle.temp_ir.specs.declared.operation.Routine.{Routine}
-use Rattle.temp_ir.specs.declared.operation.Routine.TheVariants.{Divq, Remq, Divqu, Remqu, Divl, Reml, Divlu, Remlu}
+use Rattle.suifvm_ir.specs.declared.insn.VmObject.{VmObject}
+use Rattle.suifvm_ir.specs.declared.insn.VmObject.TheVariants.{Global, Local}
+use Rattle.temp_ir.specs.declared.operation.DivisionRoutine.{DivisionRoutine}
+use Rattle.temp_ir.specs.declared.operation.DivisionRoutine.TheVariants.{Divq, Remq, Divqu, Remqu, Divl, Reml, Divlu, Remlu}
 use Rattle.temp_ir.specs.declared.operation.Service.{Service}
 use Rattle.temp_ir.specs.declared.operation.Service.TheVariants.{End, PutByte, GetByte, Trap}
-use Rattle.temp_ir.specs.declared.insn.Source.{Source}
-use Rattle.temp_ir.specs.declared.insn.Source.TheVariants as source
-use Rattle.temp_ir.specs.declared.insn.Operand.{Operand}
-use Rattle.temp_ir.specs.declared.insn.Operand.TheVariants as operand
+use Rattle.temp_ir.specs.declared.insn.FirstOperand.{FirstOperand}
+use Rattle.temp_ir.specs.declared.insn.FirstOperand.TheVariants as source
+use Rattle.temp_ir.specs.declared.insn.SecondOperand.{SecondOperand}
+use Rattle.temp_ir.specs.declared.insn.SecondOperand.TheVariants as operand
 use Rattle.temp_ir.specs.declared.insn.TempInsn.{TempInsn}
 use Rattle.temp_ir.specs.declared.insn.TempInsn.TheVariants as i
 use Rattle.temp_ir.specs.Insns.{reads_of, writes_of}
 use Rattle.temp_ir.specs.Fixed.{argument_registers, fixed_reads_of, fixed_writes_of}
-use Rattle.alloc_model.specs.Contents.{Content, Plain, word, unset, Answer, Gives, TrapsWith, Fails, word_answer, content_answer, operate_answer, extend_answer, moved_by, moved_content, loaded_content, stored_memory, test_of}
+use Rattle.alloc_model.specs.Contents.{Content, Plain, word, unset, ContentAnswer, Gives, TrapsWith, Fails, word_answer, content_answer, operate_answer, extend_answer, moved_by, moved_content, loaded_content, stored_memory, test_of}
 
 -- ---- what holds something in a call
 
@@ -87,7 +87,7 @@ abbrev pub fails : Outer → Act Content
 fails o = Stops HasNoMeaning o
 
 -- a content is written
-abbrev pub writes : Answer → Outer → Act Content
+abbrev pub writes : ContentAnswer → Outer → Act Content
 writes (Gives c) o = Writes (c ∷ []) o
 writes (TrapsWith code) o = Stops (Traps code) o
 writes Fails o = fails o
@@ -107,31 +107,31 @@ branches None o = fails o
 abbrev pub content_at : List Content → (k : ℕ) → Content
 content_at cs k = slice_index_or cs k unset
 
-abbrev pub left_of : Source → List Content → Content
+abbrev pub left_of : FirstOperand → List Content → Content
 left_of source.Zero cs = word 0
 left_of (source.Temp t) cs = content_at cs 0
 
 -- how many temporaries stand before the second operand
-abbrev pub behind : Source → ℕ
+abbrev pub behind : FirstOperand → ℕ
 behind source.Zero = 0
 behind (source.Temp t) = 1
 
-abbrev pub right_of : Source → Operand → List Content → Content
+abbrev pub right_of : FirstOperand → SecondOperand → List Content → Content
 right_of left (operand.Temp t) cs = content_at cs (behind left)
 right_of left (operand.Literal n) cs = word n
 
-abbrev pub operand_of : Operand → List Content → Content
+abbrev pub operand_of : SecondOperand → List Content → Content
 operand_of (operand.Temp t) cs = content_at cs 0
 operand_of (operand.Literal n) cs = word n
 
 -- the address of an object; own is the number of the first memory local of the call
-abbrev pub place_content : (own : ℕ) → Place → (plus : ℕ) → Content
+abbrev pub place_content : (own : ℕ) → VmObject → (plus : ℕ) → Content
 place_content own (Global k) plus = Plain (Address (record { object = k; offset = pos plus }))
 place_content own (Local k) plus = Plain (Address (record { object = own + k; offset = pos plus }))
 
 -- ---- division routines and services
 
-abbrev pub routine_of : Routine → rt.Routine
+abbrev pub routine_of : DivisionRoutine → rt.Routine
 routine_of Divq = rt.Divq
 routine_of Remq = rt.Remq
 routine_of Divqu = rt.Divqu
@@ -141,7 +141,7 @@ routine_of Reml = rt.Reml
 routine_of Divlu = rt.Divlu
 routine_of Remlu = rt.Remlu
 
-abbrev pub is_long : Routine → Bool
+abbrev pub is_long : DivisionRoutine → Bool
 is_long Divl = true
 is_long Reml = true
 is_long Divlu = true
@@ -149,18 +149,18 @@ is_long Remlu = true
 is_long _ = false
 
 -- a routine of 32 bits takes words alone that have the sign of their low 32 bits above these
-abbrev pub takes : Routine → ℕ → Bool
+abbrev pub takes : DivisionRoutine → ℕ → Bool
 takes r n = if is_long r then sign_extension w32 n == n else true
 
-abbrev pub outcome_answer : rt.RoutineEnding → Answer
+abbrev pub outcome_answer : rt.RoutineEnding → ContentAnswer
 outcome_answer (rt.Answers n) = word_answer n
 outcome_answer (rt.Traps code) = TrapsWith code
 
-abbrev pub words_division : Routine → (a b : ℕ) → Answer
+abbrev pub words_division : DivisionRoutine → (a b : ℕ) → ContentAnswer
 words_division r a b =
     if takes r a && takes r b then outcome_answer (rt.outcome (routine_of r) a b) else Fails
 
-abbrev pub division_answer : Routine → (a b : Content) → Answer
+abbrev pub division_answer : DivisionRoutine → (a b : Content) → ContentAnswer
 division_answer r (Plain (Word a)) (Plain (Word b)) = words_division r a b
 division_answer r _ _ = Fails
 
@@ -200,7 +200,7 @@ serve_act Trap cs o = trap_act (content_at cs 0) o
 -- ---- arguments
 
 -- an argument place that holds nothing cannot be read
-abbrev pub argument_answer : Content → Answer
+abbrev pub argument_answer : Content → ContentAnswer
 argument_answer (Plain Unset) = Fails
 argument_answer c = Gives c
 

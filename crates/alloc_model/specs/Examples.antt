@@ -3,58 +3,58 @@ use Rattle.std.specs.Prelude.{◌≡◌, ℕ, pos, negsuc, true, false, List, []
 use Rattle.mem_model.specs.Ending.{Ending, Done, Trap, Undefined, More}
 use Rattle.machine_model.specs.Machine.{Next, Goes, Over}
 use Rattle.data_object.specs.declared.DataObject.{DataObject}
-use Rattle.data_object.specs.declared.Cell.TheVariants as cell
-use Rattle.suifvm_ir.specs.declared.insn.Place.TheVariants.{Global, Local}
+use Rattle.data_object.specs.declared.DataCell.TheVariants as cell
+use Rattle.suifvm_ir.specs.declared.insn.VmObject.TheVariants.{Global, Local}
 use Rattle.temp_ir.specs.declared.operation.AddressOp.TheVariants.{Lda, Ldah}
 use Rattle.temp_ir.specs.declared.operation.LoadOp.TheVariants.{Ldbu, Ldl, Ldq}
 use Rattle.temp_ir.specs.declared.operation.StoreOp.TheVariants.{Stl, Stq}
-use Rattle.temp_ir.specs.declared.operation.BranchOp.TheVariants.{Beq, Bne}
+use Rattle.temp_ir.specs.declared.operation.TempBranchOp.TheVariants.{Beq, Bne}
 use Rattle.temp_ir.specs.declared.operation.Operation.TheVariants.{Addl, Addq, AddqV, Subq, Cmpeq, Bis, Mulq}
 use Rattle.temp_ir.specs.declared.operation.ExtendOp.TheVariants.{Sextb}
-use Rattle.temp_ir.specs.declared.operation.Routine.TheVariants.{Divq, Reml}
+use Rattle.temp_ir.specs.declared.operation.DivisionRoutine.TheVariants.{Divq, Reml}
 use Rattle.temp_ir.specs.declared.operation.Service as service
 use Rattle.temp_ir.specs.declared.operation.Service.TheVariants.{End, PutByte, GetByte}
 use Rattle.temp_ir.specs.declared.insn.FixedRegister.TheVariants.{Value, Argument0, Argument1, Argument2, Argument3, Argument4, Argument5, Dividend, Divisor, Answer}
-use Rattle.temp_ir.specs.declared.insn.Source.TheVariants as s
-use Rattle.temp_ir.specs.declared.insn.Operand.TheVariants as o
+use Rattle.temp_ir.specs.declared.insn.FirstOperand.TheVariants as s
+use Rattle.temp_ir.specs.declared.insn.SecondOperand.TheVariants as o
 use Rattle.temp_ir.specs.declared.insn.TempInsn.{TempInsn}
 use Rattle.temp_ir.specs.declared.insn.TempInsn.TheVariants.{Address, ObjectAddress, Load, Store, Operate, Extend, ToFixed, FromFixed, SetFixed, WriteArgument, ReadArgument, Branch, Jump, Call, Divide, Serve, Return, Mark}
 use Rattle.alloc_model.specs.declared.allocation.EdgeCode.{EdgeCode}
 use Rattle.alloc_model.specs.declared.allocation.Transfer.{Transfer}
 use Rattle.alloc_model.specs.declared.allocation.Transfer.TheVariants as x
-use Rattle.alloc_model.specs.Temporaries.{FunctionCode, temp_run, start_world}
+use Rattle.alloc_model.specs.Temporaries.{TemporaryCode, temp_run, start_world}
 use Rattle.alloc_model.specs.Places.{Plan, placed_run}
 
 -- what is seen of a run: how it ended, if it did, and its output
-pub data Observation : Type 0 where
-  ShowsDone : (status : ℕ) → (output : List ℕ) → Observation
-  ShowsTrap : (code : ℕ) → (output : List ℕ) → Observation
-  ShowsUndefined : (at : ℕ) → (output : List ℕ) → Observation
-  ShowsMore : (output : List ℕ) → Observation
-  GoesOn : Observation
+pub data TemporaryObservation : Type 0 where
+  ShowsDone : (status : ℕ) → (output : List ℕ) → TemporaryObservation
+  ShowsTrap : (code : ℕ) → (output : List ℕ) → TemporaryObservation
+  ShowsUndefined : (at : ℕ) → (output : List ℕ) → TemporaryObservation
+  ShowsMore : (output : List ℕ) → TemporaryObservation
+  GoesOn : TemporaryObservation
 
-abbrev pub shown_ending : Ending → Observation
+abbrev pub shown_ending : Ending → TemporaryObservation
 shown_ending (Done w status) = ShowsDone status w.outer.output
 shown_ending (Trap w code) = ShowsTrap code w.outer.output
 shown_ending (Undefined w at) = ShowsUndefined at w.outer.output
 shown_ending (More w) = ShowsMore w.outer.output
 
-abbrev pub observe : {S : Type 0} → Next S → Observation
+abbrev pub observe : {S : Type 0} → Next S → TemporaryObservation
 observe (Goes k) = GoesOn
 observe (Over e) = shown_ending e
 
 -- a run of functions, of which the first is `main`, in at most 30 steps
-abbrev pub run_functions : List FunctionCode → List DataObject → (input : List ℕ) → (turns : ℕ) → Observation
+abbrev pub run_functions : List TemporaryCode → List DataObject → (input : List ℕ) → (turns : ℕ) → TemporaryObservation
 run_functions functions globals input turns = observe (temp_run [] functions 0 (start_world globals input turns) 30)
 
-abbrev pub function : (sizes : List ℕ) → List (List TempInsn) → FunctionCode
+abbrev pub function : (sizes : List ℕ) → List (List TempInsn) → TemporaryCode
 function sizes blocks = record { sizes = sizes; blocks = blocks }
 
 -- a run of one function without memory locals, and of one block
-abbrev pub run_blocks : List (List TempInsn) → (input : List ℕ) → (turns : ℕ) → Observation
+abbrev pub run_blocks : List (List TempInsn) → (input : List ℕ) → (turns : ℕ) → TemporaryObservation
 run_blocks blocks input turns = run_functions (function [] blocks ∷ []) [] input turns
 
-abbrev pub run_block : List TempInsn → (input : List ℕ) → (turns : ℕ) → Observation
+abbrev pub run_block : List TempInsn → (input : List ℕ) → (turns : ℕ) → TemporaryObservation
 run_block block input turns = run_blocks (block ∷ []) input turns
 
 -- a temporary is a number, and another one of the same content; a temporary is returned
@@ -78,7 +78,7 @@ object = record {
   cells = cell.Byte 1 ∷ cell.Byte 255 ∷ [];
 }
 
-pub record ExamplesRun : Type 0 where
+pub record TemporaryExamplesRun : Type 0 where
   -- an address of 16 bits and one of its high half
   pub constants : run_block (Address Ldah 0 s.Zero (pos 1) ∷ Address Lda 1 (s.Temp 0) (negsuc 65528) ∷ return 1) [] 0
       ≡ ShowsDone 7 []
@@ -146,7 +146,7 @@ pub record ExamplesRun : Type 0 where
 -- ---- over registers and slots
 
 -- a run of functions with their allocations, of which the first is `main`
-abbrev pub run_plans : List Plan → (turns : ℕ) → Observation
+abbrev pub run_plans : List Plan → (turns : ℕ) → TemporaryObservation
 run_plans plans turns = observe (placed_run [] plans 0 (start_world [] [] turns) 30)
 
 abbrev pub plan : List (List TempInsn) → List (List Transfer) → List (List ℕ) → List EdgeCode → Plan
@@ -173,14 +173,14 @@ abbrev pub sum_in_registers : Plan
 sum_in_registers =
     plan sum ([] ∷ [] ∷ [] ∷ [] ∷ [] ∷ []) ((1 ∷ []) ∷ (2 ∷ []) ∷ (1 ∷ 2 ∷ 3 ∷ []) ∷ (3 ∷ []) ∷ [] ∷ []) []
 
-abbrev pub run_sum : List (List Transfer) → List (List ℕ) → Observation
+abbrev pub run_sum : List (List Transfer) → List (List ℕ) → TemporaryObservation
 run_sum at regs = run_plans (plan sum at regs [] ∷ []) 0
 
 -- a function that calls another one, which returns nothing, while 5 stands in a register
 abbrev pub calling : List (List TempInsn)
 calling = (set 0 5 ∷ Call 1 0 ∷ return 0) ∷ []
 
-abbrev pub run_calling : (register : ℕ) → Observation
+abbrev pub run_calling : (register : ℕ) → TemporaryObservation
 run_calling register =
     run_plans (plan calling [] ((register ∷ []) ∷ [] ∷ (register ∷ []) ∷ [] ∷ []) []
     ∷ plan ((Return false ∷ []) ∷ []) [] [] [] ∷ []) 1
@@ -189,7 +189,7 @@ run_calling register =
 abbrev pub swap_two : List (List TempInsn)
 swap_two = (set 0 9 ∷ set 1 4 ∷ Jump 1 ∷ []) ∷ (Operate Subq 2 (s.Temp 0) (o.Temp 1) ∷ return 2) ∷ []
 
-abbrev pub run_swapped : List Transfer → Observation
+abbrev pub run_swapped : List Transfer → TemporaryObservation
 run_swapped code =
     run_plans (plan swap_two [] ((1 ∷ []) ∷ (2 ∷ []) ∷ [] ∷ (2 ∷ 1 ∷ 3 ∷ []) ∷ (3 ∷ []) ∷ [] ∷ []) (edge 0 1 code ∷ [])
     ∷ []) 0

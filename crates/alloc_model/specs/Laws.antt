@@ -11,7 +11,7 @@ use Rattle.temp_ir.specs.Insns.{may_trap_of}
 use Rattle.alloc_model.specs.declared.allocation.Allocation.{Allocation}
 use Rattle.alloc_model.specs.Contents.{Content}
 use Rattle.alloc_model.specs.Effect.{does}
-use Rattle.alloc_model.specs.Temporaries.{FunctionCode, code_of, Temps, temp_code, temp_run, TempsEnd}
+use Rattle.alloc_model.specs.Temporaries.{TemporaryCode, code_of, Temps, temp_code, temp_run, TempsEnd}
 use Rattle.alloc_model.specs.Places.{Plan, plan_of, functions_of, Places, placed_code, placed_run, PlacesEnd}
 use Rattle.alloc_model.specs.Faithful.{Faithful}
 
@@ -43,13 +43,13 @@ pub record MoreTurnsExtendOutput : Type 0 where
 
 -- along a run the peak only rises, and the output only grows
 pub record PeaksRise : Type 0 where
-  pub temps : (rooms : Rooms) (functions : List FunctionCode) (main : ℕ) (w : World) (n : ℕ) →
+  pub temps : (rooms : Rooms) (functions : List TemporaryCode) (main : ℕ) (w : World) (n : ℕ) →
       w.meter.peak ≤ (next_world (temp_run rooms functions main w n)).meter.peak
   pub places : (rooms : Rooms) (plans : List Plan) (main : ℕ) (w : World) (n : ℕ) →
       w.meter.peak ≤ (next_world (placed_run rooms plans main w n)).meter.peak
 
 pub record InstructionsKeepOutput : Type 0 where
-  pub temps : (functions : List FunctionCode) → KeepsOutput Content Temps (temp_code functions)
+  pub temps : (functions : List TemporaryCode) → KeepsOutput Content Temps (temp_code functions)
   pub places : (plans : List Plan) → KeepsOutput Content Places (placed_code plans)
 
 -- an instruction that traps is one that may

@@ -19,7 +19,7 @@ use Rattle.alloc_model.specs.Contents.{Content}
 use Rattle.alloc_model.specs.Stores as stores
 use Rattle.alloc_model.specs.Stores.{empty, without, put, put_all}
 use Rattle.alloc_model.specs.Effect.{Holder, Temp, Fixed, Incoming, Outgoing, entry_holders, others_read, others_written, is_call, widest_call, does, takes_turn}
-use Rattle.alloc_model.specs.Temporaries.{FunctionCode, sizes_in, number_of, status_of, site_in, start_world, main_of, code_of}
+use Rattle.alloc_model.specs.Temporaries.{TemporaryCode, sizes_in, number_of, status_of, site_in, start_world, main_of, code_of}
 
 -- ---- places
 
@@ -86,7 +86,7 @@ do_all (x ∷ xs) s = do_all xs (put place_eq (target_of x) (s (source_of x)) s)
 
 -- an allocation as a run sees it: its function, which has so many parameters and temporaries, and its maps and lists
 pub record Plan : Type 0 where
-  pub function : FunctionCode
+  pub function : TemporaryCode
   pub params : ℕ
   pub temps : ℕ
   pub top : List (List TempPlace)
@@ -151,7 +151,7 @@ abbrev pub edge_in : Option Plan → (from to : ℕ) → List Transfer
 edge_in None from to = []
 edge_in (Some a) from to = edge_transfers a from to
 
-abbrev pub functions_of : List Plan → List FunctionCode
+abbrev pub functions_of : List Plan → List TemporaryCode
 functions_of plans = map (λ a. a.function) plans
 
 abbrev pub placed_code : List Plan → Code Content Places

@@ -20,24 +20,24 @@ use Rattle.alloc_model.specs.Effect.{Holder, holder_eq, entry_holders, holders_r
 -- ---- functions
 
 -- a function as a run sees it: the sizes of its memory locals, and its blocks
-pub record FunctionCode : Type 0 where
+pub record TemporaryCode : Type 0 where
   pub sizes : List ℕ
   pub blocks : List (List TempInsn)
 
-abbrev pub code_of : TempFn → FunctionCode
+abbrev pub code_of : TempFn → TemporaryCode
 code_of f = record { sizes = map (λ o. o.size) f.objects; blocks = f.blocks }
 
 -- the blocks, and the sizes, of a function that may not be there
-abbrev pub blocks_in : Option FunctionCode → List (List TempInsn)
+abbrev pub blocks_in : Option TemporaryCode → List (List TempInsn)
 blocks_in None = []
 blocks_in (Some f) = f.blocks
 
-abbrev pub sizes_in : Option FunctionCode → List ℕ
+abbrev pub sizes_in : Option TemporaryCode → List ℕ
 sizes_in None = []
 sizes_in (Some f) = f.sizes
 
 -- the number of an instruction, counted over all functions from 0
-abbrev pub number_of : List FunctionCode → Point → ℕ
+abbrev pub number_of : List TemporaryCode → Point → ℕ
 number_of functions p =
     sum_by (λ f. count_of f.blocks) (take p.function functions) + count_of
     (take p.block (blocks_in (slice_get functions p.function))) + p.at
@@ -105,7 +105,7 @@ temp_site_at blocks p =
     site_in (λ at. temp_site (widest_call blocks)) p.block p.at (slice_get blocks p.block)
 
 -- a called function has its arguments, and everything else is unset
-abbrev pub temp_code : List FunctionCode → Code Content Temps
+abbrev pub temp_code : List TemporaryCode → Code Content Temps
 temp_code functions = record {
   site = λ p. temp_site_at (blocks_in (slice_get functions p.function)) p;
   number = number_of functions;
@@ -125,7 +125,7 @@ start_world globals input turns = record {
 }
 
 -- so many steps from the start of a function
-abbrev pub temp_run : Rooms → List FunctionCode → (main : ℕ) → World → (steps : ℕ) → Next Temps
+abbrev pub temp_run : Rooms → List TemporaryCode → (main : ℕ) → World → (steps : ℕ) → Next Temps
 temp_run rooms functions main w steps =
     exec Content Temps rooms (temp_code functions) steps (start Content Temps rooms (temp_code functions) main w)
 

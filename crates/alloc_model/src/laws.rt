@@ -1,6 +1,6 @@
 //! Laws of the meaning, each the contract of a function that does nothing.
 
-ghost use Rattle.alloc_model.specs.Examples.{ExamplesRun, PlacementsRun, sum_in_registers};
+ghost use Rattle.alloc_model.specs.Examples.{TemporaryExamplesRun, PlacementsRun, sum_in_registers};
 ghost use Rattle.alloc_model.specs.Faithful.{Faithful};
 ghost use Rattle.alloc_model.specs.Lifetimes.{LifetimesAreUnique};
 ghost use Rattle.alloc_model.specs.Laws.{OneEnding, MoreTurnsKeepEnding, MoreTurnsExtendOutput, PeaksRise, InstructionsKeepOutput, OnlyTheseTrap, AllocationKeepsRuns, AllocationKeeps};
@@ -36,7 +36,7 @@ pub fn faithful_keeps_the_meaning()
 
 /// Small programs end as they should.
 pub fn examples_run()
-    ensures { ExamplesRun }
+    ensures { TemporaryExamplesRun }
 {}
 
 /// Small programs with allocations, right ones and wrong ones, end as they should.

@@ -15,7 +15,7 @@ use Rattle.alloc_model.specs.declared.allocation.Transfer.{Transfer}
 use Rattle.temp_ir.specs.Programs.{TempFn}
 use Rattle.alloc_model.specs.declared.allocation.Allocation.{Allocation}
 use Rattle.alloc_model.specs.Effect.{Holder, Temp, Fixed, Incoming, Outgoing}
-use Rattle.alloc_model.specs.Temporaries.{FunctionCode, code_of, goes_on}
+use Rattle.alloc_model.specs.Temporaries.{TemporaryCode, code_of, goes_on}
 use Rattle.alloc_model.specs.Places.{Place, Slot, Plan, plan_of, transfers_at, registers_at, edge_transfers}
 use Rattle.alloc_model.specs.Lifetimes.{Blocks, is_live}
 use Rattle.alloc_model.specs.Needs.{named_place, place_at_top, IsNeeded}
@@ -80,7 +80,7 @@ follows_last block (Some i) out =
     (subst (λ b. Contains (if b then suc block ∷ [] else []) (suc block)) (sym out) (0, omega arith, refl))
 
 -- what a function keeps
-pub record IsOrdinary (f : FunctionCode) (params temps : ℕ) : Type 0 where
+pub record IsOrdinary (f : TemporaryCode) (params temps : ℕ) : Type 0 where
   pub targets : AllInsns (GoesToBlocks targets_of (length f.blocks)) f.blocks
   pub straight : All (EndsLate targets_of flows_on_of) f.blocks
   pub registers : AllInsns (UsesRegisters reads_of writes_of temps) f.blocks
@@ -106,7 +106,7 @@ same_stands blocks block at p p' ws ws' xs xs' rs rs' o o' h ep ew ex er eo s =
     (subst (λ rs. Stands blocks block at p ws (behind_insn xs rs o' h)) er
     (subst (λ o. Stands blocks block at p ws (behind_insn xs rs o h)) eo s))))
 
-module _ (f : FunctionCode) (params temps : ℕ) where
+module _ (f : TemporaryCode) (params temps : ℕ) where
   abbrev plan : Plan
   plan = plain_plan f params temps
 

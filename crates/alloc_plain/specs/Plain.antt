@@ -7,7 +7,7 @@ use Rattle.temp_ir.specs.Insns.{reads_of, writes_of, targets_of, flows_on_of}
 use Rattle.alloc_model.specs.declared.allocation.EdgeCode.{EdgeCode}
 use Rattle.alloc_model.specs.declared.allocation.Transfer.{Transfer}
 use Rattle.alloc_model.specs.declared.allocation.Transfer.TheVariants.{Store, Load}
-use Rattle.alloc_model.specs.Temporaries.{FunctionCode}
+use Rattle.alloc_model.specs.Temporaries.{TemporaryCode}
 use Rattle.alloc_model.specs.Places.{Plan}
 use Rattle.alloc_model.specs.Faithful.{rising}
 
@@ -53,7 +53,7 @@ abbrev pub all_edges : (block : ℕ) → List (List TempInsn) → List EdgeCode
 all_edges block [] = []
 all_edges block (insns ∷ blocks) = edges_behind block insns ++ all_edges (suc block) blocks
 
-abbrev pub plain_plan : FunctionCode → (params temps : ℕ) → Plan
+abbrev pub plain_plan : TemporaryCode → (params temps : ℕ) → Plan
 plain_plan f params temps = record {
   function = f;
   params = params;

@@ -2,24 +2,24 @@
 -- temporaries, in the slots of `plain`, and where a placement by hand puts them.
 use Rattle.std.specs.Prelude.{◌≡◌, ℕ, pos, List, [], ◌∷◌, ◌++◌, map}
 use Rattle.std.specs.List.{range_with_len}
-use Rattle.temp_ir.specs.declared.operation.BranchOp.TheVariants.{Bne}
+use Rattle.temp_ir.specs.declared.operation.TempBranchOp.TheVariants.{Bne}
 use Rattle.temp_ir.specs.declared.operation.Operation.TheVariants.{Addq, Subq, Mulq}
 use Rattle.temp_ir.specs.declared.insn.FixedRegister.TheVariants.{Value, Argument0, Argument1, Argument2, Argument3, Argument4, Argument5}
-use Rattle.temp_ir.specs.declared.insn.Source.TheVariants as s
-use Rattle.temp_ir.specs.declared.insn.Operand.TheVariants as o
+use Rattle.temp_ir.specs.declared.insn.FirstOperand.TheVariants as s
+use Rattle.temp_ir.specs.declared.insn.SecondOperand.TheVariants as o
 use Rattle.temp_ir.specs.declared.insn.TempInsn.{TempInsn}
 use Rattle.temp_ir.specs.declared.insn.TempInsn.TheVariants.{Operate, ToFixed, FromFixed, SetFixed, WriteArgument, ReadArgument, Branch, Call, Mark}
-use Rattle.alloc_model.specs.Temporaries.{FunctionCode, temp_run, start_world}
+use Rattle.alloc_model.specs.Temporaries.{TemporaryCode, temp_run, start_world}
 use Rattle.alloc_model.specs.Places.{Plan, placed_run}
-use Rattle.alloc_model.specs.Examples.{Observation, ShowsDone, ShowsUndefined, observe, function, set, return, plan}
+use Rattle.alloc_model.specs.Examples.{TemporaryObservation, ShowsDone, ShowsUndefined, observe, function, set, return, plan}
 use Rattle.alloc_plain.specs.Plain.{plain_plan}
 
 -- ---- runs of the first of some functions, in at most so many steps
 
-abbrev pub runs_over_temps : List FunctionCode → (turns steps : ℕ) → Observation
+abbrev pub runs_over_temps : List TemporaryCode → (turns steps : ℕ) → TemporaryObservation
 runs_over_temps functions turns steps = observe (temp_run [] functions 0 (start_world [] [] turns) steps)
 
-abbrev pub runs_over_places : List Plan → (turns steps : ℕ) → Observation
+abbrev pub runs_over_places : List Plan → (turns steps : ℕ) → TemporaryObservation
 runs_over_places plans turns steps = observe (placed_run [] plans 0 (start_world [] [] turns) steps)
 
 -- ---- a loop with a call: the sum of the squares of 3, 2 and 1

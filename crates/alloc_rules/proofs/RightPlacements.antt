@@ -4,7 +4,7 @@ use Rattle.std.specs.Prelude.{slice_get, slice_index_or, All, Contains}
 use Rattle.std.proofs.lemmas.Option.{none-some, same_Some}
 use Rattle.suifvm_ir.specs.Functions.{insn_at}
 use Rattle.suifvm_ir.specs.Live.Live.{IsRead, Passes, Follows}
-use Rattle.temp_ir.specs.declared.operation.BranchOp.TheVariants.{Bne}
+use Rattle.temp_ir.specs.declared.operation.TempBranchOp.TheVariants.{Bne}
 use Rattle.temp_ir.specs.declared.insn.FixedRegister.TheVariants.{Value}
 use Rattle.temp_ir.specs.declared.insn.TempInsn.{TempInsn}
 use Rattle.temp_ir.specs.declared.insn.TempInsn.TheVariants.{ToFixed, Branch, Call, Mark, Return}

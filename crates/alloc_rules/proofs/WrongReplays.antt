@@ -2,8 +2,8 @@
 use Rattle.std.proofs.Common.{◌≡◌, ◌≢◌, ℕ, ◌<◌, List, [], ◌∷◌, refl, ap, inl, inr, arith}
 use Rattle.std.specs.Prelude.{◌⊎◌, slice_index_or}
 use Rattle.temp_ir.specs.declared.operation.Operation.TheVariants.{Addq}
-use Rattle.temp_ir.specs.declared.insn.Source.TheVariants as s
-use Rattle.temp_ir.specs.declared.insn.Operand.TheVariants as o
+use Rattle.temp_ir.specs.declared.insn.FirstOperand.TheVariants as s
+use Rattle.temp_ir.specs.declared.insn.SecondOperand.TheVariants as o
 use Rattle.temp_ir.specs.declared.insn.TempInsn.TheVariants.{ToFixed, Operate}
 use Rattle.temp_ir.specs.declared.insn.FixedRegister.TheVariants.{Value}
 use Rattle.alloc_model.specs.declared.allocation.Loc.TheVariants as loc

@@ -3,8 +3,8 @@ use Rattle.std.specs.Prelude.{◌≡◌, ℕ, zero, suc, ◌+◌, ◌*◌, ◌==
 use Rattle.std.specs.List.{range_with_len}
 use Rattle.temp_ir.specs.declared.operation.Operation.TheVariants.{Addq}
 use Rattle.temp_ir.specs.declared.operation.ExtendOp.TheVariants.{Sextb}
-use Rattle.temp_ir.specs.declared.insn.Source.TheVariants as s
-use Rattle.temp_ir.specs.declared.insn.Operand.TheVariants as o
+use Rattle.temp_ir.specs.declared.insn.FirstOperand.TheVariants as s
+use Rattle.temp_ir.specs.declared.insn.SecondOperand.TheVariants as o
 use Rattle.temp_ir.specs.declared.insn.TempInsn.{TempInsn}
 use Rattle.temp_ir.specs.declared.insn.TempInsn.TheVariants.{Operate, Extend, Return}
 use Rattle.temp_ir.specs.Fixed.{has_number}

@@ -1,6 +1,6 @@
 -- A small allocation with a loop and a call that is faithful: a value stays in a register that the call keeps.
 use Rattle.std.specs.Prelude.{List, [], ◌∷◌}
-use Rattle.temp_ir.specs.declared.operation.BranchOp.TheVariants.{Bne}
+use Rattle.temp_ir.specs.declared.operation.TempBranchOp.TheVariants.{Bne}
 use Rattle.temp_ir.specs.declared.insn.TempInsn.{TempInsn}
 use Rattle.temp_ir.specs.declared.insn.TempInsn.TheVariants.{Branch, Call, Mark}
 use Rattle.alloc_model.specs.declared.allocation.Transfer.TheVariants as x

@@ -9,7 +9,7 @@ use Rattle.alloc_model.specs.Temporaries.{code_of}
 use Rattle.alloc_model.specs.Places.{Plan, linear_number}
 use Rattle.alloc_model.specs.Lifetimes.{Blocks, IsPart}
 use Rattle.alloc_model.specs.Needs.{IsRelied, IsStored, IsWritten, IsNeeded}
-use Rattle.alloc_rules.specs.declared.scan.Part.{Part}
+use Rattle.alloc_rules.specs.declared.scan.LifetimePart.{LifetimePart}
 use Rattle.alloc_rules.specs.declared.scan.Lifetimes.{Lifetimes}
 use Rattle.alloc_rules.specs.declared.scan.Needs.{Needs}
 use Rattle.alloc_rules.specs.declared.scan.Scanned.{Scanned}
@@ -23,7 +23,7 @@ pub data IsReference (blocks : Blocks) (t point : ℕ) : Type 0 where
   IsWrite : (block at : ℕ) (x : TempInsn) → insn_at blocks block at ≡ Some x →
       point ≡ 2 * linear_number blocks block at + 1 → Contains (writes_of x) t → IsReference blocks t point
 
-abbrev pub parts_of : Lifetimes → (t : ℕ) → List Part
+abbrev pub parts_of : Lifetimes → (t : ℕ) → List LifetimePart
 parts_of lives t = slice_index_or lives.parts t []
 
 abbrev pub refs_of : Lifetimes → (t : ℕ) → List ℕ
@@ -35,7 +35,7 @@ pub record AreLifetimes (f : TempFn) (lives : Lifetimes) : Type 0 where
   pub refs_length : length lives.refs ≡ f.temps
   pub parts : (t first last : ℕ) → t < f.temps →
       Contains (parts_of lives t) (record { first = first; last = last }) ↔ IsPart f.blocks t first last
-  pub parts_rise : (t k : ℕ) (a b : Part) → slice_get (parts_of lives t) k ≡ Some a →
+  pub parts_rise : (t k : ℕ) (a b : LifetimePart) → slice_get (parts_of lives t) k ≡ Some a →
       slice_get (parts_of lives t) (suc k) ≡ Some b → a.last < b.first
   pub refs : (t point : ℕ) → t < f.temps → Contains (refs_of lives t) point ↔ IsReference f.blocks t point
   pub refs_rise : (t k a b : ℕ) → slice_get (refs_of lives t) k ≡ Some a →

@@ -1,7 +1,7 @@
 -- Further small allocations that are not faithful: each lets go of a value that is asked for later, or has a list with
 -- what may not stand there.
 use Rattle.std.specs.Prelude.{ℕ, false, List, [], ◌∷◌}
-use Rattle.temp_ir.specs.declared.operation.BranchOp.TheVariants.{Bne}
+use Rattle.temp_ir.specs.declared.operation.TempBranchOp.TheVariants.{Bne}
 use Rattle.temp_ir.specs.declared.insn.TempInsn.{TempInsn}
 use Rattle.temp_ir.specs.declared.insn.TempInsn.TheVariants.{Branch, Return}
 use Rattle.alloc_model.specs.declared.allocation.Loc.TheVariants as loc

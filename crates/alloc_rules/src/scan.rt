@@ -12,7 +12,7 @@ use temp_ir::insn::TempInsn;
 
 /// A part of a lifetime, from its first to its last point.
 #[derive(Clone, Copy, Debug, PartialEq, Eq)]
-pub struct Part {
+pub struct LifetimePart {
     pub first: u32,
     pub last: u32,
 }
@@ -21,7 +21,7 @@ pub struct Part {
 #[derive(Drop)]
 pub struct Lifetimes {
     /// For each temporary, its parts in order.
-    pub parts: Seq<Seq<Part>>,
+    pub parts: Seq<Seq<LifetimePart>>,
     /// For each temporary, the points at which it is read or written, in order.
     pub refs: Seq<Seq<u32>>,
 }

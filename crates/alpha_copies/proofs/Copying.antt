@@ -14,7 +14,7 @@ use Rattle.suifvm_ir.specs.declared.types.Alignment.TheVariants.{One, Two, Four,
 use Rattle.suifvm_ir.specs.Programs.{alignment_bytes}
 use Rattle.vm_meaning.specs.Operations.{ok_of}
 use Rattle.temp_ir.specs.declared.operation.AddressOp.TheVariants.{Lda}
-use Rattle.temp_ir.specs.declared.insn.Source.TheVariants as source
+use Rattle.temp_ir.specs.declared.insn.FirstOperand.TheVariants as source
 use Rattle.temp_ir.specs.declared.insn.TempInsn.{TempInsn}
 use Rattle.temp_ir.specs.declared.insn.TempInsn.TheVariants as x
 use Rattle.alloc_model.specs.Contents.{Content, Plain, content_of, extended_content, content_answer, loaded_content, stored_memory, moved_content}

@@ -7,7 +7,7 @@ ghost use Rattle.alpha_copies.specs.Copies as copies;
 use std::alloc::AllocError;
 use suifvm_ir::block::Block;
 use suifvm_ir::types::Alignment;
-use temp_ir::insn::{Source, TempInsn};
+use temp_ir::insn::{FirstOperand, TempInsn};
 use temp_ir::operation::{AddressOp, LoadOp, StoreOp};
 
 /// The temporary through which the parts go.
@@ -79,7 +79,7 @@ fn put_part(
     })?;
     out.push(TempInsn::Store {
         op: part_store(align),
-        value: Source::Temp(SCRATCH),
+        value: FirstOperand::Temp(SCRATCH),
         pointer: to,
         plus,
     })
@@ -94,13 +94,13 @@ fn put_moves(out: &mut Block<TempInsn>, to: u32, from: u32, by: u16) -> Result<(
     out.push(TempInsn::Address {
         op: AddressOp::Lda,
         destination: MOVED_TO,
-        base: Source::Temp(to),
+        base: FirstOperand::Temp(to),
         plus,
     })?;
     out.push(TempInsn::Address {
         op: AddressOp::Lda,
         destination: MOVED_FROM,
-        base: Source::Temp(from),
+        base: FirstOperand::Temp(from),
         plus,
     })
 }

@@ -29,12 +29,12 @@ use Rattle.c_arithmetic.proofs.LowBits.{extension-same}
 use Rattle.c_arithmetic.proofs.Values.{signed_fits}
 use Rattle.suifvm_ir.specs.declared.types.VmType.{VmType}
 use Rattle.suifvm_ir.specs.declared.types.VmType.TheVariants.{S32, U32, S64, U64, P64}
-use Rattle.suifvm_ir.specs.declared.insn.BinaryOp.TheVariants.{Divide, Remainder}
+use Rattle.suifvm_ir.specs.declared.insn.VmBinaryOp.TheVariants.{Divide, Remainder}
 use Rattle.vm_meaning.specs.declared.answer.Answer as vm
 use Rattle.vm_meaning.specs.declared.answer.Answer.TheVariants as v
 use Rattle.vm_meaning.specs.Operations.{outcome_answer, binary_answer}
-use Rattle.temp_ir.specs.declared.operation.Routine.{Routine}
-use Rattle.temp_ir.specs.declared.operation.Routine.TheVariants.{Divq, Remq, Divqu, Remqu, Divl, Reml, Divlu, Remlu}
+use Rattle.temp_ir.specs.declared.operation.DivisionRoutine.{DivisionRoutine}
+use Rattle.temp_ir.specs.declared.operation.DivisionRoutine.TheVariants.{Divq, Remq, Divqu, Remqu, Divl, Reml, Divlu, Remlu}
 use Rattle.temp_ir.specs.declared.insn.FixedRegister.TheVariants.{Dividend, Divisor, Answer}
 use Rattle.temp_ir.specs.declared.insn.TempInsn.TheVariants as i
 use Rattle.alloc_model.specs.Contents as contents
@@ -191,7 +191,7 @@ checked_rest t z r false false is e same = let clash : ⊥ = cc in absurd clash
 
 -- ---- what the routines answer
 
-taken : (r : Routine) (a b : ℕ) → takes r a ≡ true → takes r b ≡ true → words_division r a b ≡ effect.outcome_answer (rt.outcome (effect.routine_of r) a b)
+taken : (r : DivisionRoutine) (a b : ℕ) → takes r a ≡ true → takes r b ≡ true → words_division r a b ≡ effect.outcome_answer (rt.outcome (effect.routine_of r) a b)
 taken r a b f g =
     ap (λ p. if p && takes r b then effect.outcome_answer (rt.outcome (effect.routine_of r) a b) else Fails) f
     ∙ ap (λ p. if p then effect.outcome_answer (rt.outcome (effect.routine_of r) a b) else Fails) g
@@ -327,7 +327,7 @@ remainder_matches m P64 a b = tt
 
 -- ---- the code
 
-module _ (widest own : ℕ) (s : Temps) (o : Outer) (d a b : ℕ) (r : Routine) where
+module _ (widest own : ℕ) (s : Temps) (o : Outer) (d a b : ℕ) (r : DivisionRoutine) where
   -- what is held behind the dividend, the divisor, the answer and the result
   dividend : Temps
   dividend = put holder_eq (Fixed 24) (s (Temp a)) (without (is_emptied (i.ToFixed Dividend a)) s)
@@ -341,14 +341,14 @@ module _ (widest own : ℕ) (s : Temps) (o : Outer) (d a b : ℕ) (r : Routine) 
   named : Content → Temps
   named w = put holder_eq (Temp d) (answered w (Fixed 27)) (without (is_emptied (i.FromFixed d Answer)) (answered w))
 
-  on_answer : contents.Answer → Ran
+  on_answer : contents.ContentAnswer → Ran
   on_answer e = goes_with (i.Divide r) divisor (writes e o) (λ t p. runs widest (i.FromFixed d Answer ∷ []) own t p)
 
   division_runs : runs widest (division_items r d a b) own s o ≡ on_answer (division_answer r (s (Temp a)) (s (Temp b)))
   unfolding dividend divisor on_answer
   division_runs = refl
 
-  answers_come : (w : vm.Answer) (e : contents.Answer) → Matches w e → ComesTo s o d w (on_answer e)
+  answers_come : (w : vm.Answer) (e : contents.ContentAnswer) → Matches w e → ComesTo s o d w (on_answer e)
   unfolding dividend divisor answered named on_answer
   answers_come (v.Gives w) e m = record {
     after = named (Plain w);

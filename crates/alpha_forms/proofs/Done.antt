@@ -12,8 +12,8 @@ use Rattle.suifvm_ir.specs.declared.types.VmType.{VmType}
 use Rattle.suifvm_ir.specs.declared.types.VmType.TheVariants.{S32, U32, S64, U64, P64}
 use Rattle.suifvm_ir.specs.declared.types.MemoryType.{MemoryType}
 use Rattle.suifvm_ir.specs.declared.types.MemoryType.TheVariants as m
-use Rattle.suifvm_ir.specs.declared.insn.UnaryOp.TheVariants.{Move, Negate, Complement}
-use Rattle.suifvm_ir.specs.declared.insn.BinaryOp.TheVariants.{Add, Subtract, Multiply, And, Or, ExclusiveOr}
+use Rattle.suifvm_ir.specs.declared.insn.VmUnaryOp.TheVariants.{Move, Negate, Complement}
+use Rattle.suifvm_ir.specs.declared.insn.VmBinaryOp.TheVariants.{Add, Subtract, Multiply, And, Or, ExclusiveOr}
 use Rattle.suifvm_ir.specs.declared.insn.CompareOp.TheVariants.{Equal, NotEqual, Less, LessOrEqual}
 use Rattle.vm_meaning.specs.declared.answer.Answer as vm
 use Rattle.vm_meaning.specs.declared.answer.Answer.TheVariants as v
@@ -22,10 +22,10 @@ use Rattle.temp_ir.specs.declared.operation.Operation.{Operation}
 use Rattle.temp_ir.specs.declared.operation.Operation.TheVariants as code
 use Rattle.temp_ir.specs.declared.operation.ExtendOp.{ExtendOp}
 use Rattle.temp_ir.specs.declared.operation.ExtendOp.TheVariants as e
-use Rattle.temp_ir.specs.declared.insn.Operand.TheVariants as operand
+use Rattle.temp_ir.specs.declared.insn.SecondOperand.TheVariants as operand
 use Rattle.temp_ir.specs.declared.insn.TempInsn.TheVariants.{Extend}
 use Rattle.alloc_model.specs.Contents as contents
-use Rattle.alloc_model.specs.Contents.{Content, Plain, word, Answer, Gives, effect_answer, operate_answer, extend_answer}
+use Rattle.alloc_model.specs.Contents.{Content, Plain, word, ContentAnswer, Gives, effect_answer, operate_answer, extend_answer}
 use Rattle.alloc_model.specs.Effect.{Temp, writes}
 use Rattle.alloc_model.specs.Temporaries.{Temps}
 use Rattle.alpha_forms.specs.Straight.{runs}

@@ -26,20 +26,20 @@ use Rattle.c_arithmetic.proofs.Sums.{word-sum, word-difference, word-product, wo
 use Rattle.c_arithmetic.proofs.Bits.{conjunction-words, disjunction-words, exclusive-words}
 use Rattle.suifvm_ir.specs.declared.types.VmType.{VmType}
 use Rattle.suifvm_ir.specs.declared.types.VmType.TheVariants.{S32, U32, S64, U64, P64}
-use Rattle.suifvm_ir.specs.declared.insn.UnaryOp.TheVariants.{Move, Negate, Complement}
-use Rattle.suifvm_ir.specs.declared.insn.BinaryOp.TheVariants.{Add, Subtract, Multiply, And, Or, ExclusiveOr}
+use Rattle.suifvm_ir.specs.declared.insn.VmUnaryOp.TheVariants.{Move, Negate, Complement}
+use Rattle.suifvm_ir.specs.declared.insn.VmBinaryOp.TheVariants.{Add, Subtract, Multiply, And, Or, ExclusiveOr}
 use Rattle.vm_meaning.specs.declared.answer.Answer as vm
 use Rattle.vm_meaning.specs.declared.answer.Answer.TheVariants as v
 use Rattle.vm_meaning.specs.Operations.{on_number, on_numbers, outcome_answer, word_answer, value_answer, distance_answer, unary_answer, binary_answer}
 use Rattle.temp_ir.specs.declared.operation.Operation.TheVariants as o
 use Rattle.alloc_model.specs.Contents as contents
-use Rattle.alloc_model.specs.Contents.{Content, Plain, word, Answer, Gives, distance_word, content_answer, effect_answer, operate_answer}
+use Rattle.alloc_model.specs.Contents.{Content, Plain, word, ContentAnswer, Gives, distance_word, content_answer, effect_answer, operate_answer}
 use Rattle.alpha_forms.specs.Operations.{sum_op, difference_op, product_op}
 use Rattle.alpha_forms.proofs.Prepares.{Matches}
 
 -- ---- what asks for a number, and for two
 
-pub one_number : (t : IntegerType) (a : Value) (f : IntegerType → ℕ → vm.Answer) (g : Value → Answer) →
+pub one_number : (t : IntegerType) (a : Value) (f : IntegerType → ℕ → vm.Answer) (g : Value → ContentAnswer) →
     ((n : ℕ) → extension t n ≡ n → Matches (f t n) (g (Word n))) → Matches (on_number (Some t) a f) (g a)
 one_number t (Word n) f g h = by_word (is_word t n) refl
   where
@@ -49,7 +49,7 @@ one_number t (Word n) f g h = by_word (is_word t n) refl
 one_number t (Address p) f g h = tt
 one_number t Unset f g h = tt
 
-pub two_numbers : (t : IntegerType) (a b : Value) (f : IntegerType → (x y : ℕ) → vm.Answer) (g : (a b : Value) → Answer) →
+pub two_numbers : (t : IntegerType) (a b : Value) (f : IntegerType → (x y : ℕ) → vm.Answer) (g : (a b : Value) → ContentAnswer) →
     ((x y : ℕ) → extension t x ≡ x → extension t y ≡ y → Matches (f t x y) (g (Word x) (Word y))) →
     Matches (on_numbers (Some t) a b f) (g a b)
 two_numbers t a b f g h =

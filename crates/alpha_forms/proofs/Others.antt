@@ -11,10 +11,10 @@ use Rattle.c_arithmetic.specs.declared.integer_type.IntegerType.{IntegerType}
 use Rattle.c_arithmetic.specs.declared.integer_type.IntegerType.TheVariants.{Int, UnsignedInt, Long, UnsignedLong}
 use Rattle.c_arithmetic.specs.Words.{is_word}
 use Rattle.suifvm_ir.specs.declared.types.VmType.TheVariants.{S32, U32, S64, U64, P64}
-use Rattle.suifvm_ir.specs.declared.insn.BranchOp.{BranchOp}
-use Rattle.suifvm_ir.specs.declared.insn.BranchOp.TheVariants.{IfTrue, IfFalse}
-use Rattle.suifvm_ir.specs.declared.insn.Place.{Place}
-use Rattle.suifvm_ir.specs.declared.insn.Place.TheVariants.{Global, Local}
+use Rattle.suifvm_ir.specs.declared.insn.VmBranchOp.{VmBranchOp}
+use Rattle.suifvm_ir.specs.declared.insn.VmBranchOp.TheVariants.{IfTrue, IfFalse}
+use Rattle.suifvm_ir.specs.declared.insn.VmObject.{VmObject}
+use Rattle.suifvm_ir.specs.declared.insn.VmObject.TheVariants.{Global, Local}
 use Rattle.vm_meaning.specs.declared.answer.Answer.TheVariants as v
 use Rattle.vm_meaning.specs.Operations.{is_value_of, place_address, number_holds}
 use Rattle.vm_meaning.specs.Effect.{is_taken}
@@ -42,7 +42,7 @@ constants_loaded widest own d n ty s o small = by_type (is_value_of ty (Word n))
     by_type true = from_content widest own d (constant_items d n) s o (Word n) (constants_made widest own d n s o small)
     by_type false = tt
 
-same_place : (own : ℕ) (place : Place) (plus : ℕ) → place_content own place plus ≡ Plain (place_address own place plus)
+same_place : (own : ℕ) (place : VmObject) (plus : ℕ) → place_content own place plus ≡ Plain (place_address own place plus)
 same_place own (Global k) plus = refl
 same_place own (Local k) plus = refl
 
@@ -54,7 +54,7 @@ addresses_loaded widest own d plus place s o =
 
 -- ---- branches
 
-number_test : (op : BranchOp) (m : Memory) (n : ℕ) → test_of (branch_op op) m (word n) ≡ Some (is_taken op (not (n == 0)))
+number_test : (op : VmBranchOp) (m : Memory) (n : ℕ) → test_of (branch_op op) m (word n) ≡ Some (is_taken op (not (n == 0)))
 number_test IfTrue m n = refl
 number_test IfFalse m n = by_test (n == 0)
   where
@@ -62,7 +62,7 @@ number_test IfFalse m n = by_test (n == 0)
     by_test true = refl
     by_test false = refl
 
-number_taken : (op : BranchOp) (t : IntegerType) (m : Memory) (v : Value) (b : Bool) → number_holds (Some t) v ≡ Some b →
+number_taken : (op : VmBranchOp) (t : IntegerType) (m : Memory) (v : Value) (b : Bool) → number_holds (Some t) v ≡ Some b →
     test_of (branch_op op) m (Plain v) ≡ Some (is_taken op b)
 number_taken op t m (Word n) b e = by_word (is_word t n) e
   where
@@ -72,7 +72,7 @@ number_taken op t m (Word n) b e = by_word (is_word t n) e
 number_taken op t m (Address p) b e = absurd (none-some b e)
 number_taken op t m Unset b e = absurd (none-some b e)
 
-pointer_taken : (op : BranchOp) (m : Memory) (v : Value) (b : Bool) → option_map not (is_null m v) ≡ Some b →
+pointer_taken : (op : VmBranchOp) (m : Memory) (v : Value) (b : Bool) → option_map not (is_null m v) ≡ Some b →
     test_of (branch_op op) m (Plain v) ≡ Some (is_taken op b)
 pointer_taken op m (Word zero) b e = number_test op m 0 ∙ ap (λ a. Some (is_taken op a)) (same_Some false b e)
 pointer_taken op m (Word (suc n)) b e = absurd (none-some b e)

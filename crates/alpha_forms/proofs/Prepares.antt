@@ -7,7 +7,7 @@ use Rattle.machine_model.specs.Code.{Writes}
 use Rattle.vm_meaning.specs.declared.answer.Answer as vm
 use Rattle.vm_meaning.specs.declared.answer.Answer.TheVariants as v
 use Rattle.temp_ir.specs.declared.insn.TempInsn.{TempInsn}
-use Rattle.alloc_model.specs.Contents.{Content, Plain, Answer, Gives, TrapsWith}
+use Rattle.alloc_model.specs.Contents.{Content, Plain, ContentAnswer, Gives, TrapsWith}
 use Rattle.alloc_model.specs.Stores.{without, put}
 use Rattle.alloc_model.specs.Effect.{Temp, holder_eq, holders_read, is_emptied, does, writes}
 use Rattle.alloc_model.specs.Temporaries.{Temps}
@@ -23,7 +23,7 @@ of_register t i = by_test (t == 0) refl
     by_test false e = refl
 
 -- what an instruction answers over temporaries is what it answers over registers, where that has a meaning
-abbrev pub Matches : vm.Answer → Answer → Type 0
+abbrev pub Matches : vm.Answer → ContentAnswer → Type 0
 Matches (v.Gives w) a = a ≡ Gives (Plain w)
 Matches (v.TrapsWith code) a = a ≡ TrapsWith code
 Matches v.Fails a = Unit {0}
@@ -55,7 +55,7 @@ module _ (widest own : ℕ) (s : Temps) (o : Outer) where
   }
 
   -- the last instruction
-  pub finish : (xs : List TempInsn) (c : Content) (h : Prepared xs c) (x : TempInsn) (d : ℕ) (a : Answer) (w : vm.Answer) → WritesOne x d →
+  pub finish : (xs : List TempInsn) (c : Content) (h : Prepared xs c) (x : TempInsn) (d : ℕ) (a : ContentAnswer) (w : vm.Answer) → WritesOne x d →
       does widest x own (map h.after (holders_read x)) o ≡ writes a o → Matches w a → ComesTo s o d w (runs widest (xs ++ x ∷ []) own s o)
   finish xs c h x d a (v.Gives w) one act m = record {
     after = put holder_eq (Temp d) (Plain w) (without (is_emptied x) h.after);

@@ -16,7 +16,7 @@ use Rattle.alpha_isa.specs.Arithmetic.{fits}
 use Rattle.suifvm_ir.specs.declared.types.MemoryType.{MemoryType}
 use Rattle.suifvm_ir.specs.declared.types.MemoryType.TheVariants.{S8, U8, S16, U16, S32, U32, S64, U64, P64}
 use Rattle.vm_meaning.specs.Operations.{memory_integer, access_bytes, is_storable, ok_of, store_through}
-use Rattle.temp_ir.specs.declared.insn.Source.TheVariants as source
+use Rattle.temp_ir.specs.declared.insn.FirstOperand.TheVariants as source
 use Rattle.temp_ir.specs.declared.insn.TempInsn.{TempInsn}
 use Rattle.temp_ir.specs.declared.insn.TempInsn.TheVariants.{Store}
 use Rattle.alloc_model.specs.Contents.{Content, Plain, pointer_in, pointer_at, store_width, stored_cells, memory_with, unless_fault, when_width}

@@ -10,12 +10,12 @@ use Rattle.alloc_model.specs.Temporaries.{Temps}
 use Rattle.mem_model.specs.Memory.{Memory}
 use Rattle.suifvm_ir.specs.declared.types.MemoryType.{MemoryType}
 use Rattle.suifvm_ir.specs.declared.types.VmType.{VmType}
-use Rattle.suifvm_ir.specs.declared.insn.UnaryOp.{UnaryOp}
-use Rattle.suifvm_ir.specs.declared.insn.BinaryOp.{BinaryOp}
+use Rattle.suifvm_ir.specs.declared.insn.VmUnaryOp.{VmUnaryOp}
+use Rattle.suifvm_ir.specs.declared.insn.VmBinaryOp.{VmBinaryOp}
 use Rattle.suifvm_ir.specs.declared.insn.ShiftOp.{ShiftOp}
 use Rattle.suifvm_ir.specs.declared.insn.CompareOp.{CompareOp}
-use Rattle.suifvm_ir.specs.declared.insn.BranchOp.{BranchOp}
-use Rattle.suifvm_ir.specs.declared.insn.Place.{Place}
+use Rattle.suifvm_ir.specs.declared.insn.VmBranchOp.{VmBranchOp}
+use Rattle.suifvm_ir.specs.declared.insn.VmObject.{VmObject}
 use Rattle.vm_meaning.specs.declared.answer.Answer.{Answer}
 use Rattle.vm_meaning.specs.declared.answer.Answer.TheVariants.{Gives}
 use Rattle.vm_meaning.specs.Effect.{is_taken}
@@ -52,13 +52,13 @@ ConstantsAreLoaded =
 -- the address of an object
 abbrev pub AddressesAreLoaded : Type 0
 AddressesAreLoaded =
-    (widest own d plus : ℕ) (place : Place) (s : Temps) (o : Outer) →
+    (widest own d plus : ℕ) (place : VmObject) (s : Temps) (o : Outer) →
     ComesTo s o d (Gives (vm.place_address own place plus)) (runs widest (ObjectAddress d place plus ∷ []) own s o)
 
 -- a branch is taken where the value passes the test
 abbrev pub BranchesAreTaken : Type 0
 BranchesAreTaken =
-    (op : BranchOp) (ty : VmType) (m : Memory) (v : Value) (b : Bool) → vm.value_holds m ty v ≡ Some b →
+    (op : VmBranchOp) (ty : VmType) (m : Memory) (v : Value) (b : Bool) → vm.value_holds m ty v ≡ Some b →
     test_of (branch_op op) m (Plain v) ≡ Some (is_taken op b)
 
 -- the code of a load puts what the load answers, and that of a store leaves the memory that the store leaves, wherever
@@ -88,10 +88,10 @@ TwoAreDone items answer =
     ComesTo s o d (answer o.memory v w) (runs widest (items d a b) own s o)
 
 -- so it is with each operator, of every type
-abbrev pub UnaryIsDone : UnaryOp → Type 0
+abbrev pub UnaryIsDone : VmUnaryOp → Type 0
 UnaryIsDone op = (ty : VmType) → OneIsDone (unary_items op ty) (vm.unary_answer op ty)
 
-abbrev pub BinaryIsDone : BinaryOp → Type 0
+abbrev pub BinaryIsDone : VmBinaryOp → Type 0
 BinaryIsDone op = (ty : VmType) → TwoAreDone (binary_items op ty) (λ m v w. vm.binary_answer m op ty v w)
 
 abbrev pub ShiftIsDone : ShiftOp → Type 0

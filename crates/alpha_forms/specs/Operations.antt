@@ -5,26 +5,26 @@ use Rattle.suifvm_ir.specs.declared.types.VmType.{VmType}
 use Rattle.suifvm_ir.specs.declared.types.VmType.TheVariants.{S32, U32, S64, U64, P64}
 use Rattle.suifvm_ir.specs.declared.types.MemoryType.{MemoryType}
 use Rattle.suifvm_ir.specs.declared.types.MemoryType.TheVariants as m
-use Rattle.suifvm_ir.specs.declared.insn.UnaryOp.{UnaryOp}
-use Rattle.suifvm_ir.specs.declared.insn.UnaryOp.TheVariants.{Move, Negate, Complement}
-use Rattle.suifvm_ir.specs.declared.insn.BinaryOp.{BinaryOp}
-use Rattle.suifvm_ir.specs.declared.insn.BinaryOp.TheVariants.{Add, Subtract, Multiply, Divide, Remainder, And, Or, ExclusiveOr}
+use Rattle.suifvm_ir.specs.declared.insn.VmUnaryOp.{VmUnaryOp}
+use Rattle.suifvm_ir.specs.declared.insn.VmUnaryOp.TheVariants.{Move, Negate, Complement}
+use Rattle.suifvm_ir.specs.declared.insn.VmBinaryOp.{VmBinaryOp}
+use Rattle.suifvm_ir.specs.declared.insn.VmBinaryOp.TheVariants.{Add, Subtract, Multiply, Divide, Remainder, And, Or, ExclusiveOr}
 use Rattle.suifvm_ir.specs.declared.insn.ShiftOp.{ShiftOp}
 use Rattle.suifvm_ir.specs.declared.insn.ShiftOp.TheVariants.{ArithmeticRight, Left, LogicalRight}
 use Rattle.suifvm_ir.specs.declared.insn.CompareOp.{CompareOp}
 use Rattle.suifvm_ir.specs.declared.insn.CompareOp.TheVariants.{Equal, NotEqual, Less, LessOrEqual}
-use Rattle.suifvm_ir.specs.declared.insn.BranchOp as vm
-use Rattle.suifvm_ir.specs.declared.insn.BranchOp.TheVariants.{IfTrue, IfFalse}
-use Rattle.temp_ir.specs.declared.operation.BranchOp.{BranchOp}
-use Rattle.temp_ir.specs.declared.operation.BranchOp.TheVariants.{Beq, Bne}
+use Rattle.suifvm_ir.specs.declared.insn.VmBranchOp as vm
+use Rattle.suifvm_ir.specs.declared.insn.VmBranchOp.TheVariants.{IfTrue, IfFalse}
+use Rattle.temp_ir.specs.declared.operation.TempBranchOp.{TempBranchOp}
+use Rattle.temp_ir.specs.declared.operation.TempBranchOp.TheVariants.{Beq, Bne}
 use Rattle.temp_ir.specs.declared.operation.Operation.{Operation}
 use Rattle.temp_ir.specs.declared.operation.Operation.TheVariants as o
 use Rattle.temp_ir.specs.declared.operation.ExtendOp.TheVariants.{Sextb, Sextw}
-use Rattle.temp_ir.specs.declared.operation.Routine.{Routine}
-use Rattle.temp_ir.specs.declared.operation.Routine.TheVariants.{Divq, Remq, Divqu, Remqu, Divl, Reml, Divlu, Remlu}
+use Rattle.temp_ir.specs.declared.operation.DivisionRoutine.{DivisionRoutine}
+use Rattle.temp_ir.specs.declared.operation.DivisionRoutine.TheVariants.{Divq, Remq, Divqu, Remqu, Divl, Reml, Divlu, Remlu}
 use Rattle.temp_ir.specs.declared.insn.FixedRegister.TheVariants.{Dividend, Divisor, Answer}
-use Rattle.temp_ir.specs.declared.insn.Source.TheVariants as source
-use Rattle.temp_ir.specs.declared.insn.Operand.TheVariants as operand
+use Rattle.temp_ir.specs.declared.insn.FirstOperand.TheVariants as source
+use Rattle.temp_ir.specs.declared.insn.SecondOperand.TheVariants as operand
 use Rattle.temp_ir.specs.declared.insn.TempInsn.{TempInsn}
 use Rattle.temp_ir.specs.declared.insn.TempInsn.TheVariants.{Operate, Extend, ToFixed, FromFixed, Divide}
 
@@ -57,12 +57,12 @@ difference_op S64 = o.SubqV
 difference_op U64 = o.Subq
 difference_op P64 = o.Subq
 
-abbrev pub unary_op : UnaryOp → VmType → Operation
+abbrev pub unary_op : VmUnaryOp → VmType → Operation
 unary_op Move ty = o.Bis
 unary_op Negate ty = difference_op ty
 unary_op Complement ty = o.Ornot
 
-abbrev pub unary_items : UnaryOp → VmType → (d a : ℕ) → List TempInsn
+abbrev pub unary_items : VmUnaryOp → VmType → (d a : ℕ) → List TempInsn
 unary_items op ty d a = on_zero (unary_op op ty) d a ∷ []
 
 -- ---- two operands
@@ -81,25 +81,25 @@ product_op S64 = o.MulqV
 product_op U64 = o.Mulq
 product_op P64 = o.Mulq
 
-abbrev pub quotient_routine : VmType → Routine
+abbrev pub quotient_routine : VmType → DivisionRoutine
 quotient_routine S32 = Divl
 quotient_routine U32 = Divlu
 quotient_routine S64 = Divq
 quotient_routine U64 = Divqu
 quotient_routine P64 = Divqu
 
-abbrev pub remainder_routine : VmType → Routine
+abbrev pub remainder_routine : VmType → DivisionRoutine
 remainder_routine S32 = Reml
 remainder_routine U32 = Remlu
 remainder_routine S64 = Remq
 remainder_routine U64 = Remqu
 remainder_routine P64 = Remqu
 
-abbrev pub division_items : Routine → (d a b : ℕ) → List TempInsn
+abbrev pub division_items : DivisionRoutine → (d a b : ℕ) → List TempInsn
 division_items routine d a b =
     ToFixed Dividend a ∷ ToFixed Divisor b ∷ Divide routine ∷ FromFixed d Answer ∷ []
 
-abbrev pub binary_items : BinaryOp → VmType → (d a b : ℕ) → List TempInsn
+abbrev pub binary_items : VmBinaryOp → VmType → (d a b : ℕ) → List TempInsn
 binary_items Add ty d a b = on_two (sum_op ty) d a b ∷ []
 binary_items Subtract ty d a b = on_two (difference_op ty) d a b ∷ []
 binary_items Multiply ty d a b = on_two (product_op ty) d a b ∷ []
@@ -149,7 +149,7 @@ compare_items LessOrEqual ty d a b = on_two (less_or_equal_op (is_unsigned ty)) 
 
 -- ---- branches: Bne is taken where a value is neither zero nor null, and Beq where it is
 
-abbrev pub branch_op : vm.BranchOp → BranchOp
+abbrev pub branch_op : vm.VmBranchOp → TempBranchOp
 branch_op IfTrue = Bne
 branch_op IfFalse = Beq
 

@@ -8,7 +8,7 @@ use crate::operations::on_two;
 use std::alloc::AllocError;
 use suifvm_ir::block::Block;
 use suifvm_ir::types::MemoryType;
-use temp_ir::insn::{Operand, Source, TempInsn};
+use temp_ir::insn::{FirstOperand, SecondOperand, TempInsn};
 use temp_ir::operation::{ExtendOp, LoadOp, Operation, StoreOp};
 
 /// The temporary that is used within the code of one instruction.
@@ -62,7 +62,7 @@ fn put_extended_load(
     out.push(TempInsn::Extend {
         op: extend,
         destination,
-        source: Operand::Temp(SCRATCH),
+        source: SecondOperand::Temp(SCRATCH),
     })
 }
 
@@ -155,7 +155,7 @@ fn put_near_store(
 {
     out.push(TempInsn::Store {
         op: store_op(ty),
-        value: Source::Temp(value),
+        value: FirstOperand::Temp(value),
         pointer,
         plus,
     })

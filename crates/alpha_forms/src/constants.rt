@@ -2,7 +2,7 @@
 
 ghost use Rattle.std.specs.Prelude.{◌≡◌, [], ◌∷◌, ◌++◌, OnOk};
 ghost use Rattle.temp_ir.specs.declared.operation.AddressOp.TheVariants as address;
-ghost use Rattle.temp_ir.specs.declared.insn.Source.TheVariants as source;
+ghost use Rattle.temp_ir.specs.declared.insn.FirstOperand.TheVariants as source;
 ghost use Rattle.temp_ir.specs.declared.insn.TempInsn.TheVariants as insn;
 ghost use Rattle.alpha_forms.specs.Constants as constants;
 
@@ -11,7 +11,7 @@ use alpha_constants::recipe::{Finish, Recipe};
 use alpha_constants::shortest::recipe_of;
 use std::alloc::AllocError;
 use suifvm_ir::block::Block;
-use temp_ir::insn::{Operand, Source, TempInsn};
+use temp_ir::insn::{FirstOperand, SecondOperand, TempInsn};
 use temp_ir::operation::{AddressOp, Operation};
 
 /// Puts an address instruction, but none where its displacement is zero.
@@ -30,7 +30,7 @@ fn put_unless_zero(
     out.push(TempInsn::Address {
         op,
         destination,
-        base: Source::Temp(destination),
+        base: FirstOperand::Temp(destination),
         plus,
     })
 }
@@ -44,14 +44,14 @@ fn put_near(out: &mut Block<TempInsn>, destination: u32, number: u64) -> Result<
         return out.push(TempInsn::Address {
             op: AddressOp::Lda,
             destination,
-            base: Source::Zero,
+            base: FirstOperand::Zero,
             plus: low_part(number),
         });
     }
     out.push(TempInsn::Address {
         op: AddressOp::Ldah,
         destination,
-        base: Source::Zero,
+        base: FirstOperand::Zero,
         plus: high,
     })?;
     put_unless_zero(out, AddressOp::Lda, destination, low_part(number))
@@ -77,8 +77,8 @@ fn put_with_literal(
     out.push(TempInsn::Operate {
         op,
         destination,
-        left: Source::Temp(destination),
-        right: Operand::Literal(number),
+        left: FirstOperand::Temp(destination),
+        right: SecondOperand::Literal(number),
     })
 }
 
@@ -119,8 +119,8 @@ pub fn put_constant(
         return out.push(TempInsn::Operate {
             op: Operation::Bis,
             destination,
-            left: Source::Zero,
-            right: Operand::Literal(0),
+            left: FirstOperand::Zero,
+            right: SecondOperand::Literal(0),
         });
     }
     put_recipe(out, destination, recipe_of(word))

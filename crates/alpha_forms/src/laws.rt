@@ -1,7 +1,7 @@
 //! The laws of the forms, each the contract of a function that does nothing.
 
-ghost use Rattle.suifvm_ir.specs.declared.insn.UnaryOp.TheVariants.{Move, Negate, Complement};
-ghost use Rattle.suifvm_ir.specs.declared.insn.BinaryOp.TheVariants.{Add, Subtract, Multiply, Divide, Remainder, And, Or, ExclusiveOr};
+ghost use Rattle.suifvm_ir.specs.declared.insn.VmUnaryOp.TheVariants.{Move, Negate, Complement};
+ghost use Rattle.suifvm_ir.specs.declared.insn.VmBinaryOp.TheVariants.{Add, Subtract, Multiply, Divide, Remainder, And, Or, ExclusiveOr};
 ghost use Rattle.suifvm_ir.specs.declared.insn.ShiftOp.TheVariants.{ArithmeticRight, Left, LogicalRight};
 ghost use Rattle.suifvm_ir.specs.declared.insn.CompareOp.TheVariants.{Equal, NotEqual, Less, LessOrEqual};
 ghost use Rattle.alpha_forms.specs.Laws.{ConstantsAreMade, RecipesHaveLengths, ConstantsAreShort, LoadsAreDone, StoresAreDone, UnaryIsDone, BinaryIsDone, ShiftIsDone, CompareIsDone, ConversionsAreDone, ConstantsAreLoaded, AddressesAreLoaded, BranchesAreTaken};

@@ -5,10 +5,10 @@ ghost use Rattle.alpha_forms.specs.Operations as operations;
 
 use std::alloc::AllocError;
 use suifvm_ir::block::Block;
-use suifvm_ir::insn::{BinaryOp, BranchOp, CompareOp, ShiftOp, UnaryOp};
+use suifvm_ir::insn::{CompareOp, ShiftOp, VmBinaryOp, VmBranchOp, VmUnaryOp};
 use suifvm_ir::types::{MemoryType, VmType};
-use temp_ir::insn::{FixedRegister, Operand, Source, TempInsn};
-use temp_ir::operation::{ExtendOp, Operation, Routine};
+use temp_ir::insn::{FirstOperand, FixedRegister, SecondOperand, TempInsn};
+use temp_ir::operation::{DivisionRoutine, ExtendOp, Operation};
 
 /// The temporary that is used within the code of one instruction.
 const SCRATCH: u32 = 0;
@@ -20,8 +20,8 @@ pub(crate) fn on_two(op: Operation, destination: u32, left: u32, right: u32) -> 
     TempInsn::Operate {
         op,
         destination,
-        left: Source::Temp(left),
-        right: Operand::Temp(right),
+        left: FirstOperand::Temp(left),
+        right: SecondOperand::Temp(right),
     }
 }
 
@@ -32,8 +32,8 @@ fn on_number(op: Operation, destination: u32, left: u32, number: u8) -> TempInsn
     TempInsn::Operate {
         op,
         destination,
-        left: Source::Temp(left),
-        right: Operand::Literal(number),
+        left: FirstOperand::Temp(left),
+        right: SecondOperand::Literal(number),
     }
 }
 
@@ -44,8 +44,8 @@ fn on_zero(op: Operation, destination: u32, source: u32) -> TempInsn
     TempInsn::Operate {
         op,
         destination,
-        left: Source::Zero,
-        right: Operand::Temp(source),
+        left: FirstOperand::Zero,
+        right: SecondOperand::Temp(source),
     }
 }
 
@@ -109,35 +109,35 @@ fn product_op(ty: VmType) -> Operation
 }
 
 /// The routine of a quotient.
-fn quotient_routine(ty: VmType) -> Routine
+fn quotient_routine(ty: VmType) -> DivisionRoutine
     ensures { result ≡ operations.quotient_routine ty }
 {
     match ty {
-        VmType::S32 => Routine::Divl,
-        VmType::U32 => Routine::Divlu,
-        VmType::S64 => Routine::Divq,
-        VmType::U64 => Routine::Divqu,
-        VmType::P64 => Routine::Divqu,
+        VmType::S32 => DivisionRoutine::Divl,
+        VmType::U32 => DivisionRoutine::Divlu,
+        VmType::S64 => DivisionRoutine::Divq,
+        VmType::U64 => DivisionRoutine::Divqu,
+        VmType::P64 => DivisionRoutine::Divqu,
     }
 }
 
 /// The routine of a remainder.
-fn remainder_routine(ty: VmType) -> Routine
+fn remainder_routine(ty: VmType) -> DivisionRoutine
     ensures { result ≡ operations.remainder_routine ty }
 {
     match ty {
-        VmType::S32 => Routine::Reml,
-        VmType::U32 => Routine::Remlu,
-        VmType::S64 => Routine::Remq,
-        VmType::U64 => Routine::Remqu,
-        VmType::P64 => Routine::Remqu,
+        VmType::S32 => DivisionRoutine::Reml,
+        VmType::U32 => DivisionRoutine::Remlu,
+        VmType::S64 => DivisionRoutine::Remq,
+        VmType::U64 => DivisionRoutine::Remqu,
+        VmType::P64 => DivisionRoutine::Remqu,
     }
 }
 
 /// Puts a copy, a negation or a complement.
 pub fn put_unary(
     out: &mut Block<TempInsn>,
-    op: UnaryOp,
+    op: VmUnaryOp,
     ty: VmType,
     destination: u32,
     source: u32,
@@ -145,9 +145,9 @@ pub fn put_unary(
     ensures { OnOk result (out.new ≡ out.old ++ operations.unary_items op ty destination source) }
 {
     let op = match op {
-        UnaryOp::Move => Operation::Bis,
-        UnaryOp::Negate => difference_op(ty),
-        UnaryOp::Complement => Operation::Ornot,
+        VmUnaryOp::Move => Operation::Bis,
+        VmUnaryOp::Negate => difference_op(ty),
+        VmUnaryOp::Complement => Operation::Ornot,
     };
     out.push(on_zero(op, destination, source))
 }
@@ -155,7 +155,7 @@ pub fn put_unary(
 /// Puts the call of a division routine.
 fn put_division(
     out: &mut Block<TempInsn>,
-    routine: Routine,
+    routine: DivisionRoutine,
     destination: u32,
     left: u32,
     right: u32,
@@ -180,7 +180,7 @@ fn put_division(
 /// Puts an operation on two registers.
 pub fn put_binary(
     out: &mut Block<TempInsn>,
-    op: BinaryOp,
+    op: VmBinaryOp,
     ty: VmType,
     destination: u32,
     left: u32,
@@ -189,14 +189,14 @@ pub fn put_binary(
     ensures { OnOk result (out.new ≡ out.old ++ operations.binary_items op ty destination left right) }
 {
     match op {
-        BinaryOp::Add => out.push(on_two(sum_op(ty), destination, left, right)),
-        BinaryOp::Subtract => out.push(on_two(difference_op(ty), destination, left, right)),
-        BinaryOp::Multiply => out.push(on_two(product_op(ty), destination, left, right)),
-        BinaryOp::Divide => put_division(out, quotient_routine(ty), destination, left, right),
-        BinaryOp::Remainder => put_division(out, remainder_routine(ty), destination, left, right),
-        BinaryOp::And => out.push(on_two(Operation::And, destination, left, right)),
-        BinaryOp::Or => out.push(on_two(Operation::Bis, destination, left, right)),
-        BinaryOp::ExclusiveOr => out.push(on_two(Operation::Xor, destination, left, right)),
+        VmBinaryOp::Add => out.push(on_two(sum_op(ty), destination, left, right)),
+        VmBinaryOp::Subtract => out.push(on_two(difference_op(ty), destination, left, right)),
+        VmBinaryOp::Multiply => out.push(on_two(product_op(ty), destination, left, right)),
+        VmBinaryOp::Divide => put_division(out, quotient_routine(ty), destination, left, right),
+        VmBinaryOp::Remainder => put_division(out, remainder_routine(ty), destination, left, right),
+        VmBinaryOp::And => out.push(on_two(Operation::And, destination, left, right)),
+        VmBinaryOp::Or => out.push(on_two(Operation::Bis, destination, left, right)),
+        VmBinaryOp::ExclusiveOr => out.push(on_two(Operation::Xor, destination, left, right)),
     }
 }
 
@@ -319,12 +319,12 @@ pub fn put_compare(
 }
 
 /// The operation of a branch.
-pub fn branch_op(op: BranchOp) -> temp_ir::operation::BranchOp
+pub fn branch_op(op: VmBranchOp) -> temp_ir::operation::TempBranchOp
     ensures { result ≡ operations.branch_op op }
 {
     match op {
-        BranchOp::IfTrue => temp_ir::operation::BranchOp::Bne,
-        BranchOp::IfFalse => temp_ir::operation::BranchOp::Beq,
+        VmBranchOp::IfTrue => temp_ir::operation::TempBranchOp::Bne,
+        VmBranchOp::IfFalse => temp_ir::operation::TempBranchOp::Beq,
     }
 }
 
@@ -358,13 +358,13 @@ fn convert(from: MemoryType, to: VmType, destination: u32, source: u32) -> TempI
         MemoryType::S8 => TempInsn::Extend {
             op: ExtendOp::Sextb,
             destination,
-            source: Operand::Temp(source),
+            source: SecondOperand::Temp(source),
         },
         MemoryType::U8 => on_number(Operation::Zapnot, destination, source, 1),
         MemoryType::S16 => TempInsn::Extend {
             op: ExtendOp::Sextw,
             destination,
-            source: Operand::Temp(source),
+            source: SecondOperand::Temp(source),
         },
         MemoryType::U16 => on_number(Operation::Zapnot, destination, source, 3),
         MemoryType::S32 => extended_long(destination, source),

@@ -10,12 +10,12 @@ use Rattle.alpha_isa.specs.declared.insn.BranchOp.{BranchOp}
 use Rattle.alpha_isa.specs.Arithmetic.{OperationEffect, Gives, Keeps, Overflows}
 use Rattle.alpha_isa.specs.Program.{Program, instruction_at, data_start, stack_start}
 use Rattle.alpha_isa.specs.State.{State, register, with_register, with_bytes, with_part, lies_in}
-use Rattle.alpha_isa.specs.Step.{Next, Goes, Over, Done, Trap, next_instruction, stuck, input_word, input_rest, load_into, go_on_stored, memory_step, branch_step, links, next_pc, address, jump_step, operate_step, service_step, pal_step, insn_step, fetched_step, step, go_on, exec}
+use Rattle.alpha_isa.specs.Step.{MachineNext, Goes, Over, Done, Trap, next_instruction, stuck, input_word, input_rest, load_into, go_on_stored, memory_step, branch_step, links, next_pc, address, jump_step, operate_step, service_step, pal_step, insn_step, fetched_step, step, go_on, exec}
 use Rattle.alpha_isa.specs.Laws.{output_at, Extends}
 
 -- ---- one run after another
 
-split_from : (p : Program) (k n : ℕ) → ((u : State) → exec p (k + n) u ≡ go_on (exec p k u) (exec p n)) → (r : Next) → go_on r (exec p (k + n)) ≡ go_on (go_on r (exec p k)) (exec p n)
+split_from : (p : Program) (k n : ℕ) → ((u : State) → exec p (k + n) u ≡ go_on (exec p k u) (exec p n)) → (r : MachineNext) → go_on r (exec p (k + n)) ≡ go_on (go_on r (exec p k)) (exec p n)
 split_from p k n ih (Goes u) = ih u
 split_from p k n ih (Over h u) = refl
 
@@ -29,13 +29,13 @@ exec_split p (suc k) n s =
 -- ---- the output of a step
 
 -- a next state goes on with an output
-Grows : List ℕ → Next → Type 0
+Grows : List ℕ → MachineNext → Type 0
 Grows old n = Extends old (output_at n)
 
 with_register-output : (r word : ℕ) (s : State) → (with_register r word s).output ≡ s.output
 with_register-output r word s = cond_both (eqb r 31) s _ (λ (u : State). u.output ≡ s.output) (λ e. refl) (λ e. refl)
 
-still : (old : List ℕ) (n : Next) → output_at n ≡ old → Grows old n
+still : (old : List ℕ) (n : MachineNext) → output_at n ≡ old → Grows old n
 unfolding Grows
 still old n e = ([], e ∙ sym (append-nil old))
 
@@ -46,7 +46,7 @@ loaded_grows : (value : List ℕ → ℕ) (ra : ℕ) (o : Option (List ℕ)) (s 
 loaded_grows value ra None s = still s.output (stuck s) refl
 loaded_grows value ra (Some bytes) s = given ra (value bytes) s
 
-one_of : (old : List ℕ) (b : Bool) (x y : Next) → Grows old x → Grows old y → Grows old (cond b x y)
+one_of : (old : List ℕ) (b : Bool) (x y : MachineNext) → Grows old x → Grows old y → Grows old (cond b x y)
 one_of old true x y f g = f
 one_of old false x y f g = g
 
@@ -91,17 +91,17 @@ put_grows byte s = (byte ∷ [], refl)
 
 service_grows : (number : ℕ) (s : State) → Grows s.output (service_step number s)
 service_grows number s =
-    let ends : Next = Over (Done (register s 16 % 256)) s in
-    let puts : Next = next_instruction (record s { output = s.output ++ (register s 16 % 256) ∷ [] }) in
+    let ends : MachineNext = Over (Done (register s 16 % 256)) s in
+    let puts : MachineNext = next_instruction (record s { output = s.output ++ (register s 16 % 256) ∷ [] }) in
     let rest : State = record s { input = input_rest s.input } in
-    let takes : Next = next_instruction (with_register 0 (input_word s.input) rest) in
+    let takes : MachineNext = next_instruction (with_register 0 (input_word s.input) rest) in
     one_of s.output (eqb number 1) ends (cond (eqb number 2) puts (cond (eqb number 3) takes (stuck s))) (still s.output ends refl)
     (one_of s.output (eqb number 2) puts (cond (eqb number 3) takes (stuck s)) (put_grows (register s 16 % 256) s)
     (one_of s.output (eqb number 3) takes (stuck s) (still s.output takes (with_register-output 0 (input_word s.input) rest)) (still s.output (stuck s) refl)))
 
 pal_grows : (function : ℕ) (s : State) → Grows s.output (pal_step function s)
 pal_grows function s =
-    let traps : Next = Over (Trap (register s 16)) s in
+    let traps : MachineNext = Over (Trap (register s 16)) s in
     one_of s.output (eqb function 0x83) (service_step (register s 0) s) (cond (eqb function 0xAA) traps (stuck s)) (service_grows (register s 0) s)
     (one_of s.output (eqb function 0xAA) traps (stuck s) (still s.output traps refl) (still s.output (stuck s) refl))
 
@@ -122,11 +122,11 @@ step_grows p s = fetched_grows p (instruction_at p s.pc) s
 
 -- ---- the output of a run
 
-longer : (a b : List ℕ) (n : Next) → Extends a b → Grows b n → Grows a n
+longer : (a b : List ℕ) (n : MachineNext) → Extends a b → Grows b n → Grows a n
 unfolding Grows
 longer a b n x y = (x.0 ++ y.0, y.1 ∙ ap (λ l. l ++ y.0) x.1 ∙ append_assoc a x.0 y.0)
 
-exec_grows_from : (p : Program) (n : ℕ) (old : List ℕ) → ((u : State) → Grows u.output (exec p n u)) → (r : Next) → Grows old r → Grows old (go_on r (exec p n))
+exec_grows_from : (p : Program) (n : ℕ) (old : List ℕ) → ((u : State) → Grows u.output (exec p n u)) → (r : MachineNext) → Grows old r → Grows old (go_on r (exec p n))
 unfolding Grows
 exec_grows_from p n old ih (Goes u) x = longer old u.output (exec p n u) x (ih u)
 exec_grows_from p n old ih (Over h u) x = x
@@ -140,7 +140,7 @@ pub exec_extends : (p : Program) (n : ℕ) (s : State) → Extends s.output (out
 unfolding Grows
 exec_extends p n s = exec_grows p n s
 
-more_from : (p : Program) (n : ℕ) (r : Next) → Extends (output_at r) (output_at (go_on r (exec p n)))
+more_from : (p : Program) (n : ℕ) (r : MachineNext) → Extends (output_at r) (output_at (go_on r (exec p n)))
 more_from p n (Goes u) = exec_extends p n u
 more_from p n (Over h u) = ([], sym (append-nil u.output))
 

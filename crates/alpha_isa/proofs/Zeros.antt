@@ -13,7 +13,7 @@ use Rattle.alpha_isa.specs.Words.{insn_of}
 use Rattle.alpha_isa.specs.Arithmetic.{sign_extension}
 use Rattle.alpha_isa.specs.Program.{Program, HoldsSame, HasZerosCut, last_byte, data_of, data_size, text_start, next_part, data_start, stack_start, instruction_at, word_address}
 use Rattle.alpha_isa.specs.State.{State, register, lies_in, part_of, with_part, bytes_at, with_bytes}
-use Rattle.alpha_isa.specs.Step.{Next, Goes, Over, load_into, go_on_stored, memory_step, insn_step, fetched_step, step, go_on, exec, address}
+use Rattle.alpha_isa.specs.Step.{MachineNext, Goes, Over, load_into, go_on_stored, memory_step, insn_step, fetched_step, step, go_on, exec, address}
 use Rattle.alpha_isa.specs.Behave.{behave_a, behaviour, start}
 
 -- ---- the same places
@@ -95,7 +95,7 @@ step_same p q s same = ap (λ o. fetched_step q o s) (same_instruction p q s.pc 
 
 -- ---- the same runs
 
-go_on_same : (f g : State → Next) → ((s : State) → f s ≡ g s) → (r : Next) → go_on r f ≡ go_on r g
+go_on_same : (f g : State → MachineNext) → ((s : State) → f s ≡ g s) → (r : MachineNext) → go_on r f ≡ go_on r g
 go_on_same f g same (Goes s) = same s
 go_on_same f g same (Over h s) = refl
 

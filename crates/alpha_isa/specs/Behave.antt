@@ -2,7 +2,7 @@
 use Rattle.std.specs.Prelude.{ℕ, ◌+◌, ◌%◌, ◌≡◌, ◌≤◌, List, [], replicate, slice_set}
 use Rattle.alpha_isa.specs.Program.{Program, data_of, word_address, stack_start}
 use Rattle.alpha_isa.specs.State.{State}
-use Rattle.alpha_isa.specs.Step.{Halt, Next, exec}
+use Rattle.alpha_isa.specs.Step.{Halt, MachineNext, exec}
 use Rattle.alpha_isa.specs.Step as step
 
 -- a stack that a run may be given, in bytes
@@ -35,7 +35,7 @@ behaviour_of_halt (step.Done status) output = Done output status
 behaviour_of_halt (step.Trap code) output = Trap output code
 behaviour_of_halt (step.Stuck pc) output = Stuck output pc
 
-abbrev pub behaviour : Next → Behaviour
+abbrev pub behaviour : MachineNext → Behaviour
 behaviour (step.Goes s) = More s.output
 behaviour (step.Over h s) = behaviour_of_halt h s.output
 

@@ -1,9 +1,9 @@
 -- What the laws of a run say of its output.
 use Rattle.std.specs.Prelude.{◌≡◌, ℕ, List, ◌++◌}
-use Rattle.alpha_isa.specs.Step.{Next, Goes, Over}
+use Rattle.alpha_isa.specs.Step.{MachineNext, Goes, Over}
 
 -- the output where the machine stands, or stood at its end
-abbrev pub output_at : Next → List ℕ
+abbrev pub output_at : MachineNext → List ℕ
 output_at (Goes t) = t.output
 output_at (Over h t) = t.output
 

@@ -19,18 +19,18 @@ pub data Halt : Type 0 where
   Stuck : (pc : ℕ) → Halt
 
 -- where the machine stands after a step, or how it ended and where it stood
-pub data Next : Type 0 where
-  Goes : State → Next
-  Over : Halt → State → Next
+pub data MachineNext : Type 0 where
+  Goes : State → MachineNext
+  Over : Halt → State → MachineNext
 
 -- the machine goes on with the next instruction
 abbrev pub next_pc : State → ℕ
 next_pc s = s.pc + 4
 
-abbrev pub next_instruction : State → Next
+abbrev pub next_instruction : State → MachineNext
 next_instruction s = Goes (record s { pc = next_pc s })
 
-abbrev pub stuck : State → Next
+abbrev pub stuck : State → MachineNext
 stuck s = Over (Stuck s.pc) s
 
 -- ---- addresses and memory
@@ -40,15 +40,15 @@ abbrev pub address : State → ℕ → ℤ → ℕ
 address s rb disp = word_at (register s rb + word_from disp)
 
 -- a load gives what was read to a register, and a store goes on from what was written
-abbrev pub load_into : (List ℕ → ℕ) → ℕ → Option (List ℕ) → State → Next
+abbrev pub load_into : (List ℕ → ℕ) → ℕ → Option (List ℕ) → State → MachineNext
 load_into value ra None s = stuck s
 load_into value ra (Some bytes) s = next_instruction (with_register ra (value bytes) s)
 
-abbrev pub go_on_stored : Option State → State → Next
+abbrev pub go_on_stored : Option State → State → MachineNext
 go_on_stored None s = stuck s
 go_on_stored (Some t) s = next_instruction t
 
-abbrev pub memory_step : Program → MemoryOp → ℕ → ℕ → ℤ → State → Next
+abbrev pub memory_step : Program → MemoryOp → ℕ → ℕ → ℤ → State → MachineNext
 memory_step p Lda ra rb disp s = next_instruction (with_register ra (address s rb disp) s)
 memory_step p Ldah ra rb disp s = next_instruction (with_register ra (address s rb (disp *ℤ pos 65536)) s)
 memory_step p Ldbu ra rb disp s = load_into (from_le_bytes w8) ra (bytes_at p s (address s rb disp) 1) s
@@ -86,19 +86,19 @@ links _ = false
 abbrev pub branch_target : State → ℤ → ℕ
 branch_target s disp = word_at (next_pc s + word_from (disp *ℤ pos 4))
 
-abbrev pub branch_step : BranchOp → ℕ → ℤ → State → Next
+abbrev pub branch_step : BranchOp → ℕ → ℤ → State → MachineNext
 branch_step op ra disp s =
     let linked = if links op then with_register ra (next_pc s) s else s in
     Goes (record linked { pc = if is_taken op (register s ra) then branch_target s disp else next_pc s })
 
 -- a jump leaves the next address in its register, and goes to the other's with its two low bits cleared
-abbrev pub jump_step : ℕ → ℕ → State → Next
+abbrev pub jump_step : ℕ → ℕ → State → MachineNext
 jump_step ra rb s = Goes (record (with_register ra (next_pc s) s) { pc = register s rb / 4 * 4 })
 
 -- ---- operations
 
 -- a trap for overflow has the code 3, and nothing is written
-abbrev pub operate_step : OperationEffect → ℕ → State → Next
+abbrev pub operate_step : OperationEffect → ℕ → State → MachineNext
 operate_step (Gives word) rc s = next_instruction (with_register rc word s)
 operate_step Keeps rc s = next_instruction s
 operate_step Overflows rc s = Over (Trap 3) s
@@ -115,7 +115,7 @@ input_rest [] = []
 input_rest (byte ∷ bytes) = bytes
 
 -- what the program is asked by the number in register 0: 1 ends it with a status, 2 puts a byte, 3 takes one
-abbrev pub service_step : ℕ → State → Next
+abbrev pub service_step : ℕ → State → MachineNext
 service_step number s =
     if number == 1 then Over (Done (register s 16 % 256)) s
     else if number == 2 then next_instruction (record s { output = s.output ++ (register s 16 % 256) ∷ [] })
@@ -124,7 +124,7 @@ service_step number s =
     else stuck s
 
 -- 83 (hexadecimal) calls a service, AA traps with the code in register 16
-abbrev pub pal_step : ℕ → State → Next
+abbrev pub pal_step : ℕ → State → MachineNext
 pal_step function s =
     if function == 0x83 then service_step (register s 0) s
     else if function == 0xAA then Over (Trap (register s 16)) s
@@ -132,26 +132,26 @@ pal_step function s =
 
 -- ---- steps
 
-abbrev pub insn_step : Program → Fields → State → Next
+abbrev pub insn_step : Program → Fields → State → MachineNext
 insn_step p (fields.Memory op ra rb disp) s = memory_step p op ra rb disp s
 insn_step p (fields.Branch op ra disp) s = branch_step op ra disp s
 insn_step p (fields.Jump op ra rb) s = jump_step ra rb s
 insn_step p (fields.Operate op ra rb rc) s = operate_step (operation_effect op (register s ra) (operand s rb)) rc s
 insn_step p (fields.Pal function) s = pal_step function s
 
-abbrev pub fetched_step : Program → Option Fields → State → Next
+abbrev pub fetched_step : Program → Option Fields → State → MachineNext
 fetched_step p None s = stuck s
 fetched_step p (Some i) s = insn_step p i s
 
 -- one step from a state
-unfoldable pub step : Program → State → Next
+unfoldable pub step : Program → State → MachineNext
 step p s = fetched_step p (instruction_at p s.pc) s
 
 -- at most so many steps: where the machine stands then, or how it ended
-abbrev pub go_on : Next → (State → Next) → Next
+abbrev pub go_on : MachineNext → (State → MachineNext) → MachineNext
 go_on (Goes s) run = run s
 go_on (Over h s) run = Over h s
 
-unfoldable pub exec : Program → ℕ → State → Next
+unfoldable pub exec : Program → ℕ → State → MachineNext
 exec p zero s = Goes s
 exec p (suc n) s = go_on (step p s) (exec p n)

@@ -1,13 +1,13 @@
 //! A function whose instructions are chosen, as items.
 
 use crate::item::AsmItem;
-use crate::name::Name;
+use crate::name::FunctionName;
 
 /// A function as items.
 #[derive(Debug, Drop)]
 pub struct FinalFn {
     /// Its name.
-    pub name: Name,
+    pub name: FunctionName,
     /// Its text.
     pub items: Vec<AsmItem>,
     /// The bytes of its frame below the stack pointer at its entry, a multiple of 16.

@@ -2,7 +2,7 @@
 
 ghost use Rattle.std.specs.Prelude.{◌≡◌, IfOk};
 
-use crate::name::Name;
+use crate::name::FunctionName;
 use alpha_isa::insn::{BranchOp, Insn32};
 use std::alloc::AllocError;
 
@@ -15,7 +15,7 @@ pub enum AsmItem {
     /// Names the place of the next word. It gives no word.
     Label(u32),
     /// The name of the function that begins here. It gives no word.
-    Name(Name),
+    Name(FunctionName),
     /// An instruction that stands as it is: one word.
     Plain(Insn32),
     /// A branch to the place of a label: one word where it reaches, and else three or four.

@@ -9,11 +9,11 @@ use std::marker::Model;
 
 /// The name of a function. Contracts see the list of its bytes, so equal bytes are equal names.
 #[derive(Debug, Drop)]
-pub struct Name {
+pub struct FunctionName {
     bytes: Vec<u8>,
 }
 
-impl Model for Name {
+impl Model for FunctionName {
     ghost use Rattle.std.specs.Prelude.{List, ℕ};
 
     ghost Value = { List ℕ };
@@ -21,19 +21,19 @@ impl Model for Name {
     ghost view = { λ n. n.bytes.items };
 }
 
-impl Name {
+impl FunctionName {
     /// The name of these bytes. It takes no memory.
-    pub fn new(bytes: Vec<u8>) -> Name
+    pub fn new(bytes: Vec<u8>) -> FunctionName
         ensures { result ≡ bytes.items }
     {
-        Name { bytes }
+        FunctionName { bytes }
     }
 
     /// The name of a copy of these bytes. It fails only where memory is short.
-    pub fn from_slice(alloc: Global, bytes: &[u8]) -> Result<Name, AllocError>
+    pub fn from_slice(alloc: Global, bytes: &[u8]) -> Result<FunctionName, AllocError>
         ensures { IfOk result (λ n. n ≡ bytes.now) }
     {
-        Ok(Name {
+        Ok(FunctionName {
             bytes: Vec::from_slice(alloc, bytes)?,
         })
     }
@@ -49,27 +49,27 @@ impl Name {
     pub fn into_bytes(self) -> Vec<u8>
         ensures { result.items ≡ self }
     {
-        let Name { bytes } = self;
+        let FunctionName { bytes } = self;
         bytes
     }
 
     /// An equal name. It fails only where memory is short.
-    pub fn copy(&self) -> Result<Name, AllocError>
+    pub fn copy(&self) -> Result<FunctionName, AllocError>
         ensures { IfOk result (λ n. n ≡ self.now) }
     {
-        Ok(Name {
+        Ok(FunctionName {
             bytes: self.bytes.clone()?,
         })
     }
 }
 
 /// Names are equal exactly where their bytes are.
-impl PartialEq for Name {
+impl PartialEq for FunctionName {
     ghost eq = { bytes_eq };
 
     ghost laws = { partial_equiv_from_equiv nat_list_eq_equiv };
 
-    fn eq(&self, other: &Name) -> bool
+    fn eq(&self, other: &FunctionName) -> bool
         ensures eq { result ≡ bytes_eq self.now other.now }
         ensures bytes { IsTrue result ↔ (self.now ≡ other.now) }
     {
@@ -77,6 +77,6 @@ impl PartialEq for Name {
     }
 }
 
-impl Eq for Name {
+impl Eq for FunctionName {
     ghost laws = { nat_list_eq_equiv };
 }

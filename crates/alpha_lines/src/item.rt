@@ -19,7 +19,7 @@ use crate::operand::{
 };
 use alpha_isa::insn::{BranchOp, Fields, Insn32, JumpOp, MemoryOp, OperateOp};
 use alpha_items::item::AsmItem;
-use alpha_items::name::Name;
+use alpha_items::name::FunctionName;
 use std::alloc::{AllocError, Global};
 
 /// The greatest call of privileged code.
@@ -173,7 +173,7 @@ fn name(alloc: Global, rest: &[u8]) -> Result<Option<AsmItem>, AllocError>
     if !is_name(rest) {
         return Ok(None);
     }
-    let name = Name::from_slice(alloc, rest)?;
+    let name = FunctionName::from_slice(alloc, rest)?;
     Ok(Some(AsmItem::Name(name)))
 }
 

@@ -4,7 +4,7 @@ use Rattle.std.proofs.lemmas.List.{length-map}
 use Rattle.alpha_isa.specs.Words.{insn_of}
 use Rattle.alpha_isa.specs.Program.{Program, data_size, text_start, data_start, next_part}
 use Rattle.alpha_isa.specs.State.{State}
-use Rattle.alpha_isa.specs.Step.{Next, Goes, Over, next_instruction, step, exec}
+use Rattle.alpha_isa.specs.Step.{MachineNext, Goes, Over, next_instruction, step, exec}
 use Rattle.alpha_isa.specs.Step as step
 use Rattle.bk_io.specs.Outside.{next_count, count_end}
 use Rattle.alpha_run.specs.declared.ending.Ending.{Ending}

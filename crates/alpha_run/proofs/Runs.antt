@@ -3,7 +3,7 @@ use Rattle.std.proofs.Common.{◌≡◌, ℕ, zero, suc, ◌+◌, ◌-◌, ◌�
 use Rattle.alpha_isa.specs.Program.{Program}
 use Rattle.alpha_isa.specs.State.{State}
 use Rattle.alpha_isa.proofs.Zeros.{size_is}
-use Rattle.alpha_isa.specs.Step.{Halt, Next, Goes, Over, step, go_on, exec}
+use Rattle.alpha_isa.specs.Step.{Halt, MachineNext, Goes, Over, step, go_on, exec}
 use Rattle.alpha_isa.specs.Step as step
 use Rattle.alpha_isa.specs.Behave.{start, behaviour}
 use Rattle.alpha_isa.specs.Behave as behave
@@ -14,11 +14,11 @@ use Rattle.alpha_run.specs.declared.ending.Ending.TheVariants.{Done, Trap, Stuck
 use Rattle.alpha_run.specs.Snapshot.{Snapshot, snapshot_state, first_snapshot, IsMachineOf}
 use Rattle.alpha_run.specs.Services.{asks}
 use Rattle.alpha_run.specs.model.Stop.{stops_early}
-use Rattle.alpha_run.specs.Run.{count_plus, last_step, steps_then, steps_in, takes_then, takes_in, input_calls, StopsAt, snapshot_after, Traffic, IsRun, Gives, Behaves}
+use Rattle.alpha_run.specs.Run.{count_plus, last_step, steps_then, steps_in, takes_then, takes_in, input_calls, StopsAt, snapshot_after, Traffic, IsRun, Gives, MachineBehaves}
 
 -- ---- one step
 
-pub exec_one : (p : Program) (s : State) (n : Next) → step p s ≡ n → exec p 1 s ≡ n
+pub exec_one : (p : Program) (s : State) (n : MachineNext) → step p s ≡ n → exec p 1 s ≡ n
 unfolding exec
 exec_one p s (Goes t) e = ap (λ n. go_on n (exec p zero)) e
 exec_one p s (Over h t) e = ap (λ n. go_on n (exec p zero)) e
@@ -31,11 +31,11 @@ pub steps_one-over : (p : Program) (s t : State) (h : Halt) → step p s ≡ Ove
 unfolding steps_in
 steps_one-over p s t h e = ap (λ n. steps_then n (steps_in p zero)) e
 
-takes_one : (p : Program) (s : State) (b : Bool) (n : Next) → asks p 3 s ≡ b → step p s ≡ n → takes_in p 1 s ≡ cond b 1 0 + takes_then n (takes_in p zero)
+takes_one : (p : Program) (s : State) (b : Bool) (n : MachineNext) → asks p 3 s ≡ b → step p s ≡ n → takes_in p 1 s ≡ cond b 1 0 + takes_then n (takes_in p zero)
 unfolding takes_in
 takes_one p s b n a e = ap (λ k. cond k 1 0 + takes_then (step p s) (takes_in p zero)) a ∙ ap (λ k. cond b 1 0 + takes_then k (takes_in p zero)) e
 
-pub takes_one-no : (p : Program) (s : State) (n : Next) → asks p 3 s ≡ false → step p s ≡ n → takes_in p 1 s ≡ 0
+pub takes_one-no : (p : Program) (s : State) (n : MachineNext) → asks p 3 s ≡ false → step p s ≡ n → takes_in p 1 s ≡ 0
 unfolding takes_in
 takes_one-no p s (Goes t) a e = takes_one p s false (Goes t) a e
 takes_one-no p s (Over h t) a e = takes_one p s false (Over h t) a e
@@ -75,7 +75,7 @@ ran_from p n e s t old new told after k steps takes put stops i a puts machine l
 pub exec_on : (p : Program) (k n : ℕ) (s t : State) → exec p k s ≡ Goes t → exec p (k + n) s ≡ exec p n t
 exec_on p k n s t e = exec_split p k n s ∙ ap (λ r. go_on r (exec p n)) e
 
-steps_on_from : (p : Program) (k n : ℕ) (t : State) → ((u : State) → exec p k u ≡ Goes t → steps_in p (k + n) u ≡ steps_in p k u + steps_in p n t) → (r : Next) → go_on r (exec p k) ≡ Goes t → steps_then r (steps_in p (k + n)) ≡ steps_then r (steps_in p k) + steps_in p n t
+steps_on_from : (p : Program) (k n : ℕ) (t : State) → ((u : State) → exec p k u ≡ Goes t → steps_in p (k + n) u ≡ steps_in p k u + steps_in p n t) → (r : MachineNext) → go_on r (exec p k) ≡ Goes t → steps_then r (steps_in p (k + n)) ≡ steps_then r (steps_in p k) + steps_in p n t
 steps_on_from p k n t ih (Goes u) e = omega (arith, ih u e)
 steps_on_from p k n t ih (Over h u) e = cc
 
@@ -89,7 +89,7 @@ steps_on p (suc k) n s t e =
     let more : suc k + n ≡ suc (k + n) = omega arith in
     ap (λ j. steps_in p j s) more ∙ steps_on_from p k n t (λ u f. steps_on p k n u t f) (step p s) e
 
-takes_on_from : (p : Program) (k n : ℕ) (t : State) → ((u : State) → exec p k u ≡ Goes t → takes_in p (k + n) u ≡ takes_in p k u + takes_in p n t) → (r : Next) → go_on r (exec p k) ≡ Goes t → takes_then r (takes_in p (k + n)) ≡ takes_then r (takes_in p k) + takes_in p n t
+takes_on_from : (p : Program) (k n : ℕ) (t : State) → ((u : State) → exec p k u ≡ Goes t → takes_in p (k + n) u ≡ takes_in p k u + takes_in p n t) → (r : MachineNext) → go_on r (exec p k) ≡ Goes t → takes_then r (takes_in p (k + n)) ≡ takes_then r (takes_in p k) + takes_in p n t
 takes_on_from p k n t ih (Goes u) e = ih u e
 takes_on_from p k n t ih (Over h u) e = cc
 
@@ -105,7 +105,7 @@ takes_on p (suc k) n s t e =
     ap (λ j. takes_in p j s) more ∙ omega (arith, rest)
 
 -- a run that is over does no more
-over_on_from : (p : Program) (k n : ℕ) (h : Halt) (t : State) → ((u : State) → exec p k u ≡ Over h t → (exec p (k + n) u ≡ Over h t) × (steps_in p (k + n) u ≡ steps_in p k u) × (takes_in p (k + n) u ≡ takes_in p k u)) → (r : Next) → go_on r (exec p k) ≡ Over h t → (go_on r (exec p (k + n)) ≡ Over h t) × (steps_then r (steps_in p (k + n)) ≡ steps_then r (steps_in p k)) × (takes_then r (takes_in p (k + n)) ≡ takes_then r (takes_in p k))
+over_on_from : (p : Program) (k n : ℕ) (h : Halt) (t : State) → ((u : State) → exec p k u ≡ Over h t → (exec p (k + n) u ≡ Over h t) × (steps_in p (k + n) u ≡ steps_in p k u) × (takes_in p (k + n) u ≡ takes_in p k u)) → (r : MachineNext) → go_on r (exec p k) ≡ Over h t → (go_on r (exec p (k + n)) ≡ Over h t) × (steps_then r (steps_in p (k + n)) ≡ steps_then r (steps_in p k)) × (takes_then r (takes_in p (k + n)) ≡ takes_then r (takes_in p k))
 over_on_from p k n h t ih (Goes u) e = let i = ih u e in (i.0, ap suc i.1, i.2)
 over_on_from p k n h t ih (Over g u) e = (e, refl, refl)
 
@@ -248,7 +248,7 @@ ran_gives p stack input n WriteFault old new told after r = (r.tried, r.stops.0,
 pub loaded_runs : (p : Program) (stack : ℕ) (v : Snapshot) → v ≡ first_snapshot p stack → IsMachineOf p v × (v.halt ≡ None)
 loaded_runs p stack v e = (record { text = ap (λ u. u.text) e; size = ap (λ u. length u.data_bytes) e ∙ size_is p }, ap (λ u. u.halt) e)
 
-pub ran_behaves : (p : Program) (stack : ℕ) (input : List ℕ) (n : ℕ) (e : Ending) (old new : Snapshot) (told after : Traffic) → old ≡ first_snapshot p stack → IsRun p n e (snapshot_state old input []) old new told after → Behaves p stack input n e told after
+pub ran_behaves : (p : Program) (stack : ℕ) (input : List ℕ) (n : ℕ) (e : Ending) (old new : Snapshot) (told after : Traffic) → old ≡ first_snapshot p stack → IsRun p n e (snapshot_state old input []) old new told after → MachineBehaves p stack input n e told after
 ran_behaves p stack input n e old new told after same r =
     let s : IsRun p n e (start p stack input) old new told after = subst (λ u. IsRun p n e (snapshot_state u input []) old new told after) same r in
     record {

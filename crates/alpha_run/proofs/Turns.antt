@@ -11,7 +11,7 @@ use Rattle.alpha_isa.specs.declared.insn.MemoryOp.{MemoryOp}
 use Rattle.alpha_isa.specs.declared.insn.BranchOp.{BranchOp}
 use Rattle.alpha_isa.specs.Program.{Program, instruction_at}
 use Rattle.alpha_isa.specs.State.{State, register, with_register}
-use Rattle.alpha_isa.specs.Step.{Next, step, fetched_step, insn_step, memory_step, branch_step, stuck, next_instruction}
+use Rattle.alpha_isa.specs.Step.{MachineNext, step, fetched_step, insn_step, memory_step, branch_step, stuck, next_instruction}
 use Rattle.alpha_run.specs.declared.processor.Turn.{Turn}
 use Rattle.alpha_run.specs.declared.processor.Turn.TheVariants as turn
 use Rattle.alpha_run.specs.declared.processor.Processor.{Processor}
@@ -33,18 +33,18 @@ pub none_goes : (p : Program) (s : State) → ◌≡◌ {A = Option Fields} None
 unfolding step
 none_goes p s e = (ap (λ o. fetched_step p o s) (sym e), asks_none p s 3 (ap is_service (sym e)))
 
-insn_goes : (p : Program) (s : State) (i j : Fields) (n : Next) → Some i ≡ instruction_at p s.pc → i ≡ j → n ≡ insn_step p j s → step p s ≡ n
+insn_goes : (p : Program) (s : State) (i j : Fields) (n : MachineNext) → Some i ≡ instruction_at p s.pc → i ≡ j → n ≡ insn_step p j s → step p s ≡ n
 unfolding step
 insn_goes p s i j n e same is = ap (λ o. fetched_step p o s) (sym e) ∙ ap (λ k. insn_step p k s) same ∙ sym is
 
 -- an instruction that calls no service
-pub plain_goes : (p : Program) (s : State) (i j : Fields) (n : Next) → Some i ≡ instruction_at p s.pc → i ≡ j → is_service (Some j) ≡ false → n ≡ insn_step p j s → (step p s ≡ n) × (asks p 3 s ≡ false)
+pub plain_goes : (p : Program) (s : State) (i j : Fields) (n : MachineNext) → Some i ≡ instruction_at p s.pc → i ≡ j → is_service (Some j) ≡ false → n ≡ insn_step p j s → (step p s ≡ n) × (asks p 3 s ≡ false)
 plain_goes p s i j n e same other is = (insn_goes p s i j n e same is, asks_none p s 3 (ap is_service (sym e ∙ ap (λ k. Some k) same) ∙ other))
 
-pub memory_goes : (p : Program) (s : State) (i : Fields) (op : MemoryOp) (ra rb : ℕ) (disp : ℤ) (n : Next) → Some i ≡ instruction_at p s.pc → i ≡ fields.Memory op ra rb disp → FitsSigned w16 disp → n ≡ memory_step p op ra rb (cast_signed w16 (cast_unsigned w16 disp)) s → (step p s ≡ n) × (asks p 3 s ≡ false)
+pub memory_goes : (p : Program) (s : State) (i : Fields) (op : MemoryOp) (ra rb : ℕ) (disp : ℤ) (n : MachineNext) → Some i ≡ instruction_at p s.pc → i ≡ fields.Memory op ra rb disp → FitsSigned w16 disp → n ≡ memory_step p op ra rb (cast_signed w16 (cast_unsigned w16 disp)) s → (step p s ≡ n) × (asks p 3 s ≡ false)
 memory_goes p s i op ra rb disp n e same fits is = plain_goes p s i (fields.Memory op ra rb disp) n e same refl (is ∙ ap (λ z. memory_step p op ra rb z s) (to_z-of_z w16 disp fits))
 
-pub branch_goes : (p : Program) (s : State) (i : Fields) (op : BranchOp) (ra : ℕ) (disp : ℤ) (n : Next) → Some i ≡ instruction_at p s.pc → i ≡ fields.Branch op ra disp → FitsSigned w32 disp → n ≡ branch_step op ra (cast_signed w32 (cast_unsigned w32 disp)) s → (step p s ≡ n) × (asks p 3 s ≡ false)
+pub branch_goes : (p : Program) (s : State) (i : Fields) (op : BranchOp) (ra : ℕ) (disp : ℤ) (n : MachineNext) → Some i ≡ instruction_at p s.pc → i ≡ fields.Branch op ra disp → FitsSigned w32 disp → n ≡ branch_step op ra (cast_signed w32 (cast_unsigned w32 disp)) s → (step p s ≡ n) × (asks p 3 s ≡ false)
 branch_goes p s i op ra disp n e same fits is = plain_goes p s i (fields.Branch op ra disp) n e same refl (is ∙ ap (λ z. branch_step op ra z s) (to_z-of_z w32 disp fits))
 
 -- a service is asked for

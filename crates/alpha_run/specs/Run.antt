@@ -2,7 +2,7 @@
 use Rattle.std.specs.Prelude.{◌≡◌, ℕ, zero, suc, ◌+◌, ◌<◌, List, ◌++◌, length, Bool, true, false, Option, Some, None, option_map, IsTrue, if◌then◌else◌}
 use Rattle.alpha_isa.specs.Program.{Program}
 use Rattle.alpha_isa.specs.State.{State}
-use Rattle.alpha_isa.specs.Step.{Halt, Next, Goes, Over, step, exec}
+use Rattle.alpha_isa.specs.Step.{Halt, MachineNext, Goes, Over, step, exec}
 use Rattle.alpha_isa.specs.Step as step
 use Rattle.alpha_isa.specs.Behave.{behave_a, start}
 use Rattle.alpha_isa.specs.Behave as behave
@@ -24,7 +24,7 @@ abbrev pub last_step : Halt → ℕ
 last_step (step.Stuck pc) = 0
 last_step _ = 1
 
-abbrev pub steps_then : Next → (State → ℕ) → ℕ
+abbrev pub steps_then : MachineNext → (State → ℕ) → ℕ
 steps_then (Goes t) rest = suc (rest t)
 steps_then (Over h t) rest = last_step h
 
@@ -33,7 +33,7 @@ steps_in p zero s = 0
 steps_in p (suc n) s = steps_then (step p s) (steps_in p n)
 
 -- how many of the first n steps take a byte of the input
-abbrev pub takes_then : Next → (State → ℕ) → ℕ
+abbrev pub takes_then : MachineNext → (State → ℕ) → ℕ
 takes_then (Goes t) rest = rest t
 takes_then (Over h t) rest = 0
 
@@ -118,7 +118,7 @@ Gives p stack input n _ put = (k : ℕ) × (k < n) × (behave_a p stack input k 
 
 -- A run of n steps from the start of an image: where it stopped, and what it did to the input and the output. Where
 -- the outside failed, it stood at the service that the outside failed at.
-pub record Behaves (p : Program) (stack : ℕ) (input : List ℕ) (n : ℕ) (e : Ending)
+pub record MachineBehaves (p : Program) (stack : ℕ) (input : List ℕ) (n : ℕ) (e : Ending)
     (before after : Traffic) : Type 0 where
   pub tried : ℕ
   pub place : State

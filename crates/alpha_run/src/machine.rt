@@ -73,7 +73,7 @@ impl Machine {
     ghost use Rattle.alpha_run.specs.Snapshot.{first_snapshot, snapshot_state, IsMachineOf};
     ghost use Rattle.alpha_run.specs.Ending.{ending_of};
     ghost use Rattle.alpha_run.specs.model.Stop.{stops_early};
-    ghost use Rattle.alpha_run.specs.Run.{IsRun, Traffic, Behaves, halt_of, input_faults_after, output_faults_after};
+    ghost use Rattle.alpha_run.specs.Run.{IsRun, Traffic, MachineBehaves, halt_of, input_faults_after, output_faults_after};
 
     /// A machine with an image in it, and a stack of so many bytes, from 4,096 to 268,435,456 of them
     /// and a multiple of 16. It takes all the memory that its runs need.
@@ -120,7 +120,7 @@ impl Machine {
         // a run of a machine that was just loaded is the behaviour of its image
         ensures behaves { (p : Program) (stack : ℕ) (bytes : List ℕ) →
             self.old ≡ first_snapshot p stack → I.left input.old ≡ Some bytes →
-            Behaves p stack bytes budget result
+            MachineBehaves p stack bytes budget result
             (record { left = I.left input.old; made = I.made input.old; taken = O.taken out.old })
             (record { left = I.left input.new; made = I.made input.new; taken = O.taken out.new }) }
         ensures again { IfSome self.old.halt (λ h. (result ≡ ending_of h) × (self.new ≡ self.old) ×

@@ -95,7 +95,7 @@ fn links(op: BranchOp) -> bool
 
 impl Processor {
     ghost use Rattle.alpha_isa.specs.State.{register, operand, with_register};
-    ghost use Rattle.alpha_isa.specs.Step.{Next, Goes, stuck, next_instruction, memory_step, branch_step, jump_step, operate_step, address};
+    ghost use Rattle.alpha_isa.specs.Step.{MachineNext, Goes, stuck, next_instruction, memory_step, branch_step, jump_step, operate_step, address};
     ghost use Rattle.alpha_isa.specs.Arithmetic.{operation_effect};
     ghost use Rattle.alpha_run.specs.model.Turns.{Calls, Steps, waits, with_taken};
     ghost use Rattle.alpha_run.specs.model.ProcessorState.{processor_state, IsProcessorOf, IsShort, KeepsText, next_if_done, next_if_fits, next_with_word, advanced_if};

@@ -10,8 +10,8 @@ use Rattle.suifvm_ir.specs.Programs as vm
 use Rattle.suifvm_ir.specs.declared.insn.VmInsn.{VmInsn}
 use Rattle.temp_ir.specs.declared.insn.TempInsn.{TempInsn}
 use Rattle.temp_ir.specs.Fixed.{is_settled}
-use Rattle.temp_ir.specs.Programs.{TempFn, is_main, main_count, function_takes, names_what_is_there, goes_back_to_marks, IsLawfulFunction}
-use Rattle.alloc_model.specs.Temporaries.{FunctionCode, code_of}
+use Rattle.temp_ir.specs.Programs.{TempFn, is_main, main_count, function_takes, names_what_is_there, goes_back_to_marks, IsLawfulTempFn}
+use Rattle.alloc_model.specs.Temporaries.{TemporaryCode, code_of}
 use Rattle.selection_code.specs.Functions.{function_blocks}
 use Rattle.selection_shapes.proofs.Lists.{all_nil, all_more, all_first, all_rest}
 use Rattle.selection_shapes.proofs.Marks.{marks_kept}
@@ -33,7 +33,7 @@ same_length [] (g ∷ gs) h = absurd h
 same_length (f ∷ fs) [] h = absurd h
 same_length (f ∷ fs) (g ∷ gs) h = ap suc (same_length fs gs h.1)
 
-with_parts : List ℕ → List (List TempInsn) → FunctionCode
+with_parts : List ℕ → List (List TempInsn) → TemporaryCode
 with_parts sizes blocks = record { sizes = sizes; blocks = blocks }
 
 one_code : (f : VmFunction) (g : TempFn) → IsSelectedFunction f g → code_of g ≡ selected_code f
@@ -84,7 +84,7 @@ module _ (fs : List VmFunction) (gs : List TempFn) (globals : List DataObject) (
       subst (λ l. All (λ z. IsTrue (goes_back_to_marks l b z)) (slice_index_or bs b [])) (sym is)
       (marks_kept f (marks_of f law) b (slice_index_or bs b []) (ap (λ l. slice_get l b) (sym is) ∙ slice_get-get_or bs b [] lt))
 
-  lawful : (f : VmFunction) (g : TempFn) → IsSelectedFunction f g → vm.IsLawfulFunction fs globals f → IsLawfulFunction gs globals g
+  lawful : (f : VmFunction) (g : TempFn) → IsSelectedFunction f g → vm.IsLawfulFunction fs globals f → IsLawfulTempFn gs globals g
   lawful f g s law = record {
     main = λ e. s.params ∙ law.main (sym (same_main f g s) ∙ e);
     names = subst (λ bs. AllInsns (λ i. IsTrue (names_what_is_there gs globals g.objects i)) bs) (sym s.blocks)
@@ -95,15 +95,15 @@ module _ (fs : List VmFunction) (gs : List TempFn) (globals : List DataObject) (
         (subst (λ p. IsTrue (is_settled p (function_blocks f.params f.blocks))) (sym s.params) (functions_settled f));
   }
 
-  each_lawful : (xs : List VmFunction) (ys : List TempFn) → AreSelected xs ys → All (vm.IsLawfulFunction fs globals) xs → All (IsLawfulFunction gs globals) ys
-  each_lawful [] [] h law = all_nil (IsLawfulFunction gs globals)
+  each_lawful : (xs : List VmFunction) (ys : List TempFn) → AreSelected xs ys → All (vm.IsLawfulFunction fs globals) xs → All (IsLawfulTempFn gs globals) ys
+  each_lawful [] [] h law = all_nil (IsLawfulTempFn gs globals)
   each_lawful [] (g ∷ ys) h law = absurd h
   each_lawful (f ∷ xs) [] h law = absurd h
   each_lawful (f ∷ xs) (g ∷ ys) h law =
-      all_more (IsLawfulFunction gs globals) g ys (lawful f g h.0 (all_first (vm.IsLawfulFunction fs globals) f xs law))
+      all_more (IsLawfulTempFn gs globals) g ys (lawful f g h.0 (all_first (vm.IsLawfulFunction fs globals) f xs law))
       (each_lawful xs ys h.1 (all_rest (vm.IsLawfulFunction fs globals) f xs law))
 
-  pub all_lawful : All (vm.IsLawfulFunction fs globals) fs → All (IsLawfulFunction gs globals) gs
+  pub all_lawful : All (vm.IsLawfulFunction fs globals) fs → All (IsLawfulTempFn gs globals) gs
   all_lawful law = each_lawful fs gs all law
 
 -- ---- their size

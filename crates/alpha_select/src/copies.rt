@@ -3,12 +3,12 @@
 ghost use Rattle.std.specs.Prelude.{◌≡◌, IfOk};
 
 use c_tree::Seq;
-use data_object::{Cell, DataObject};
+use data_object::{DataCell, DataObject};
 use std::alloc::{AllocError, Global};
-use suifvm_ir::function::Object;
+use suifvm_ir::function::MemoryLocal;
 
 /// Equal cells. It fails only where memory is short.
-fn copy_cells(alloc: Global, cells: &[Cell]) -> Result<Seq<Cell>, AllocError>
+fn copy_cells(alloc: Global, cells: &[DataCell]) -> Result<Seq<DataCell>, AllocError>
     ensures { IfOk result (λ copies. copies ≡ cells.now) }
 {
     Ok(Seq::from_vec(Vec::from_slice(alloc, cells)?))
@@ -45,7 +45,10 @@ pub(crate) fn copy_globals(
 }
 
 /// Equal memory locals. It fails only where memory is short.
-pub(crate) fn copy_objects(alloc: Global, objects: &[Object]) -> Result<Seq<Object>, AllocError>
+pub(crate) fn copy_objects(
+    alloc: Global,
+    objects: &[MemoryLocal],
+) -> Result<Seq<MemoryLocal>, AllocError>
     ensures { IfOk result (λ copies. copies ≡ objects.now) }
 {
     Ok(Seq::from_vec(Vec::from_slice(alloc, objects)?))

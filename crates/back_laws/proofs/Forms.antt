@@ -1,7 +1,7 @@
 -- What is left of a block as its contents.
 use Rattle.std.proofs.Common.{◌≡◌, ℕ, zero, suc, List, [], ◌∷◌, true, map, cond, refl, ap, ◌∙◌, arith}
 use Rattle.std.specs.Prelude.{All, filter}
-use Rattle.temp_ir.specs.declared.operation.BranchOp.{BranchOp}
+use Rattle.temp_ir.specs.declared.operation.TempBranchOp.{TempBranchOp}
 use Rattle.temp_ir.specs.declared.insn.TempInsn.{TempInsn}
 use Rattle.temp_ir.specs.declared.insn.TempInsn.TheVariants as i
 use Rattle.temp_ir.specs.Insns.{targets_of, with_block, flows_on_of}
@@ -14,7 +14,7 @@ contents_of xs = contents targets_of with_block flows_on_of xs
 -- a jump, a branch, or an instruction without targets, which stays as it is
 pub data Kind : TempInsn → Type 0 where
   Jumps : (block : ℕ) → Kind (i.Jump block)
-  Branches : (op : BranchOp) (a block : ℕ) → Kind (i.Branch op a block)
+  Branches : (op : TempBranchOp) (a block : ℕ) → Kind (i.Branch op a block)
   Stays : (z : TempInsn) → is_no_jump targets_of flows_on_of z ≡ true → bare_of z ≡ z → targets_of z ≡ [] → Kind z
 
 pub kind : (z : TempInsn) → Kind z

@@ -2,7 +2,7 @@
 use Rattle.std.proofs.Common.{◌≡◌, ◌⊎◌, inl, inr, ℕ, zero, suc, ◌<◌, List, [], ◌∷◌, length, refl, sym, subst, arith}
 use Rattle.std.specs.Prelude.{All, IsTrue}
 use Rattle.data_object.specs.declared.DataObject.{DataObject}
-use Rattle.suifvm_ir.specs.declared.function.Object.{Object}
+use Rattle.suifvm_ir.specs.declared.function.MemoryLocal.{MemoryLocal}
 use Rattle.suifvm_ir.specs.Functions.{AllInsns}
 use Rattle.temp_ir.specs.declared.insn.TempInsn.{TempInsn}
 use Rattle.temp_ir.specs.declared.insn.TempInsn.TheVariants as i
@@ -13,7 +13,7 @@ use Rattle.cfg.specs.Contents.{HasContents}
 use Rattle.back_laws.specs.Kept.{KeepContents, NamesAreKept}
 use Rattle.back_laws.proofs.Forms.{contents_of, Kind, Jumps, Branches, Stays, kind, stays_first, all_nil, all_more, all_first, all_rest}
 
-module _ (functions : List TempFn) (globals : List DataObject) (objects : List Object) where
+module _ (functions : List TempFn) (globals : List DataObject) (objects : List MemoryLocal) where
   abbrev Names : TempInsn → Type 0
   Names z = IsTrue (names_what_is_there functions globals objects z)
 

@@ -1,7 +1,7 @@
 -- What blocks over temporaries keep of others, whose contents they have.
 use Rattle.std.specs.Prelude.{ℕ, ◌<◌, List, All, IsTrue, length}
 use Rattle.data_object.specs.declared.DataObject.{DataObject}
-use Rattle.suifvm_ir.specs.declared.function.Object.{Object}
+use Rattle.suifvm_ir.specs.declared.function.MemoryLocal.{MemoryLocal}
 use Rattle.suifvm_ir.specs.Functions.{AllInsns, EndsLate}
 use Rattle.temp_ir.specs.declared.insn.TempInsn.{TempInsn}
 use Rattle.temp_ir.specs.Insns.{targets_of, with_block, flows_on_of}
@@ -23,7 +23,7 @@ SettledIsKept =
 -- what the blocks name is there, where it was before
 abbrev pub NamesAreKept : Type 0
 NamesAreKept =
-    (functions : List TempFn) (globals : List DataObject) (objects : List Object) →
+    (functions : List TempFn) (globals : List DataObject) (objects : List MemoryLocal) →
     (before after : List (List TempInsn)) → KeepContents before after → AllInsns (λ i. IsTrue (names_what_is_there functions globals objects i)) before →
     AllInsns (λ i. IsTrue (names_what_is_there functions globals objects i)) after
 

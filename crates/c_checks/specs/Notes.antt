@@ -3,8 +3,8 @@ use Rattle.std.specs.Prelude.{ℕ, ◌+◌, List, [], ◌∷◌, ◌++◌, lengt
 use Rattle.c_type_faults.specs.declared.faults.Kind.{Kind}
 use Rattle.c_type_faults.specs.declared.faults.Fault.{Fault}
 use Rattle.c_typed_tree.specs.declared.types.StructDef.{StructDef}
-use Rattle.c_type_rules.specs.declared.typed.Place.{Place}
-use Rattle.c_type_rules.specs.declared.typed.Place.TheVariants as p
+use Rattle.c_type_rules.specs.declared.typed.PlaceKind.{PlaceKind}
+use Rattle.c_type_rules.specs.declared.typed.PlaceKind.TheVariants as p
 use Rattle.c_checks.specs.declared.meanings.Tag.{Tag}
 use Rattle.c_checks.specs.declared.notes.Notes.{Notes}
 
@@ -39,7 +39,7 @@ with_taken addressed texts n = record {
 }
 
 -- the address of a local, or of a part of one
-abbrev pub with_address : Place → Notes → Notes
+abbrev pub with_address : PlaceKind → Notes → Notes
 with_address p.Nowhere n = n
 with_address (p.Local number) n = with_taken (n.addressed ++ number ∷ []) n.texts n
 with_address (p.Global number) n = n

@@ -5,14 +5,14 @@ ghost use Rattle.std.specs.Option.{option_copied};
 ghost use Rattle.c_scopes.specs.Names.{find};
 ghost use Rattle.c_checks.specs.Scopes as spec;
 
-use crate::meanings::Meaning;
-use c_scopes::Table;
+use crate::meanings::NameMeaning;
+use c_scopes::NameTable;
 use std::alloc::AllocError;
 
 /// The names in scope, and how many of them stand outside the present block.
 #[derive(Drop)]
 pub struct Env<'a> {
-    pub names: Table<'a, Meaning>,
+    pub names: NameTable<'a, NameMeaning>,
     pub outside: usize,
 }
 
@@ -27,7 +27,11 @@ pub fn enter(env: &mut Env<'_>) -> usize
 }
 
 /// Declares a name in the present scope.
-pub fn declare<'a>(env: &mut Env<'a>, name: &'a [u8], meaning: Meaning) -> Result<(), AllocError>
+pub fn declare<'a>(
+    env: &mut Env<'a>,
+    name: &'a [u8],
+    meaning: NameMeaning,
+) -> Result<(), AllocError>
     ensures { OnOk result (env.new ≡ spec.with_name name.now meaning env.old) }
 {
     env.names.push(name, meaning)
@@ -43,7 +47,7 @@ pub fn leave(env: &mut Env<'_>, outside: usize)
 }
 
 /// What a name means.
-pub fn meaning_of<'b>(env: &'b Env<'_>, name: &[u8]) -> Option<&'b Meaning>
+pub fn meaning_of<'b>(env: &'b Env<'_>, name: &[u8]) -> Option<&'b NameMeaning>
     ensures { option_copied result ≡ spec.meaning_of env.now name.now }
 {
     match env.names.find(name) {

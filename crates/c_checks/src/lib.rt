@@ -12,7 +12,7 @@ mod notes;
 
 pub use env::{Env, declare, enter, leave, meaning_of, stands_here};
 pub use lists::append_part;
-pub use meanings::{Meaning, Tag, UntaggedStruct, Use};
+pub use meanings::{NameMeaning, Tag, UntaggedStruct, Use};
 pub use notes::{
     Notes, add_struct, add_tag, keep_apart, note, note_fault, note_text, note_use, rejoin,
     take_address,

@@ -6,7 +6,7 @@ use c_typed_tree::{CType, Callee};
 
 /// What a name means that is no tag and no member (C99 6.2.3).
 #[derive(Drop)]
-pub enum Meaning {
+pub enum NameMeaning {
     /// Its declaration has a fault.
     Faulty,
     /// A function or an object that the unit never defines, by its number among these.

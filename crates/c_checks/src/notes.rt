@@ -6,10 +6,10 @@ ghost use Rattle.c_checks.specs.Checks.{Finds, note_fault};
 ghost use Rattle.c_checks.specs.Notes as spec;
 
 use crate::meanings::{Tag, UntaggedStruct, Use};
-use c_scopes::Table;
+use c_scopes::NameTable;
 use c_tree::Seq;
 use c_type_faults::{Fault, Kind};
-use c_type_rules::{Place, Refusal};
+use c_type_rules::{PlaceKind, Refusal};
 use c_typed_tree::StructDef;
 use std::alloc::{AllocError, Global};
 use std::mem::replace;
@@ -30,9 +30,9 @@ pub struct Notes<'a> {
     /// The structs by their numbers.
     pub structs: Seq<StructDef>,
     /// Of each struct the names of its members, with their numbers; none of one whose declaration has a fault.
-    pub members: Seq<Table<'a, Option<u32>>>,
+    pub members: Seq<NameTable<'a, Option<u32>>>,
     /// The tags. All are of file scope.
-    pub tags: Table<'a, Tag>,
+    pub tags: NameTable<'a, Tag>,
     /// The struct without a tag whose members were declared last.
     pub untagged: Option<UntaggedStruct>,
 }
@@ -62,14 +62,14 @@ pub fn note_fault<T: Drop>(
 }
 
 /// Notes that the address of a local was taken, where a place is one or a part of one.
-pub fn take_address(notes: &mut Notes<'_>, place: Place) -> Result<(), AllocError>
+pub fn take_address(notes: &mut Notes<'_>, place: PlaceKind) -> Result<(), AllocError>
     ensures { OnOk result (notes.new ≡ spec.with_address place notes.old) }
 {
     match place {
-        Place::Nowhere => Ok(()),
-        Place::Local(number) => notes.addressed.push(number),
-        Place::Global(_) => Ok(()),
-        Place::Elsewhere => Ok(()),
+        PlaceKind::Nowhere => Ok(()),
+        PlaceKind::Local(number) => notes.addressed.push(number),
+        PlaceKind::Global(_) => Ok(()),
+        PlaceKind::Elsewhere => Ok(()),
     }
 }
 
@@ -108,7 +108,7 @@ pub fn add_struct(
         Err(_) => Err(AllocError),
         Ok(number) => {
             notes.structs.push(structure)?;
-            notes.members.push(Table::new(alloc))?;
+            notes.members.push(NameTable::new(alloc))?;
             Ok(number)
         }
     }

@@ -6,15 +6,15 @@ use Rattle.c_tree.specs.declared.declarations.Storage.{Storage}
 use Rattle.c_tree.specs.declared.declarations.Storage.TheVariants as s
 use Rattle.c_definitions.specs.declared.names.Definitions.{Definitions}
 use Rattle.c_type_faults.specs.declared.faults.Kind.TheVariants.{Redeclared}
-use Rattle.data_object.specs.declared.Cell.{Cell}
+use Rattle.data_object.specs.declared.DataCell.{DataCell}
 use Rattle.c_typed_tree.specs.declared.types.CType.{CType}
 use Rattle.c_typed_tree.specs.declared.units.TypedFn.{TypedFn}
 use Rattle.c_typed_tree.specs.declared.expressions.Callee.{Callee}
 use Rattle.c_typed_tree.specs.declared.expressions.Callee.TheVariants as c
 use Rattle.c_globals.specs.declared.objects.UnitObject.{UnitObject}
 use Rattle.c_globals.specs.Globals.{set_cells}
-use Rattle.c_checks.specs.declared.meanings.Meaning.{Meaning}
-use Rattle.c_checks.specs.declared.meanings.Meaning.TheVariants as m
+use Rattle.c_checks.specs.declared.meanings.NameMeaning.{NameMeaning}
+use Rattle.c_checks.specs.declared.meanings.NameMeaning.TheVariants as m
 use Rattle.c_checks.specs.declared.env.Env.{Env}
 use Rattle.c_checks.specs.declared.notes.Notes.{Notes}
 use Rattle.c_checks.specs.Notes.{with_fault}
@@ -74,7 +74,7 @@ next_object false name ty u = u
 next_object true name ty u = with_objects (u.objects ++ record { name = name; ty = ty; cells = [] } ∷ []) u
 
 -- what a name means, if it is an object that the unit defines
-abbrev pub object_by : Option Meaning → Option ℕ
+abbrev pub object_by : Option NameMeaning → Option ℕ
 object_by None = None
 object_by (Some m.Faulty) = None
 object_by (Some (m.Undefined number)) = None
@@ -100,15 +100,15 @@ with_object name ty w = (add_object w.1.0 name ty w.0, w.1)
 
 -- ---- what initialisers give
 
-abbrev pub fill_numbered : Option ℕ → List Cell → UnitSoFar → UnitSoFar
+abbrev pub fill_numbered : Option ℕ → List DataCell → UnitSoFar → UnitSoFar
 fill_numbered None cells u = u
 fill_numbered (Some number) cells u = with_objects (set_cells number cells u.objects) u
 
-abbrev pub keep_cells : Env → List ℕ → Option (List Cell) → UnitSoFar → UnitSoFar
+abbrev pub keep_cells : Env → List ℕ → Option (List DataCell) → UnitSoFar → UnitSoFar
 keep_cells env name None u = u
 keep_cells env name (Some cells) u = fill_numbered (object_at env name) cells u
 
-abbrev pub fill : List ℕ → UnitSoFar → Option (List Cell) × State → Walk
+abbrev pub fill : List ℕ → UnitSoFar → Option (List DataCell) × State → Walk
 fill name u r = (keep_cells r.1.0 name r.0 u, r.1)
 
 -- ---- functions, in the order of their bodies
@@ -126,7 +126,7 @@ function_called (c.Function number) = Some number
 function_called (c.Builtin builtin) = None
 
 -- what a name means, if it is a function that the unit defines
-abbrev pub function_by : Option Meaning → Option ℕ
+abbrev pub function_by : Option NameMeaning → Option ℕ
 function_by None = None
 function_by (Some m.Faulty) = None
 function_by (Some (m.Undefined number)) = None

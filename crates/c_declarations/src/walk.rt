@@ -4,14 +4,14 @@ ghost use Rattle.std.specs.Prelude.{◌≡◌, OnOk};
 ghost use Rattle.std.specs.Option.{option_copied};
 ghost use Rattle.c_declarations.specs.Walk as spec;
 
-use c_checks::{Env, Meaning, Notes, meaning_of, note};
+use c_checks::{Env, NameMeaning, Notes, meaning_of, note};
 use c_definitions::Definitions;
 use c_globals::{UnitObject, set_cells};
 use c_tree::{Name, Seq, Storage};
 use c_type_faults::Kind;
 use c_typed_tree::{CType, Callee, TypedFn};
 use c_unit_names::{NameDeclaration, UnitNames, declare_in_unit};
-use data_object::Cell;
+use data_object::DataCell;
 use std::alloc::{AllocError, Global};
 
 /// A function that the unit defines.
@@ -98,19 +98,19 @@ pub(crate) fn check_main(
 }
 
 /// The number of an object that the unit defines.
-fn object_by(meaning: Option<&Meaning>) -> Option<u32>
+fn object_by(meaning: Option<&NameMeaning>) -> Option<u32>
     ensures { result ≡ spec.object_by (option_copied meaning.entry) }
 {
     match meaning {
         None => None,
         Some(meaning) => match meaning {
-            Meaning::Faulty => None,
-            Meaning::Undefined(_) => None,
-            Meaning::Local { .. } => None,
-            Meaning::Object { number, .. } => Some(*number),
-            Meaning::Constant(_) => None,
-            Meaning::Function { .. } => None,
-            Meaning::Typedef(_) => None,
+            NameMeaning::Faulty => None,
+            NameMeaning::Undefined(_) => None,
+            NameMeaning::Local { .. } => None,
+            NameMeaning::Object { number, .. } => Some(*number),
+            NameMeaning::Constant(_) => None,
+            NameMeaning::Function { .. } => None,
+            NameMeaning::Typedef(_) => None,
         },
     }
 }
@@ -167,7 +167,7 @@ pub(crate) fn keep_cells(
     unit: &mut UnitSoFar<'_>,
     env: &Env<'_>,
     name: &[u8],
-    cells: Option<Seq<Cell>>,
+    cells: Option<Seq<DataCell>>,
 )
     ensures { unit.new ≡ spec.keep_cells env.now name.now cells unit.old }
 {
@@ -190,19 +190,19 @@ fn function_called(callee: Callee) -> Option<u32>
 }
 
 /// The number of a function that the unit defines.
-fn function_by(meaning: Option<&Meaning>) -> Option<u32>
+fn function_by(meaning: Option<&NameMeaning>) -> Option<u32>
     ensures { result ≡ spec.function_by (option_copied meaning.entry) }
 {
     match meaning {
         None => None,
         Some(meaning) => match meaning {
-            Meaning::Faulty => None,
-            Meaning::Undefined(_) => None,
-            Meaning::Local { .. } => None,
-            Meaning::Object { .. } => None,
-            Meaning::Constant(_) => None,
-            Meaning::Function { callee, .. } => function_called(*callee),
-            Meaning::Typedef(_) => None,
+            NameMeaning::Faulty => None,
+            NameMeaning::Undefined(_) => None,
+            NameMeaning::Local { .. } => None,
+            NameMeaning::Object { .. } => None,
+            NameMeaning::Constant(_) => None,
+            NameMeaning::Function { callee, .. } => function_called(*callee),
+            NameMeaning::Typedef(_) => None,
         },
     }
 }

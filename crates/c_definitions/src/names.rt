@@ -4,7 +4,7 @@ ghost use Rattle.std.specs.Prelude.{◌≡◌, IfOk, OnOk, is_some, length};
 ghost use Rattle.c_scopes.specs.Names.{find};
 ghost use Rattle.c_definitions.specs.Definitions as spec;
 
-use c_scopes::Table;
+use c_scopes::NameTable;
 use c_tree::{Declaration, External, FunctionEnd, Init, Storage, TypeNode};
 use std::alloc::{AllocError, Global};
 
@@ -12,20 +12,20 @@ use std::alloc::{AllocError, Global};
 #[derive(Drop)]
 pub struct Definitions<'a> {
     /// The typedef names of function types.
-    pub function_types: Table<'a, ()>,
+    pub function_types: NameTable<'a, ()>,
     /// The functions.
-    pub functions: Table<'a, ()>,
+    pub functions: NameTable<'a, ()>,
     /// The objects.
-    pub objects: Table<'a, ()>,
+    pub objects: NameTable<'a, ()>,
 }
 
-fn has(names: &Table<'_, ()>, name: &[u8]) -> bool
+fn has(names: &NameTable<'_, ()>, name: &[u8]) -> bool
     ensures { result ≡ is_some (find name.now names.now) }
 {
     names.find(name).is_some()
 }
 
-fn add_name<'a>(names: &mut Table<'a, ()>, name: &'a [u8]) -> Result<(), AllocError>
+fn add_name<'a>(names: &mut NameTable<'a, ()>, name: &'a [u8]) -> Result<(), AllocError>
     ensures { OnOk result (names.new ≡ spec.with_name name.now names.old) }
 {
     if has(names, name) {
@@ -36,7 +36,7 @@ fn add_name<'a>(names: &mut Table<'a, ()>, name: &'a [u8]) -> Result<(), AllocEr
 
 /// Whether a declarator gives a function.
 #[tactic(auto, unfolding(crate::specs::model::Opens::opens))]
-fn is_function(function_types: &Table<'_, ()>, node: &TypeNode) -> bool
+fn is_function(function_types: &NameTable<'_, ()>, node: &TypeNode) -> bool
     ensures { result ≡ spec.is_function function_types.now node.now }
 {
     match node {
@@ -127,9 +127,9 @@ fn nothing_defined<'a>(alloc: Global) -> Definitions<'a>
     ensures { result ≡ spec.nothing_defined }
 {
     Definitions {
-        function_types: Table::new(alloc),
-        functions: Table::new(alloc),
-        objects: Table::new(alloc),
+        function_types: NameTable::new(alloc),
+        functions: NameTable::new(alloc),
+        objects: NameTable::new(alloc),
     }
 }
 

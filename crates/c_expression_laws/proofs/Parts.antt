@@ -11,7 +11,7 @@ use Rattle.c_declared_types.specs.Depth.{is_deep_at_most}
 use Rattle.c_type_faults.specs.declared.faults.Kind.TheVariants.{BadType, Redeclared}
 use Rattle.c_scopes.specs.Names.{Entry, find, oldest}
 use Rattle.c_checks.specs.declared.env.Env.{Env}
-use Rattle.c_checks.specs.declared.meanings.Meaning.{Meaning}
+use Rattle.c_checks.specs.declared.meanings.NameMeaning.{NameMeaning}
 use Rattle.c_checks.specs.declared.notes.Notes.{Notes}
 use Rattle.c_checks.specs.Checks.{pure, and_then, each, append_part, note_fault}
 use Rattle.c_checks.specs.Notes.{apart, rejoin, with_fault}
@@ -44,7 +44,7 @@ part_becomes c taken later (Some l) (Some x) back h g = one_more c later l x (ju
 
 -- the names that were there are the oldest, in the same scope
 pub record Extends (env later : Env) : Type 0 where
-  pub more : List (Entry Meaning)
+  pub more : List (Entry NameMeaning)
   pub names : later.names ≡ more ++ env.names
   pub outside : later.outside ≡ env.outside
 
@@ -63,7 +63,7 @@ dropped (x ∷ xs) ys (suc k) e = dropped xs ys k (same e)
     same : suc k ≡ suc (length xs) → k ≡ length xs
     same f = omega arith
 
-oldest_of : (more names : List (Entry Meaning)) → oldest (length names) (more ++ names) ≡ names
+oldest_of : (more names : List (Entry NameMeaning)) → oldest (length names) (more ++ names) ≡ names
 oldest_of more names = dropped more names (length (more ++ names) - length names) (counted (length more) (length names) (length (more ++ names)) (length-append more names))
   where
     counted : (a b n : ℕ) → n ≡ a + b → n - b ≡ a

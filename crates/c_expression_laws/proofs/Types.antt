@@ -18,8 +18,8 @@ use Rattle.c_declared_types.specs.Depth.{is_declarable}
 use Rattle.c_type_faults.specs.declared.faults.Kind.TheVariants.{BadType}
 use Rattle.c_scopes.specs.Names.{Entry, find}
 use Rattle.c_checks.specs.declared.env.Env.{Env}
-use Rattle.c_checks.specs.declared.meanings.Meaning.{Meaning}
-use Rattle.c_checks.specs.declared.meanings.Meaning.TheVariants as m
+use Rattle.c_checks.specs.declared.meanings.NameMeaning.{NameMeaning}
+use Rattle.c_checks.specs.declared.meanings.NameMeaning.TheVariants as m
 use Rattle.c_checks.specs.declared.meanings.Tag.{Tag}
 use Rattle.c_checks.specs.declared.meanings.Tag.TheVariants as g
 use Rattle.c_checks.specs.declared.meanings.UntaggedStruct.{UntaggedStruct}
@@ -42,16 +42,16 @@ IsFoundType c taken ty = IsTypeIn c ty
 
 -- ---- names
 
-abbrev pub IsTypedefAt : Context → Option Meaning → Type 0
+abbrev pub IsTypedefAt : Context → Option NameMeaning → Type 0
 IsTypedefAt c None = Unit {0}
 IsTypedefAt c (Some meaning) = IsTypedefIn c meaning
 
-typedef_found : (c : Context) (name : List ℕ) (xs : List (Entry Meaning)) → HasTypedefs c xs → IsTypedefAt c (option_map (λ r. r.1) (find name xs))
+typedef_found : (c : Context) (name : List ℕ) (xs : List (Entry NameMeaning)) → HasTypedefs c xs → IsTypedefAt c (option_map (λ r. r.1) (find name xs))
 typedef_found c name [] h = tt
 typedef_found c name (x ∷ xs) h = of (bytes_eq name x.name) (typedef_found c name xs h.1)
   where
-    of : (b : Bool) → IsTypedefAt c (option_map (λ (r : ℕ × Meaning). r.1) (find name xs))
-        → IsTypedefAt c (option_map (λ (r : ℕ × Meaning). r.1) (if b then Some (length xs, x.value) else find name xs))
+    of : (b : Bool) → IsTypedefAt c (option_map (λ (r : ℕ × NameMeaning). r.1) (find name xs))
+        → IsTypedefAt c (option_map (λ (r : ℕ × NameMeaning). r.1) (if b then Some (length xs, x.value) else find name xs))
     of true rest = h.0
     of false rest = rest
 
@@ -138,7 +138,7 @@ fit_from c ds (d.Function x xs) h e = tt
 module _ (c : Context) (names : Type 0) where
   -- ---- specifiers
 
-  named_found : (at : ℕ) (o : Option Meaning) (n : Notes) → (names → IsTypedefAt c o) → Judges c names (IsFoundType c) n (named_type at o n)
+  named_found : (at : ℕ) (o : Option NameMeaning) (n : Notes) → (names → IsTypedefAt c o) → Judges c names (IsFoundType c) n (named_type at o n)
   named_found at None n h = found_fault c names (IsFoundType c) at _ n
   named_found at (Some m.Faulty) n h = found_none c names (IsFoundType c) n n (later_itself c n)
   named_found at (Some (m.Undefined number)) n h = found_fault c names (IsFoundType c) at _ n

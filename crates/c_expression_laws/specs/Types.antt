@@ -7,8 +7,8 @@ use Rattle.c_typed_tree.specs.Typing.{Context, is_type}
 use Rattle.c_declared_types.specs.declared.declared.DeclaredType.{DeclaredType}
 use Rattle.c_declared_types.specs.declared.declared.DeclaredType.TheVariants as d
 use Rattle.c_scopes.specs.Names.{Entry}
-use Rattle.c_checks.specs.declared.meanings.Meaning.{Meaning}
-use Rattle.c_checks.specs.declared.meanings.Meaning.TheVariants as m
+use Rattle.c_checks.specs.declared.meanings.NameMeaning.{NameMeaning}
+use Rattle.c_checks.specs.declared.meanings.NameMeaning.TheVariants as m
 
 abbrev pub AreTypes : List StructDef → List CType → Type 0
 AreTypes structs [] = Unit {0}
@@ -21,7 +21,7 @@ IsTypeIn c (d.Unsized element) = IsTrue (is_type c.structs (type_view element))
 IsTypeIn c (d.Function result parameters) = IsTrue (is_type c.structs (type_view result)) × AreTypes c.structs parameters
 
 -- so it is of each typedef name
-abbrev pub IsTypedefIn : Context → Meaning → Type 0
+abbrev pub IsTypedefIn : Context → NameMeaning → Type 0
 IsTypedefIn c m.Faulty = Unit {0}
 IsTypedefIn c (m.Undefined number) = Unit {0}
 IsTypedefIn c (m.Local number ty) = Unit {0}
@@ -30,6 +30,6 @@ IsTypedefIn c (m.Constant word) = Unit {0}
 IsTypedefIn c (m.Function callee result parameters) = Unit {0}
 IsTypedefIn c (m.Typedef ty) = IsTypeIn c ty
 
-abbrev pub HasTypedefs : Context → List (Entry Meaning) → Type 0
+abbrev pub HasTypedefs : Context → List (Entry NameMeaning) → Type 0
 HasTypedefs c [] = Unit {0}
 HasTypedefs c (x ∷ xs) = IsTypedefIn c x.value × HasTypedefs c xs

@@ -12,7 +12,7 @@ ghost use Rattle.c_expression_parser.specs.model.Suffixes as suffixes;
 
 use crate::cursor::{ParseStop, Tokens};
 use crate::parts::{core_name, member, no_name, texts};
-use crate::scope::Scope;
+use crate::scope::TypedefScope;
 use crate::shapes::{
     comma_of, may_be_nameless, parameter_of, with_shape, with_shapes, without_void,
 };
@@ -28,7 +28,7 @@ use std::alloc::Global;
 #[tactic(auto, using(crate::proofs::Loops::list_turn, crate::proofs::Loops::list_end))]
 fn assignments(
     alloc: Global,
-    scope: &Scope,
+    scope: &TypedefScope,
     tokens: &mut Tokens<'_>,
     depth: usize,
 ) -> Result<Seq<Expr>, ParseStop>
@@ -56,7 +56,7 @@ fn assignments(
 #[tactic(auto, unfolding(c_grammar::specs::ParseExpr::whole))]
 pub fn whole(
     alloc: Global,
-    scope: &Scope,
+    scope: &TypedefScope,
     tokens: &mut Tokens<'_>,
     depth: usize,
 ) -> Result<Expr, ParseStop>
@@ -73,7 +73,7 @@ pub fn whole(
 #[tactic(auto, unfolding(c_grammar::specs::ParseExpr::type_name))]
 fn type_name(
     alloc: Global,
-    scope: &Scope,
+    scope: &TypedefScope,
     tokens: &mut Tokens<'_>,
     depth: usize,
 ) -> Result<TypeName, ParseStop>
@@ -92,7 +92,7 @@ fn type_name(
 #[tactic(auto, unfolding(c_grammar::specs::ParseExpr::parameter))]
 fn parameter(
     alloc: Global,
-    scope: &Scope,
+    scope: &TypedefScope,
     tokens: &mut Tokens<'_>,
     depth: usize,
 ) -> Result<Parameter, ParseStop>
@@ -111,7 +111,7 @@ fn parameter(
 #[tactic(auto, using(crate::proofs::Loops::list_turn, crate::proofs::Loops::list_end))]
 fn parameter_list(
     alloc: Global,
-    scope: &Scope,
+    scope: &TypedefScope,
     tokens: &mut Tokens<'_>,
     depth: usize,
 ) -> Result<Seq<Parameter>, ParseStop>
@@ -134,7 +134,7 @@ fn parameter_list(
 #[tactic(auto, unfolding(c_grammar::specs::ParseExpr::parameters))]
 fn parameters(
     alloc: Global,
-    scope: &Scope,
+    scope: &TypedefScope,
     tokens: &mut Tokens<'_>,
     depth: usize,
 ) -> Result<Seq<Parameter>, ParseStop>
@@ -154,7 +154,7 @@ fn parameters(
 #[tactic(auto, unfolding(c_grammar::specs::ParseExpr::arguments))]
 fn arguments(
     alloc: Global,
-    scope: &Scope,
+    scope: &TypedefScope,
     tokens: &mut Tokens<'_>,
     depth: usize,
 ) -> Result<Seq<Expr>, ParseStop>
@@ -174,7 +174,7 @@ fn arguments(
 #[tactic(auto, unfolding(c_grammar::specs::ParseExpr::behind_name))]
 fn behind_name(
     alloc: Global,
-    scope: &Scope,
+    scope: &TypedefScope,
     tokens: &mut Tokens<'_>,
     depth: usize,
     at: u32,
@@ -203,7 +203,7 @@ fn behind_name(
 #[tactic(auto, unfolding(c_grammar::specs::ParseExpr::cast_behind))]
 fn cast_behind(
     alloc: Global,
-    scope: &Scope,
+    scope: &TypedefScope,
     tokens: &mut Tokens<'_>,
     depth: usize,
     at: u32,
@@ -222,7 +222,7 @@ fn cast_behind(
 #[tactic(auto, unfolding(c_grammar::specs::ParseExpr::brackets_behind))]
 fn brackets_behind(
     alloc: Global,
-    scope: &Scope,
+    scope: &TypedefScope,
     tokens: &mut Tokens<'_>,
     depth: usize,
 ) -> Result<(Expr, u8), ParseStop>
@@ -238,7 +238,7 @@ fn brackets_behind(
 #[tactic(auto, unfolding(c_grammar::specs::ParseExpr::size_of_type))]
 fn size_of_type(
     alloc: Global,
-    scope: &Scope,
+    scope: &TypedefScope,
     tokens: &mut Tokens<'_>,
     depth: usize,
     at: u32,
@@ -258,7 +258,7 @@ fn size_of_type(
 #[tactic(auto, unfolding(c_grammar::specs::ParseExpr::size_of_value))]
 fn size_of_value(
     alloc: Global,
-    scope: &Scope,
+    scope: &TypedefScope,
     tokens: &mut Tokens<'_>,
     depth: usize,
     at: u32,
@@ -274,7 +274,7 @@ fn size_of_value(
 #[cycle(expr)]
 fn size_of(
     alloc: Global,
-    scope: &Scope,
+    scope: &TypedefScope,
     tokens: &mut Tokens<'_>,
     depth: usize,
     at: u32,
@@ -294,7 +294,7 @@ fn size_of(
 #[cycle(expr)]
 fn name_or_call(
     alloc: Global,
-    scope: &Scope,
+    scope: &TypedefScope,
     tokens: &mut Tokens<'_>,
     depth: usize,
 ) -> Result<(Expr, u8), ParseStop>
@@ -315,7 +315,7 @@ fn name_or_call(
 #[cycle(expr)]
 fn bracket_operand(
     alloc: Global,
-    scope: &Scope,
+    scope: &TypedefScope,
     tokens: &mut Tokens<'_>,
     depth: usize,
     at: u32,
@@ -337,7 +337,7 @@ fn bracket_operand(
 #[cycle(expr)]
 fn unary(
     alloc: Global,
-    scope: &Scope,
+    scope: &TypedefScope,
     tokens: &mut Tokens<'_>,
     depth: usize,
     least: u8,
@@ -357,7 +357,7 @@ fn unary(
 #[tactic(auto, unfolding(c_grammar::specs::ParseExpr::operand))]
 fn operand(
     alloc: Global,
-    scope: &Scope,
+    scope: &TypedefScope,
     tokens: &mut Tokens<'_>,
     depth: usize,
     least: u8,
@@ -406,7 +406,7 @@ fn operand(
 #[cycle(expr)]
 fn step(
     alloc: Global,
-    scope: &Scope,
+    scope: &TypedefScope,
     tokens: &mut Tokens<'_>,
     depth: usize,
     kind: Infix,
@@ -451,7 +451,7 @@ fn step(
 #[cycle(expr)]
 fn index(
     alloc: Global,
-    scope: &Scope,
+    scope: &TypedefScope,
     tokens: &mut Tokens<'_>,
     depth: usize,
     at: u32,
@@ -468,7 +468,7 @@ fn index(
 #[cycle(expr)]
 fn binary(
     alloc: Global,
-    scope: &Scope,
+    scope: &TypedefScope,
     tokens: &mut Tokens<'_>,
     depth: usize,
     at: u32,
@@ -492,7 +492,7 @@ fn binary(
 #[cycle(expr)]
 fn assignment(
     alloc: Global,
-    scope: &Scope,
+    scope: &TypedefScope,
     tokens: &mut Tokens<'_>,
     depth: usize,
     at: u32,
@@ -516,7 +516,7 @@ fn assignment(
 #[cycle(expr)]
 fn choice(
     alloc: Global,
-    scope: &Scope,
+    scope: &TypedefScope,
     tokens: &mut Tokens<'_>,
     depth: usize,
     at: u32,
@@ -542,7 +542,7 @@ fn choice(
 #[tactic(auto, using(crate::proofs::Loops::climbing))]
 fn climb(
     alloc: Global,
-    scope: &Scope,
+    scope: &TypedefScope,
     tokens: &mut Tokens<'_>,
     depth: usize,
     at: u32,
@@ -579,7 +579,7 @@ fn climb(
 #[tactic(auto, using(crate::proofs::Deeper::expr_deeper), unfolding(c_grammar::specs::ParseExpr::expr))]
 pub fn expr(
     alloc: Global,
-    scope: &Scope,
+    scope: &TypedefScope,
     tokens: &mut Tokens<'_>,
     depth: usize,
     least: u8,
@@ -600,7 +600,7 @@ pub fn expr(
 #[tactic(auto, unfolding(crate::specs::model::Suffixes::array_length))]
 fn array_length(
     alloc: Global,
-    scope: &Scope,
+    scope: &TypedefScope,
     tokens: &mut Tokens<'_>,
     depth: usize,
 ) -> Result<Option<Expr>, ParseStop>
@@ -619,7 +619,7 @@ fn array_length(
 #[tactic(auto, using(crate::proofs::Loops::suffixes_turn, crate::proofs::Loops::suffixes_end))]
 fn suffixes(
     alloc: Global,
-    scope: &Scope,
+    scope: &TypedefScope,
     tokens: &mut Tokens<'_>,
     depth: usize,
     mut found: Declarator,
@@ -648,7 +648,7 @@ fn suffixes(
 #[tactic(auto, unfolding(c_grammar::specs::ParseExpr::group_behind))]
 fn group_behind(
     alloc: Global,
-    scope: &Scope,
+    scope: &TypedefScope,
     tokens: &mut Tokens<'_>,
     depth: usize,
     naming: Naming,
@@ -665,7 +665,7 @@ fn group_behind(
 #[tactic(auto, unfolding(c_grammar::specs::ParseExpr::core))]
 fn core(
     alloc: Global,
-    scope: &Scope,
+    scope: &TypedefScope,
     tokens: &mut Tokens<'_>,
     depth: usize,
     naming: Naming,
@@ -695,7 +695,7 @@ fn core(
 #[tactic(auto, unfolding(c_grammar::specs::ParseExpr::pointer_declarator))]
 fn pointer_declarator(
     alloc: Global,
-    scope: &Scope,
+    scope: &TypedefScope,
     tokens: &mut Tokens<'_>,
     depth: usize,
     naming: Naming,
@@ -718,7 +718,7 @@ fn pointer_declarator(
 #[tactic(auto, using(crate::proofs::Deeper::declarator_deeper), unfolding(c_grammar::specs::ParseExpr::declarator))]
 pub fn declarator(
     alloc: Global,
-    scope: &Scope,
+    scope: &TypedefScope,
     tokens: &mut Tokens<'_>,
     depth: usize,
     naming: Naming,

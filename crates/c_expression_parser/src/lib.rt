@@ -16,7 +16,7 @@ mod specifiers;
 
 pub use cursor::{ParseStop, Tokens};
 pub use expressions::{declarator, expr, whole};
-pub use scope::Scope;
+pub use scope::TypedefScope;
 pub use shapes::with_shapes;
 pub use specifier_type::SpecifierType;
 pub use specifiers::{named_type, plain, read_words};

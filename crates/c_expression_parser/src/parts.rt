@@ -5,7 +5,7 @@ ghost use Rattle.c_grammar.specs.ParseExpr as model;
 ghost use Rattle.c_expression_parser.specs.Answers.{Answers};
 
 use crate::cursor::{ParseStop, Tokens};
-use crate::scope::Scope;
+use crate::scope::TypedefScope;
 use crate::shapes::{may_be_nameless, takes_name};
 use c_grammar::{Declarator, DeclaredName, Naming};
 use c_tree::{Name, Seq};
@@ -56,7 +56,7 @@ pub fn no_name(alloc: Global, tokens: &Tokens<'_>, naming: Naming) -> Result<Dec
 /// Reads the name of a declarator where a name stands, which may be none of its own.
 pub fn core_name(
     alloc: Global,
-    scope: &Scope,
+    scope: &TypedefScope,
     tokens: &mut Tokens<'_>,
     naming: Naming,
 ) -> Result<Declarator, ParseStop>

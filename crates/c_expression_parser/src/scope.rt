@@ -13,14 +13,14 @@ use std::marker::Model;
 
 /// The names that `typedef` has made so far, which contracts see as a list with the newest first.
 #[derive(Drop)]
-pub struct Scope {
+pub struct TypedefScope {
     /// With the oldest first.
     list: Vec<Name>,
     /// The same names, in which one is found at once.
     index: HashSet<Vec<u8>>,
 }
 
-impl Model for Scope {
+impl Model for TypedefScope {
     ghost use Rattle.std.specs.Prelude.{List, ℕ, reverse};
     ghost use Rattle.c_expression_parser.specs.model.Indexes.{IsIndex};
 
@@ -31,12 +31,12 @@ impl Model for Scope {
     ghost invariant = { λ s. IsIndex s.index s.list.items };
 }
 
-impl Scope {
+impl TypedefScope {
     /// The scope with no name of a type.
-    pub fn new(alloc: Global) -> Scope
+    pub fn new(alloc: Global) -> TypedefScope
         ensures { result ≡ [] }
     {
-        Scope {
+        TypedefScope {
             list: Vec::new(alloc),
             index: HashSet::new(alloc),
         }

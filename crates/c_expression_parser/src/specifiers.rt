@@ -7,7 +7,7 @@ ghost use Rattle.c_grammar.specs.Types as types;
 ghost use Rattle.c_expression_parser.specs.Answers.{Answers};
 
 use crate::cursor::{ParseStop, Tokens};
-use crate::scope::Scope;
+use crate::scope::TypedefScope;
 use crate::specifier_type::SpecifierType;
 use c_grammar::{Specifier, SpecifierStart, WordSet, specifier_of};
 use std::alloc::Global;
@@ -59,7 +59,7 @@ pub fn read_words(tokens: &mut Tokens<'_>) -> SpecifierStart
 #[tactic(auto, unfolding(c_grammar::specs::ParseExpr::named_type))]
 pub fn named_type(
     alloc: Global,
-    scope: &Scope,
+    scope: &TypedefScope,
     tokens: &mut Tokens<'_>,
 ) -> Result<SpecifierType, ParseStop>
     ensures answers { Answers (model.named_type scope.now tokens.old) result tokens.new }
@@ -99,7 +99,7 @@ fn tag(alloc: Global, tokens: &mut Tokens<'_>, word: Specifier) -> Result<Specif
 #[tactic(auto, using(crate::proofs::Deeper::plain_words))]
 pub fn plain(
     alloc: Global,
-    scope: &Scope,
+    scope: &TypedefScope,
     tokens: &mut Tokens<'_>,
 ) -> Result<SpecifierType, ParseStop>
     ensures answers { Answers (model.plain scope.now tokens.old) result tokens.new }

@@ -7,7 +7,7 @@ use Rattle.c_declared_types.specs.declared.declared.DeclaredType.{DeclaredType}
 use Rattle.c_typed_tree.specs.declared.types.CType.{CType}
 use Rattle.c_type_rules.specs.declared.typed.TypedExpression.{TypedExpression}
 use Rattle.c_checks.specs.declared.env.Env.{Env}
-use Rattle.c_checks.specs.declared.meanings.Meaning.{Meaning}
+use Rattle.c_checks.specs.declared.meanings.NameMeaning.{NameMeaning}
 use Rattle.c_checks.specs.declared.notes.Notes.{Notes}
 use Rattle.c_checks.specs.Checks.{and_then, both, walk, Finds}
 use Rattle.c_checks.specs.Scopes.{enter, leave, meaning_of}
@@ -18,7 +18,7 @@ use Rattle.c_expressions.specs.Expressions.{judge, derive}
 use Rattle.c_expressions.specs.model.Parts.{one_parameter}
 use Rattle.c_expressions.proofs.Rows.{judge-Call, judge-Comma, derive-Takes}
 
-pub call_done : {E : Type 0} (v : e.Expr) (at : ℕ) (name : List ℕ) (xs ys : List e.Expr) (s : State) (env : Env) (n n' : Notes) (found : Option (List TypedExpression)) (m : Option Meaning) (r : Result (Option TypedExpression) E)
+pub call_done : {E : Type 0} (v : e.Expr) (at : ℕ) (name : List ℕ) (xs ys : List e.Expr) (s : State) (env : Env) (n n' : Notes) (found : Option (List TypedExpression)) (m : Option NameMeaning) (r : Result (Option TypedExpression) E)
     → v ≡ e.Call at name xs → ys ≡ xs → walk judge ys (Some []) s ≡ (found, (env, n)) → m ≡ meaning_of env name → Finds (call_by_meaning at m found n) r n' → Finds (judge v s) r (env, n')
 call_done v at name xs ys s env n n' found m (Ok a) form list parts meaning given =
     ap (λ w. judge w s) form ∙ (judge-Call at name xs s

@@ -14,7 +14,7 @@ use Rattle.c_type_faults.specs.Faults.{sorted, head}
 use Rattle.c_type_rules.specs.Values.{int}
 use Rattle.c_checks.specs.declared.env.Env.{Env}
 use Rattle.c_checks.specs.declared.notes.Notes.{Notes}
-use Rattle.c_checks.specs.declared.meanings.Meaning.TheVariants as m
+use Rattle.c_checks.specs.declared.meanings.NameMeaning.TheVariants as m
 use Rattle.c_checks.specs.Notes.{with_fault}
 use Rattle.c_checks.specs.Scopes.{with_name}
 use Rattle.c_tag_bodies.specs.Bodies.{Scope}

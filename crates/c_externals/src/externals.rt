@@ -16,7 +16,7 @@ use c_declared_types::DeclaredType;
 use c_definitions::Definitions;
 use c_judgements::leaves::copy_types;
 use c_judgements::types::type_named;
-use c_scopes::Table;
+use c_scopes::NameTable;
 use c_statements::{FunctionType, function};
 use c_tag_bodies::declared_type;
 use c_tree::{Declaration, External, FunctionEnd, Init, Stmt, Storage, TypeNode};
@@ -368,7 +368,7 @@ fn external<'a>(
     alloc: Global,
     definitions: &Definitions<'_>,
     unit: &mut UnitSoFar<'a>,
-    defined: &mut Table<'a, ()>,
+    defined: &mut NameTable<'a, ()>,
     env: &mut Env<'a>,
     notes: &mut Notes<'a>,
     item: &'a External,
@@ -430,7 +430,7 @@ pub(crate) fn externals<'a>(
     alloc: Global,
     definitions: &Definitions<'_>,
     unit: &mut UnitSoFar<'a>,
-    defined: &mut Table<'a, ()>,
+    defined: &mut NameTable<'a, ()>,
     env: &mut Env<'a>,
     notes: &mut Notes<'a>,
     list: &'a [External],

@@ -7,12 +7,12 @@ ghost use Rattle.c_externals.specs.Units as spec;
 use crate::externals::externals;
 use crate::undefined::note_undefined;
 use c_arithmetic::integer_type::IntegerType;
-use c_checks::{Env, Meaning, Notes, declare, note};
+use c_checks::{Env, NameMeaning, Notes, declare, note};
 use c_declarations::UnitSoFar;
 use c_declared_types::DeclaredType;
 use c_definitions::{Definitions, find_definitions, object_count};
 use c_judgements::leaves::copy_types;
-use c_scopes::Table;
+use c_scopes::NameTable;
 use c_tree::{Seq, TranslationUnit};
 use c_type_faults::{Fault, Kind, least};
 use c_type_rules::types::integer_type;
@@ -31,7 +31,7 @@ fn no_notes<'a>(alloc: Global, first_text: u32) -> Notes<'a>
         uses: Seq::new(alloc),
         structs: Seq::new(alloc),
         members: Seq::new(alloc),
-        tags: Table::new(alloc),
+        tags: NameTable::new(alloc),
         untagged: None,
     }
 }
@@ -40,7 +40,7 @@ fn no_names<'a>(alloc: Global) -> UnitNames<'a>
     ensures { result ≡ spec.no_names }
 {
     UnitNames {
-        declared: Table::new(alloc),
+        declared: NameTable::new(alloc),
         functions: 0,
         objects: 0,
         undefined: 0,
@@ -60,7 +60,7 @@ fn declare_builtin<'a>(
     ensures { OnOk result ((names.new, env.new)
         ≡ spec.builtin_declared name.now builtin of parameters (names.old, env.old)) }
 {
-    let meaning = Meaning::Function {
+    let meaning = NameMeaning::Function {
         callee: Callee::Builtin(builtin),
         result: of.copy(alloc)?,
         parameters: copy_types(alloc, parameters.as_slice())?,
@@ -171,7 +171,7 @@ fn end_unit(
 pub struct UnitState<'a> {
     pub so_far: UnitSoFar<'a>,
     /// The tags that have a body.
-    pub defined: Table<'a, ()>,
+    pub defined: NameTable<'a, ()>,
     pub env: Env<'a>,
     pub notes: Notes<'a>,
 }
@@ -183,7 +183,7 @@ fn start<'a>(alloc: Global, definitions: &Definitions<'_>) -> Result<UnitState<'
     let first_text = object_count(definitions)?;
     let mut names = no_names(alloc);
     let mut env = Env {
-        names: Table::new(alloc),
+        names: NameTable::new(alloc),
         outside: 0,
     };
     declare_builtins(alloc, &mut names, &mut env)?;
@@ -194,7 +194,7 @@ fn start<'a>(alloc: Global, definitions: &Definitions<'_>) -> Result<UnitState<'
             functions: Seq::new(alloc),
             has_main: false,
         },
-        defined: Table::new(alloc),
+        defined: NameTable::new(alloc),
         env,
         notes: no_notes(alloc, first_text),
     })

@@ -2,8 +2,8 @@
 -- (C99 6.2.4, 6.4.5). Each lies at the next multiple of 8 behind the one before it.
 use Rattle.std.specs.Prelude.{ℕ, ◌+◌, true, false, List, [], ◌∷◌, ◌++◌, map, length, Option, Some, None, slice_get, slice_set}
 use Rattle.data_object.specs.declared.DataObject.{DataObject}
-use Rattle.data_object.specs.declared.Cell.{Cell}
-use Rattle.data_object.specs.declared.Cell.TheVariants.{Byte}
+use Rattle.data_object.specs.declared.DataCell.{DataCell}
+use Rattle.data_object.specs.declared.DataCell.TheVariants.{Byte}
 use Rattle.data_object.specs.Layout.{place_after}
 use Rattle.c_typed_tree.specs.declared.types.StructDef.{StructDef}
 use Rattle.c_typed_tree.specs.Layout.{size_of, align_of}
@@ -13,14 +13,14 @@ use Rattle.c_globals.specs.declared.globals.GlobalsSoFar.{GlobalsSoFar}
 
 -- ---- what an initialiser gives to an object that is there
 
-abbrev pub with_cells : List Cell → UnitObject → UnitObject
+abbrev pub with_cells : List DataCell → UnitObject → UnitObject
 with_cells cells o = record { name = o.name; ty = o.ty; cells = cells }
 
-abbrev pub replace_cells : (number : ℕ) → List Cell → Option UnitObject → List UnitObject → List UnitObject
+abbrev pub replace_cells : (number : ℕ) → List DataCell → Option UnitObject → List UnitObject → List UnitObject
 replace_cells number cells None os = os
 replace_cells number cells (Some o) os = slice_set os number (with_cells cells o)
 
-abbrev pub set_cells : (number : ℕ) → List Cell → List UnitObject → List UnitObject
+abbrev pub set_cells : (number : ℕ) → List DataCell → List UnitObject → List UnitObject
 set_cells number cells os = replace_cells number cells (slice_get os number) os
 
 -- ---- where they lie

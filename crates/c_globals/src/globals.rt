@@ -2,7 +2,7 @@
 
 ghost use Rattle.std.specs.Prelude.{◌≡◌, ◌+◌, ◌++◌, OnOk, IfOk, map};
 ghost use Rattle.data_object.specs.Layout.{place_after, LieFrom};
-ghost use Rattle.data_object.specs.declared.Cell.TheVariants.{Byte};
+ghost use Rattle.data_object.specs.declared.DataCell.TheVariants.{Byte};
 ghost use Rattle.c_typed_tree.specs.Layout as layout;
 ghost use Rattle.c_typed_tree.specs.View.{type_view};
 ghost use Rattle.c_globals.specs.Globals as spec;
@@ -12,7 +12,7 @@ use c_tree::{Name, Seq};
 use c_type_rules::types::is_object;
 use c_typed_tree::layout::{align_of, size_of};
 use c_typed_tree::{CType, StructDef};
-use data_object::{Cell, DataObject, next_place};
+use data_object::{DataCell, DataObject, next_place};
 use std::alloc::{AllocError, Global};
 
 /// Objects that are laid out, and where the last one ends.
@@ -103,12 +103,12 @@ fn add_objects(
     Ok(())
 }
 
-fn text_cells(alloc: Global, text: &[u8]) -> Result<Seq<Cell>, AllocError>
+fn text_cells(alloc: Global, text: &[u8]) -> Result<Seq<DataCell>, AllocError>
     ensures { IfOk result (λ cells. cells ≡ map Byte text.now) }
 {
     let mut cells = Seq::new(alloc);
     for byte in text {
-        cells.push(Cell::Byte(*byte))?;
+        cells.push(DataCell::Byte(*byte))?;
     }
     Ok(cells)
 }

@@ -5,7 +5,7 @@ ghost use Rattle.c_globals.specs.Globals as spec;
 
 use c_tree::{Name, Seq};
 use c_typed_tree::CType;
-use data_object::Cell;
+use data_object::DataCell;
 use std::alloc::Global;
 use std::mem::replace;
 
@@ -15,11 +15,11 @@ pub struct UnitObject {
     pub name: Name,
     pub ty: CType,
     /// Its first cells; all behind them are zero.
-    pub cells: Seq<Cell>,
+    pub cells: Seq<DataCell>,
 }
 
 /// Gives the object with a number its cells, if it is there.
-fn replace_cells(objects: &mut Vec<UnitObject>, number: usize, cells: Seq<Cell>)
+fn replace_cells(objects: &mut Vec<UnitObject>, number: usize, cells: Seq<DataCell>)
     ensures { objects.new.items ≡ spec.replace_cells number cells (slice_get objects.old.items number) objects.old.items }
 {
     match objects.get_mut(number) {
@@ -29,7 +29,7 @@ fn replace_cells(objects: &mut Vec<UnitObject>, number: usize, cells: Seq<Cell>)
 }
 
 /// Gives the object with a number what its initialiser gives, if it is there.
-pub fn set_cells(alloc: Global, objects: &mut Seq<UnitObject>, number: u32, cells: Seq<Cell>)
+pub fn set_cells(alloc: Global, objects: &mut Seq<UnitObject>, number: u32, cells: Seq<DataCell>)
     ensures { objects.new ≡ spec.set_cells number cells objects.old }
 {
     let mut list = Seq::into_vec(replace(objects, Seq::new(alloc)));

@@ -7,7 +7,7 @@ use Rattle.c_tree.specs.declared.types.TypeNode as y
 use Rattle.c_tree.specs.declared.types.Declaration.{Declaration}
 use Rattle.c_tree.specs.declared.types.Constant.{Constant}
 use Rattle.c_tree.specs.declared.statements.Stmt.{Stmt}
-use Rattle.c_tree.specs.declared.statements.Local.{Local}
+use Rattle.c_tree.specs.declared.statements.LocalDeclarator.{LocalDeclarator}
 use Rattle.c_tree.specs.declared.statements.Section.{Section}
 use Rattle.c_tree.specs.declared.statements.Label.{Label}
 use Rattle.c_tree.specs.declared.statements.ForFirst.{ForFirst}
@@ -24,7 +24,7 @@ use Rattle.c_grammar.specs.Tokens.{TypeNames}
 use Rattle.c_grammar.specs.Types.{bare, declaration_of}
 use Rattle.c_grammar.specs.Grammar.{IsPlain}
 use Rattle.c_grammar.specs.Specifiers.{IsDeclared, AreDeclared, IsConstant, AreConstants, IsSpecifier, AreMembers, IsMember}
-use Rattle.c_grammar.specs.Statements.{IsLocal, AreLocals, IsLine, IsOptional, IsFirst, IsLabel, locals_of, IsStmt, AreItems, AreSections, AreStmts}
+use Rattle.c_grammar.specs.Statements.{IsLocalDeclarator, AreLocals, IsLine, IsOptional, IsFirst, IsLabel, locals_of, IsStmt, AreItems, AreSections, AreStmts}
 use Rattle.c_grammar.specs.Units.{IsInit, AreInits, is_function, external_of, IsObject, AreObjects, AreTypedefs, IsExternal, AreExternals, Reads}
 use Rattle.c_grammar.proofs.ReadPlain.{plain_begins}
 use Rattle.c_grammar.proofs.Few.{shapes_round_count, plain_count, expr_few, whole_few, declarator_few}
@@ -84,15 +84,15 @@ mutual
 
 -- ---- statements
 
-local_few : (s : TypeNames) {ty : TypeNode} {a : List Lexeme} {v : Local} → type_count ty ≡ 1 → IsLocal s ty a v → node_count (local_node v) ≤ 2 * length a
-local_few s l (IsLocal.plain a d h) = let c = declared_few s h in omega arith
-local_few s l (IsLocal.with_init a t b d v h kind g) = let c = declared_few s h in let o = expr_few s g in omega (arith, length-append a (t ∷ b))
+local_few : (s : TypeNames) {ty : TypeNode} {a : List Lexeme} {v : LocalDeclarator} → type_count ty ≡ 1 → IsLocalDeclarator s ty a v → node_count (local_node v) ≤ 2 * length a
+local_few s l (IsLocalDeclarator.plain a d h) = let c = declared_few s h in omega arith
+local_few s l (IsLocalDeclarator.with_init a t b d v h kind g) = let c = declared_few s h in let o = expr_few s g in omega (arith, length-append a (t ∷ b))
 
-locals_few : (s : TypeNames) {ty : TypeNode} {a : List Lexeme} {vs : List Local} → type_count ty ≡ 1 → AreLocals s ty a vs → list_count local_node vs ≤ 2 * length a
+locals_few : (s : TypeNames) {ty : TypeNode} {a : List Lexeme} {vs : List LocalDeclarator} → type_count ty ≡ 1 → AreLocals s ty a vs → list_count local_node vs ≤ 2 * length a
 locals_few s l (AreLocals.one a v h) = let c = local_few s l h in omega arith
 locals_few s l (AreLocals.more a t b v vs h kind g) = let c = local_few s l h in let o = locals_few s l g in omega (arith, length-append a (t ∷ b))
 
-declarations_few : (s : TypeNames) {a : List Lexeme} {vs : List Local} → IsLine s a vs → list_count local_node vs ≤ 2 * length a
+declarations_few : (s : TypeNames) {a : List Lexeme} {vs : List LocalDeclarator} → IsLine s a vs → list_count local_node vs ≤ 2 * length a
 declarations_few s (IsLine.line a b t ty vs h g kind) = let c = locals_few s (plain_count s h) g in omega (arith, length-append a (b ++ t ∷ []), length-append b (t ∷ []))
 
 optional_few : (s : TypeNames) {a : List Lexeme} {v : Option Expr} → IsOptional s a v → (nodes_count (optional v) ≤ 2 * length a) × (node_count (part_of_for v) ≤ 2 * length a + 1)
@@ -108,9 +108,9 @@ label_few : (s : TypeNames) {a : List Lexeme} {v : Label} → IsLabel s a v → 
 label_few s (IsLabel.«case» t a r v kind h rk) = let c = expr_few s h in omega (arith, length-append a (r ∷ []))
 label_few s (IsLabel.«default» t r kind rk) = omega arith
 
-locals_count : (vs : List Local) → list_count stmt_node (locals_of vs) ≡ list_count local_node vs
+locals_count : (vs : List LocalDeclarator) → list_count stmt_node (locals_of vs) ≡ list_count local_node vs
 locals_count [] = refl
-locals_count (v ∷ vs) = let e = n.count-Local v in let o = locals_count vs in omega arith
+locals_count (v ∷ vs) = let e = n.count-LocalDeclarator v in let o = locals_count vs in omega arith
 
 section_count : (v : Section) → node_count (section_node v) ≡ suc (nodes_count (label_nodes v.label) + list_count stmt_node v.statements)
 section_count v = ap suc (nodes_count-append_nodes (label_nodes v.label) (nodes_of stmt_node v.statements))

@@ -9,7 +9,7 @@ use Rattle.c_tree.specs.declared.types.TypeNode.{TypeNode}
 use Rattle.c_tree.specs.declared.types.Declaration.{Declaration}
 use Rattle.c_tree.specs.declared.statements.Stmt.{Stmt}
 use Rattle.c_tree.specs.declared.statements.Stmt as st
-use Rattle.c_tree.specs.declared.statements.Local.{Local}
+use Rattle.c_tree.specs.declared.statements.LocalDeclarator.{LocalDeclarator}
 use Rattle.c_tree.specs.declared.statements.Section.{Section}
 use Rattle.c_tree.specs.declared.declarations.Storage.{Storage}
 use Rattle.c_tree.specs.declared.declarations.Storage.TheVariants as sg
@@ -55,7 +55,7 @@ module _ (t : Lexeme) (left right : List Lexeme) where
     unfolding line
     line_local k b c u v h bn cm = bind_local t left right _ _ _ _ (plain_local t left right s n m k b c u v h bn cm) (λ ty k u v g. bind_local t left right _ _ _ _ (list_local t left right n m (local s n ty) (local s m ty) (local_local ty) k b c u v g bn cm) (λ xs k u v g. end_local t left right p.Semicolon _ _ g refl))
 
-    line_some : (u u' : List Lexeme) (vs : List Local) → line s n u ≡ Ok (vs, u') → length u' < length u
+    line_some : (u u' : List Lexeme) (vs : List LocalDeclarator) → line s n u ≡ Ok (vs, u') → length u' < length u
     line_some u u' vs e = let z = (line_says s n u).by (vs, u') e in let o = (line_begins s z.2).0 in let q = ap length z.1 in omega (arith, length-append z.0 u')
 
     optional_local : (mark : Punct) → Alike t left right n m (optional s n mark) (optional s m mark)

@@ -12,7 +12,7 @@ use Rattle.c_grammar.specs.declared.word_set.WordSet.{WordSet}
 use Rattle.c_grammar.specs.Classes.{specifier_of, begins_type_by}
 use Rattle.c_grammar.specs.WordSets.{no_words, basic_of}
 use Rattle.c_grammar.specs.Tokens.{TypeNames, is_type, is_word, kind_at, begins_type}
-use Rattle.c_grammar.specs.Grammar.{AreConsts, AreWords, IsPlain}
+use Rattle.c_grammar.specs.Grammar.{AreConsts, AreTypeWords, IsPlain}
 use Rattle.c_grammar.specs.Parser.{Parser, consts}
 use Rattle.c_grammar.specs.ParseExpr.{start_of, word_or_end, words_from, named_type, tag_type, tag, specifier_behind, specifier_from, plain}
 use Rattle.c_grammar.proofs.Outcomes.{no_true, fails, word_is, is_word_of}
@@ -53,15 +53,15 @@ module _ (s : TypeNames) (on : Specifier → ℕ → Parser TypeNode) where
   words_end j x b c.Struct r h e = no_true h
   words_end j x b c.Enum r h e = no_true h
 
-  pub words_read : {x z : WordSet} {a : List Lexeme} → AreWords x a z → (j : ℕ) (r : List Lexeme) (b : BasicType) → length (a ++ r) ≤ j → Stops r → basic_of z ≡ Some b → specifier_from s on j x (a ++ r) ≡ Ok (y.Basic b, r)
+  pub words_read : {x z : WordSet} {a : List Lexeme} → AreTypeWords x a z → (j : ℕ) (r : List Lexeme) (b : BasicType) → length (a ++ r) ≤ j → Stops r → basic_of z ≡ Some b → specifier_from s on j x (a ++ r) ≡ Ok (y.Basic b, r)
   unfolding specifier_from words_from
-  words_read AreWords.none zero r b le h e = ap (λ o. specifier_behind s on (start_of o c.Nothing) r) e
-  words_read (AreWords.none {x = x}) (suc j) r b le h e = words_end j x b (specifier_of (kind_at r)) r h e
-  words_read (AreWords.const t a z kind g) zero r b le h e = absurd (omega arith)
-  words_read (AreWords.const {x = x} t a z kind g) (suc j) r b le h e =
+  words_read AreTypeWords.none zero r b le h e = ap (λ o. specifier_behind s on (start_of o c.Nothing) r) e
+  words_read (AreTypeWords.none {x = x}) (suc j) r b le h e = words_end j x b (specifier_of (kind_at r)) r h e
+  words_read (AreTypeWords.const t a z kind g) zero r b le h e = absurd (omega arith)
+  words_read (AreTypeWords.const {x = x} t a z kind g) (suc j) r b le h e =
       ap (λ kd. turn s on j x (specifier_of kd) (t ∷ a ++ r)) kind ∙ words_read g j r b (omega arith) h e
-  words_read (AreWords.more t word a v z class fits g) zero r b le h e = absurd (omega arith)
-  words_read (AreWords.more {x = x} t word a v z class fits g) (suc j) r b le h e =
+  words_read (AreTypeWords.more t word a v z class fits g) zero r b le h e = absurd (omega arith)
+  words_read (AreTypeWords.more {x = x} t word a v z class fits g) (suc j) r b le h e =
       ap (λ cl. turn s on j x cl (t ∷ a ++ r)) class ∙ ap (λ o. behind_words s on (word_or_end o (λ v. words_from j v (a ++ r)) (start_of (basic_of x) (c.Word word), t ∷ a ++ r))) fits ∙ words_read g j r b (omega arith) h e
 
   -- past leading `const`
@@ -114,10 +114,10 @@ BeginsType s a = (0 < length a) × ((r : List Lexeme) → begins_type s (a ++ r)
 class_begins : (s : TypeNames) (t : Lexeme) (class : Specifier) (a : List Lexeme) → specifier_of t.kind ≡ class → ((listed : Bool) → begins_type_by class listed ≡ true) → BeginsType s (t ∷ a)
 class_begins s t class a e h = (omega arith, λ r. ap (λ cl. begins_type_by cl (is_type s t)) e ∙ h (is_type s t))
 
-words_begin : (s : TypeNames) {x z : WordSet} {a : List Lexeme} {b : BasicType} → AreWords x a z → basic_of x ≡ None → basic_of z ≡ Some b → BeginsType s a
-words_begin s AreWords.none n e = no_some (sym n ∙ e)
-words_begin s (AreWords.const t a z kind g) n e = class_begins s t c.Const a (ap specifier_of kind) (λ listed. refl)
-words_begin s (AreWords.more t word a v z class fits g) n e = class_begins s t (c.Word word) a class (λ listed. refl)
+words_begin : (s : TypeNames) {x z : WordSet} {a : List Lexeme} {b : BasicType} → AreTypeWords x a z → basic_of x ≡ None → basic_of z ≡ Some b → BeginsType s a
+words_begin s AreTypeWords.none n e = no_some (sym n ∙ e)
+words_begin s (AreTypeWords.const t a z kind g) n e = class_begins s t c.Const a (ap specifier_of kind) (λ listed. refl)
+words_begin s (AreTypeWords.more t word a v z class fits g) n e = class_begins s t (c.Word word) a class (λ listed. refl)
 
 pub consts_begin : (s : TypeNames) {a : List Lexeme} → AreConsts a → (t : Lexeme) (b : List Lexeme) → BeginsType s (t ∷ b) → BeginsType s (a ++ t ∷ b)
 consts_begin s AreConsts.none t b h = h

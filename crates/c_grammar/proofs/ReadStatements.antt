@@ -11,7 +11,7 @@ use Rattle.c_lexer.specs.Pieces.{Lexeme}
 use Rattle.c_tree.specs.declared.expressions.Expr.{Expr}
 use Rattle.c_tree.specs.declared.types.TypeNode.{TypeNode}
 use Rattle.c_tree.specs.declared.statements.Stmt.{Stmt}
-use Rattle.c_tree.specs.declared.statements.Local.{Local}
+use Rattle.c_tree.specs.declared.statements.LocalDeclarator.{LocalDeclarator}
 use Rattle.c_tree.specs.declared.statements.Label.{Label}
 use Rattle.c_tree.specs.declared.statements.ForFirst.{ForFirst}
 use Rattle.c_grammar.specs.declared.classes.Head.TheVariants as h
@@ -20,7 +20,7 @@ use Rattle.c_grammar.specs.Levels.{binding_level}
 use Rattle.c_grammar.specs.Tokens.{TypeNames, is_mark, is_word, kind_at, is_type_at, begins_type}
 use Rattle.c_grammar.specs.model.Begins.{begins, begins_by}
 use Rattle.c_grammar.specs.Grammar.{IsWhole}
-use Rattle.c_grammar.specs.Statements.{IsLocal, AreLocals, IsLine, IsOptional, IsFirst, IsLabel, IsStmt}
+use Rattle.c_grammar.specs.Statements.{IsLocalDeclarator, AreLocals, IsLine, IsOptional, IsFirst, IsLabel, IsStmt}
 use Rattle.c_grammar.specs.ParseExpr.{list_from}
 use Rattle.c_grammar.specs.ParseStatements.{expression, local, line, optional, condition, first_value, first, case_label, label, ends_section}
 use Rattle.c_grammar.proofs.Outcomes.{no_true, fails, is_mark_of, word_is, is_word_of, expect_at, expect_word_at}
@@ -132,10 +132,10 @@ module _ (s : TypeNames) where
       rw (o, e) refl
 
   -- a declarator in a block, up to a comma or a semicolon
-  local_read : {ty : TypeNode} {a : List Lexeme} {v : Local} → IsLocal s ty a v → (n : ℕ) (r : List Lexeme) → length (a ++ r) < n → EndsKind (kind_at r) → binding_level (infix_at r) < 2 → is_mark p.Assign (kind_at r) ≡ false → local s n ty (a ++ r) ≡ Ok (v, r)
+  local_read : {ty : TypeNode} {a : List Lexeme} {v : LocalDeclarator} → IsLocalDeclarator s ty a v → (n : ℕ) (r : List Lexeme) → length (a ++ r) < n → EndsKind (kind_at r) → binding_level (infix_at r) < 2 → is_mark p.Assign (kind_at r) ≡ false → local s n ty (a ++ r) ≡ Ok (v, r)
   unfolding local
-  local_read (IsLocal.plain a d h) n r len ends under other = let g = declared_read s h n r len ends in rw (g, other) refl
-  local_read (IsLocal.with_init a t b d v h kind g) n r len ends under other =
+  local_read (IsLocalDeclarator.plain a d h) n r len ends under other = let g = declared_read s h n r len ends in rw (g, other) refl
+  local_read (IsLocalDeclarator.with_init a t b d v h kind g) n r len ends under other =
       let q = append_assoc a (t ∷ b) r in
       let all : length (a ++ (t ∷ b ++ r)) < n = subst (λ z. length z < n) q len in
       let o = declared_read s h n (t ∷ b ++ r) all (mark_ends t.kind p.Assign kind (record { no_star = refl; no_paren = refl; no_bracket = refl; no_name = refl; stops = refl })) in
@@ -143,15 +143,15 @@ module _ (s : TypeNames) where
       let e = read_expr s (omega arith) g n r (omega (arith, length-append a (t ∷ b ++ r))) under in
       rw (q, o, c, e) refl
 
-  local_fronts : {ty : TypeNode} {a : List Lexeme} {v : Local} → IsLocal s ty a v → Fronts a
-  local_fronts (IsLocal.plain a d h) = declared_fronts s refl h
-  local_fronts (IsLocal.with_init a t b d v h kind g) = wider a (t ∷ b) (declared_fronts s refl h)
+  local_fronts : {ty : TypeNode} {a : List Lexeme} {v : LocalDeclarator} → IsLocalDeclarator s ty a v → Fronts a
+  local_fronts (IsLocalDeclarator.plain a d h) = declared_fronts s refl h
+  local_fronts (IsLocalDeclarator.with_init a t b d v h kind g) = wider a (t ∷ b) (declared_fronts s refl h)
 
-  locals_fronts : {ty : TypeNode} {a : List Lexeme} {vs : List Local} → AreLocals s ty a vs → Fronts a
+  locals_fronts : {ty : TypeNode} {a : List Lexeme} {vs : List LocalDeclarator} → AreLocals s ty a vs → Fronts a
   locals_fronts (AreLocals.one a v h) = local_fronts h
   locals_fronts (AreLocals.more a t b v vs h kind g) = wider a (t ∷ b) (local_fronts h)
 
-  locals_read : {ty : TypeNode} {a : List Lexeme} {vs : List Local} → AreLocals s ty a vs → (n j : ℕ) (found : List Local) (t : Lexeme) (r : List Lexeme) → t.kind ≡ k.Mark p.Semicolon → length (a ++ t ∷ r) < n → length (a ++ t ∷ r) ≤ j
+  locals_read : {ty : TypeNode} {a : List Lexeme} {vs : List LocalDeclarator} → AreLocals s ty a vs → (n j : ℕ) (found : List LocalDeclarator) (t : Lexeme) (r : List Lexeme) → t.kind ≡ k.Mark p.Semicolon → length (a ++ t ∷ r) < n → length (a ++ t ∷ r) ≤ j
       → list_from (local s n ty) j found (a ++ t ∷ r) ≡ Ok (found ++ vs, t ∷ r)
   locals_read {ty} (AreLocals.one a v h) n j found t r kind len le =
       list_last (local s n ty) j found (a ++ t ∷ r) (t ∷ r) v (omega (arith, length-append a (t ∷ r))) (local_read h n (t ∷ r) len (semicolon_ends t.kind kind) (weak t r p.Semicolon 2 kind (omega arith)) (ap (is_mark p.Assign) kind)) (ap (is_mark p.Comma) kind)
@@ -165,7 +165,7 @@ module _ (s : TypeNames) where
       ap (list_from (local s n ty) (suc j) found) q ∙ list_more (local s n ty) j found (a ++ (o ∷ b ++ t ∷ r)) o (b ++ t ∷ r) v e ok ∙ locals_read g n j (found ++ v ∷ []) t r kind (omega arith) (omega arith)
       ∙ ap (λ z. Ok (z, t ∷ r)) (append_assoc found (v ∷ []) vs)
 
-  pub line_read : {a : List Lexeme} {vs : List Local} → IsLine s a vs → (n : ℕ) (r : List Lexeme) → length (a ++ r) ≤ n → line s n (a ++ r) ≡ Ok (vs, r)
+  pub line_read : {a : List Lexeme} {vs : List LocalDeclarator} → IsLine s a vs → (n : ℕ) (r : List Lexeme) → length (a ++ r) ≤ n → line s n (a ++ r) ≡ Ok (vs, r)
   unfolding line
   line_read (IsLine.line a b t ty vs h g kind) n r len =
       let q : (a ++ (b ++ t ∷ [])) ++ r ≡ a ++ (b ++ (t ∷ r)) = append_assoc a (b ++ t ∷ []) r ∙ ap (λ z. a ++ z) (append_assoc b (t ∷ []) r) in
@@ -177,7 +177,7 @@ module _ (s : TypeNames) where
       let o = expect_at t r p.Semicolon kind in
       rw (q, e, v, o) refl
 
-  pub line_begins : {a : List Lexeme} {vs : List Local} → IsLine s a vs → BeginsType s a
+  pub line_begins : {a : List Lexeme} {vs : List LocalDeclarator} → IsLine s a vs → BeginsType s a
   line_begins (IsLine.line a b t ty vs h g kind) = let o = plain_begins s h in (omega (arith, length-append a (b ++ t ∷ []), o.0), λ r. ap (begins_type s) (append_assoc a (b ++ t ∷ []) r) ∙ o.1 ((b ++ t ∷ []) ++ r))
 
   pub first_read : {a : List Lexeme} {v : ForFirst} → IsFirst s a v → (n : ℕ) (r : List Lexeme) → length (a ++ r) ≤ n → first s n (a ++ r) ≡ Ok (v, r)

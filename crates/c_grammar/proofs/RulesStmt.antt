@@ -8,7 +8,7 @@ use Rattle.c_lexer.specs.Pieces.{Lexeme}
 use Rattle.c_tree.specs.declared.expressions.Expr.{Expr}
 use Rattle.c_tree.specs.declared.statements.Stmt.{Stmt}
 use Rattle.c_tree.specs.declared.statements.Stmt as u
-use Rattle.c_tree.specs.declared.statements.Local.{Local}
+use Rattle.c_tree.specs.declared.statements.LocalDeclarator.{LocalDeclarator}
 use Rattle.c_tree.specs.declared.statements.Section.{Section}
 use Rattle.c_tree.specs.declared.statements.Label.{Label}
 use Rattle.c_tree.specs.declared.statements.ForFirst.{ForFirst}
@@ -180,7 +180,7 @@ module _ (s : TypeNames) where
   nothing_rule d n zero found r y rk ld ln lj = absurd (omega arith)
   nothing_rule d n (suc j) found r y rk ld ln lj = let o = is_mark_of p.RightBrace r.kind rk in rw o (ap (λ z. Ok (z, y)) (sym (append-nil found)))
 
-  line_rule : (a b : List Lexeme) (vs : List Local) (ys : List Stmt) → IsLine s a vs → ReadsItems s b ys → ReadsItems s (a ++ b) (locals_of vs ++ ys)
+  line_rule : (a b : List Lexeme) (vs : List LocalDeclarator) (ys : List Stmt) → IsLine s a vs → ReadsItems s b ys → ReadsItems s (a ++ b) (locals_of vs ++ ys)
   unfolding items_from
   line_rule a b vs ys h g d n zero found r y rk ld ln lj = absurd (omega (arith, length-append (a ++ b) (r ∷ y)))
   line_rule a b vs ys h g d n (suc j) found r y rk ld ln lj =

@@ -20,7 +20,7 @@ use Rattle.c_grammar.specs.declared.word_set.WordSet.{WordSet}
 use Rattle.c_grammar.specs.Classes.{specifier_of}
 use Rattle.c_grammar.specs.WordSets.{no_words, takes_int, with_word, basic_by, basic_of}
 use Rattle.c_grammar.specs.Tokens.{TypeNames, is_type, is_name}
-use Rattle.c_grammar.specs.Grammar.{AreConsts, AreWords, IsPlain}
+use Rattle.c_grammar.specs.Grammar.{AreConsts, AreTypeWords, IsPlain}
 use Rattle.c_grammar.specs.Parser.{Parser, consts}
 use Rattle.c_grammar.specs.declared.shapes.SpecifierStart.TheVariants as ss
 use Rattle.c_grammar.specs.ParseExpr.{start_of, word_or_end, words_from, named_type, tag_type, tag, specifier_behind, specifier_from, plain}
@@ -128,16 +128,16 @@ int_fits None None false e = refl
 
 -- What is read from a set on: more words, or with none yet what `U` says of the token in their place.
 pub data From (U : Lexeme → List Lexeme → TypeNode → Type 0) : WordSet → List Lexeme → TypeNode → Type 0 where
-  words : {x : WordSet} (a : List Lexeme) (z : WordSet) (y' : BasicType) → AreWords x a z → basic_of z ≡ Some y' → From U x a (y.Basic y')
+  words : {x : WordSet} (a : List Lexeme) (z : WordSet) (y' : BasicType) → AreTypeWords x a z → basic_of z ≡ Some y' → From U x a (y.Basic y')
   tail : {x : WordSet} (a : List Lexeme) (u : Lexeme) (r : List Lexeme) (ty : TypeNode) → basic_of x ≡ None → AreConsts a → U u r ty → From U x (a ++ u ∷ r) ty
 
 module _ (s : TypeNames) (on : Specifier → ℕ → Parser TypeNode) (U : Lexeme → List Lexeme → TypeNode → Type 0) where
   past_const : {x : WordSet} {a : List Lexeme} {ty : TypeNode} (u : Lexeme) → u.kind ≡ k.Word w.Const → From U x a ty → From U x (u ∷ a) ty
-  past_const u e (From.words a z v h g) = From.words (u ∷ a) z v (AreWords.const u a z e h) g
+  past_const u e (From.words a z v h g) = From.words (u ∷ a) z v (AreTypeWords.const u a z e h) g
   past_const u e (From.tail a v r ty n c h) = From.tail (u ∷ a) v r ty n (AreConsts.more u a e c) h
 
   past_word : {v : WordSet} {a : List Lexeme} {ty : TypeNode} (x : WordSet) (u : Lexeme) (word : TypeWord) → specifier_of u.kind ≡ c.Word word → with_word x word ≡ Some v → From U v a ty → From U x (u ∷ a) ty
-  past_word x u word e f (From.words {x = v} a z q h g) = From.words (u ∷ a) z q (AreWords.more u word a v z e f h) g
+  past_word x u word e f (From.words {x = v} a z q h g) = From.words (u ∷ a) z q (AreTypeWords.more u word a v z e f h) g
   past_word x u word e f (From.tail {x = v} a q r ty n c h) = let o = word_spells x word v f in no_some (sym n ∙ o.1)
 
   -- the word `int`
@@ -147,7 +147,7 @@ module _ (s : TypeNames) (on : Specifier → ℕ → Parser TypeNode) (U : Lexem
       let spells = int_spells x.base x.sign in
       let fits : with_word x t.Int ≡ Some z = ap (λ b. cond b (Some z) None) (int_fits x.base x.sign x.int n) in
       let int = lexeme_of (k.Word w.Int) in
-      (int ∷ [], y.Basic spells.0, From.words (int ∷ []) z spells.0 (AreWords.more int t.Int [] z z refl fits AreWords.none) spells.1)
+      (int ∷ [], y.Basic spells.0, From.words (int ∷ []) z spells.0 (AreTypeWords.more int t.Int [] z z refl fits AreTypeWords.none) spells.1)
 
   start_says : (o : Option BasicType) (class : Specifier) (ts : List Lexeme) (T : List Lexeme → TypeNode → Type 0) → ((q : BasicType) → o ≡ Some q → T [] (y.Basic q))
       → (o ≡ None → Says (specifier_behind s on (ss.Other class) ts) ts T) → Says (specifier_behind s on (start_of o class) ts) ts T
@@ -157,7 +157,7 @@ module _ (s : TypeNames) (on : Specifier → ℕ → Parser TypeNode) (U : Lexem
   -- the words before this token are all
   stop_says : (x : WordSet) (class : Specifier) (ts : List Lexeme) → (basic_of x ≡ None → Says (specifier_behind s on (ss.Other class) ts) ts (λ a ty. From U x a ty))
       → Says (specifier_behind s on (start_of (basic_of x) class) ts) ts (λ a ty. From U x a ty)
-  stop_says x class ts g = start_says (basic_of x) class ts _ (λ q e. From.words [] x q AreWords.none e) g
+  stop_says x class ts g = start_says (basic_of x) class ts _ (λ q e. From.words [] x q AreTypeWords.none e) g
 
   word_says : (o : Option WordSet) (j : ℕ) (x : WordSet) (u : Lexeme) (r : List Lexeme) (word : TypeWord) → specifier_of u.kind ≡ c.Word word → with_word x word ≡ o
       → ((v : WordSet) → Says (specifier_from s on j v r) r (λ a ty. From U v a ty))

@@ -11,7 +11,7 @@ use Rattle.c_tree.specs.declared.types.TypeNode.{TypeNode}
 use Rattle.c_tree.specs.declared.types.Declaration.{Declaration}
 use Rattle.c_tree.specs.declared.statements.Stmt.{Stmt}
 use Rattle.c_tree.specs.declared.statements.Stmt as u
-use Rattle.c_tree.specs.declared.statements.Local.{Local}
+use Rattle.c_tree.specs.declared.statements.LocalDeclarator.{LocalDeclarator}
 use Rattle.c_tree.specs.declared.statements.Section.{Section}
 use Rattle.c_tree.specs.declared.statements.Label.TheVariants as l
 use Rattle.c_tree.specs.declared.statements.ForFirst.TheVariants as f
@@ -20,7 +20,7 @@ use Rattle.c_grammar.specs.Classes.{head_of}
 use Rattle.c_grammar.specs.Tokens.{TypeNames, place, is_mark, is_word, kind_at, begins_type}
 use Rattle.c_grammar.specs.Grammar.{IsPlain, IsExpr, IsWhole}
 use Rattle.c_grammar.specs.Specifiers.{IsDeclared}
-use Rattle.c_grammar.specs.Statements.{IsLocal, AreLocals, IsLine, IsOptional, IsFirst, IsLabel, locals_of, IsStmt, AreItems, AreSections, AreStmts}
+use Rattle.c_grammar.specs.Statements.{IsLocalDeclarator, AreLocals, IsLine, IsOptional, IsFirst, IsLabel, locals_of, IsStmt, AreItems, AreSections, AreStmts}
 use Rattle.c_grammar.specs.Parser.{Parser, and_then, ◌>>=◌, pure, expect, expect_word}
 use Rattle.c_grammar.specs.ParseExpr.{plain, list_from, expr, declarator}
 use Rattle.c_grammar.specs.ParseSpecifiers.{declaration}
@@ -38,21 +38,21 @@ module _ (s : TypeNames) (n : ℕ) where
   expression_says : (ts : List Lexeme) → Says (expression s n ts) ts (λ a v. IsWhole s a v)
   expression_says ts = whole_says s (expr s n) (declarator s n) (sound_expr s n) (sound_declarator s n) ts
 
-  local_by_says : (ty : TypeNode) (a : List Lexeme) (d : Declaration) (r : List Lexeme) → IsDeclared s nm.Required ty a d → Says (local_by s n d r) r (λ b v. IsLocal s ty (a ++ b) v)
-  local_by_says ty a d [] h = done_says (record { declaration = d; init = None }) a [] (λ a v. IsLocal s ty a v) (IsLocal.plain a d h)
+  local_by_says : (ty : TypeNode) (a : List Lexeme) (d : Declaration) (r : List Lexeme) → IsDeclared s nm.Required ty a d → Says (local_by s n d r) r (λ b v. IsLocalDeclarator s ty (a ++ b) v)
+  local_by_says ty a d [] h = done_says (record { declaration = d; init = None }) a [] (λ a v. IsLocalDeclarator s ty a v) (IsLocalDeclarator.plain a d h)
   local_by_says ty a d (t ∷ r) h = if_says (is_mark p.Assign t.kind) _ _ (t ∷ r) _
       (λ yes. token_says _ t r _ (bind_says (expr s n 2 r) _ r (λ b v. IsExpr s 2 b v) _ (sound_expr s n 2 r two_wanted) (λ b v z g.
-      done_says (record { declaration = d; init = Some v }) b z (λ b w'. IsLocal s ty (a ++ t ∷ b) w') (IsLocal.with_init a t b d v h (mark_is p.Assign t.kind yes) g))))
-      (λ other. done_says (record { declaration = d; init = None }) a (t ∷ r) (λ a v. IsLocal s ty a v) (IsLocal.plain a d h))
+      done_says (record { declaration = d; init = Some v }) b z (λ b w'. IsLocalDeclarator s ty (a ++ t ∷ b) w') (IsLocalDeclarator.with_init a t b d v h (mark_is p.Assign t.kind yes) g))))
+      (λ other. done_says (record { declaration = d; init = None }) a (t ∷ r) (λ a v. IsLocalDeclarator s ty a v) (IsLocalDeclarator.plain a d h))
 
-  local_says : (ty : TypeNode) (ts : List Lexeme) → Says (local s n ty ts) ts (λ a v. IsLocal s ty a v)
+  local_says : (ty : TypeNode) (ts : List Lexeme) → Says (local s n ty ts) ts (λ a v. IsLocalDeclarator s ty a v)
   unfolding local
   local_says ty ts = bind_says (declaration s n nm.Required ty ts) _ ts (λ a d. IsDeclared s nm.Required ty a d) _ (declaration_says s n nm.Required ty ts refl) (λ a d r h. local_by_says ty a d r h)
 
   pub line_says : (ts : List Lexeme) → Says (line s n ts) ts (λ a vs. IsLine s a vs)
   unfolding line
   line_says ts = bind_says (plain s ts) _ ts (λ a ty. IsPlain s a ty) _ (plain_says s ts) (λ a ty r h.
-      bind_says (list_from (local s n ty) (length r) [] r) _ r _ _ (list_says (local s n ty) (λ a v. IsLocal s ty a v) (λ a vs. AreLocals s ty a vs) (local_says ty) (λ a v g. AreLocals.one a v g) (λ a t b v vs g kind o. AreLocals.more a t b v vs g kind o) (length r) [] r) (λ b vs z q.
+      bind_says (list_from (local s n ty) (length r) [] r) _ r _ _ (list_says (local s n ty) (λ a v. IsLocalDeclarator s ty a v) (λ a vs. AreLocals s ty a vs) (local_says ty) (λ a v g. AreLocals.one a v g) (λ a t b v vs g kind o. AreLocals.more a t b v vs g kind o) (length r) [] r) (λ b vs z q.
       expect_says p.Semicolon _ z _ (λ t r' kind. ok_says vs r' _ (subst (λ w'. IsLine s (a ++ (b ++ t ∷ [])) w') (sym q.1) (IsLine.line a b t ty q.0 h q.2 kind)))))
 
   optional_says : (m : Punct) (ts : List Lexeme) → Says (optional s n m ts) ts (λ a v. IsOptional s a v)
@@ -148,7 +148,7 @@ module _ (s : TypeNames) (n : ℕ) (rec : Parser Stmt) (sound : SoundS s rec) wh
   any_says ts = drop (rec ts) ts (λ a v. IsStmt s 0 a v) (weaker_r (rec ts) ts _ _ (λ a v r h. weaken_stmt s h) (sound ts))
 
   -- an item, and those behind it
-  item_line : (found : List Stmt) (a : List Lexeme) (vs : List Local) (b : List Lexeme) (zs : List Stmt) → IsLine s a vs → (q : (ys : List Stmt) × (zs ≡ (found ++ locals_of vs) ++ ys) × IsClosed s b ys) → (ys : List Stmt) × (zs ≡ found ++ ys) × IsClosed s (a ++ b) ys
+  item_line : (found : List Stmt) (a : List Lexeme) (vs : List LocalDeclarator) (b : List Lexeme) (zs : List Stmt) → IsLine s a vs → (q : (ys : List Stmt) × (zs ≡ (found ++ locals_of vs) ++ ys) × IsClosed s b ys) → (ys : List Stmt) × (zs ≡ found ++ ys) × IsClosed s (a ++ b) ys
   item_line found a vs b zs h q =
       let c = q.2 in
       (locals_of vs ++ q.0, q.1 ∙ append_assoc found (locals_of vs) q.0, record { inner = a ++ c.inner; close = c.close; all_is = ap (λ z. a ++ z) c.all_is ∙ sym (append_assoc a c.inner (c.close ∷ [])); are = AreItems.line a c.inner vs q.0 h c.are; close_is = c.close_is })

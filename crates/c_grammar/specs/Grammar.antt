@@ -37,16 +37,16 @@ pub data AreConsts : List Lexeme → Type 0 where
   more : (t : Lexeme) (a : List Lexeme) → t.kind ≡ k.Word w.Const → AreConsts a → AreConsts (t ∷ a)
 
 -- words of a basic type, with `const` anywhere: they make the second set of the first
-pub data AreWords : WordSet → List Lexeme → WordSet → Type 0 where
-  none : {x : WordSet} → AreWords x [] x
-  const : {x : WordSet} (t : Lexeme) (a : List Lexeme) (z : WordSet) → t.kind ≡ k.Word w.Const → AreWords x a z
-      → AreWords x (t ∷ a) z
+pub data AreTypeWords : WordSet → List Lexeme → WordSet → Type 0 where
+  none : {x : WordSet} → AreTypeWords x [] x
+  const : {x : WordSet} (t : Lexeme) (a : List Lexeme) (z : WordSet) → t.kind ≡ k.Word w.Const → AreTypeWords x a z
+      → AreTypeWords x (t ∷ a) z
   more : {x : WordSet} (t : Lexeme) (word : TypeWord) (a : List Lexeme) (v z : WordSet)
-      → specifier_of t.kind ≡ c.Word word → with_word x word ≡ Some v → AreWords v a z → AreWords x (t ∷ a) z
+      → specifier_of t.kind ≡ c.Word word → with_word x word ≡ Some v → AreTypeWords v a z → AreTypeWords x (t ∷ a) z
 
 -- a specifier without braces
 pub data IsPlain (s : TypeNames) : List Lexeme → TypeNode → Type 0 where
-  words : (a : List Lexeme) (x : WordSet) (b : BasicType) → AreWords no_words a x → basic_of x ≡ Some b
+  words : (a : List Lexeme) (x : WordSet) (b : BasicType) → AreTypeWords no_words a x → basic_of x ≡ Some b
       → IsPlain s a (y.Basic b)
   type_name : (a : List Lexeme) (t : Lexeme) (b : List Lexeme) → AreConsts a → t.kind ≡ k.Name → is_type s t ≡ true
       → AreConsts b → IsPlain s (a ++ t ∷ b) (y.Named t.spelling)

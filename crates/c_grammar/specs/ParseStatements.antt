@@ -9,7 +9,7 @@ use Rattle.c_tree.specs.declared.types.Declaration.{Declaration}
 use Rattle.c_lexer.specs.declared.token.Punct.{Punct}
 use Rattle.c_tree.specs.declared.statements.Stmt.{Stmt}
 use Rattle.c_tree.specs.declared.statements.Stmt as u
-use Rattle.c_tree.specs.declared.statements.Local.{Local}
+use Rattle.c_tree.specs.declared.statements.LocalDeclarator.{LocalDeclarator}
 use Rattle.c_tree.specs.declared.statements.Section.{Section}
 use Rattle.c_tree.specs.declared.statements.Label.{Label}
 use Rattle.c_tree.specs.declared.statements.Label.TheVariants as l
@@ -35,16 +35,16 @@ module _ (s : TypeNames) (n : ℕ) where
   abbrev pub expression : Parser Expr
   expression = whole s (expr s n) (declarator s n)
 
-  abbrev pub local_by : Declaration → Parser Local
+  abbrev pub local_by : Declaration → Parser LocalDeclarator
   local_by d ts =
       if is_mark p.Assign (kind_at ts) then and_then (expr s n levels.assignment (behind ts))
       (λ x. pure (record { declaration = d; init = Some x }))
       else Ok (record { declaration = d; init = None }, ts)
 
-  unfoldable pub local : TypeNode → Parser Local
+  unfoldable pub local : TypeNode → Parser LocalDeclarator
   local ty ts = and_then (declaration s n nm.Required ty ts) local_by
 
-  unfoldable pub line : Parser (List Local)
+  unfoldable pub line : Parser (List LocalDeclarator)
   line ts =
       and_then (plain s ts) (λ ty r. and_then (list_from (local ty) (length r) [] r)
       (λ xs. expect p.Semicolon >>= λ _. pure xs))

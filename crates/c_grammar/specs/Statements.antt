@@ -9,7 +9,7 @@ use Rattle.c_tree.specs.declared.types.TypeNode.{TypeNode}
 use Rattle.c_tree.specs.declared.types.Declaration.{Declaration}
 use Rattle.c_tree.specs.declared.statements.Stmt.{Stmt}
 use Rattle.c_tree.specs.declared.statements.Stmt as u
-use Rattle.c_tree.specs.declared.statements.Local.{Local}
+use Rattle.c_tree.specs.declared.statements.LocalDeclarator.{LocalDeclarator}
 use Rattle.c_tree.specs.declared.statements.Section.{Section}
 use Rattle.c_tree.specs.declared.statements.Label.{Label}
 use Rattle.c_tree.specs.declared.statements.Label.TheVariants as l
@@ -22,21 +22,21 @@ use Rattle.c_grammar.specs.Grammar.{IsPlain, IsExpr, IsWhole}
 use Rattle.c_grammar.specs.Specifiers.{IsDeclared}
 
 -- a declarator in a block, and its initialiser
-pub data IsLocal (s : TypeNames) (ty : TypeNode) : List Lexeme → Local → Type 0 where
+pub data IsLocalDeclarator (s : TypeNames) (ty : TypeNode) : List Lexeme → LocalDeclarator → Type 0 where
   plain : (a : List Lexeme) (d : Declaration) → IsDeclared s nm.Required ty a d
-      → IsLocal s ty a (record { declaration = d; init = None })
+      → IsLocalDeclarator s ty a (record { declaration = d; init = None })
   with_init : (a : List Lexeme) (t : Lexeme) (b : List Lexeme) (d : Declaration) (x : Expr)
       → IsDeclared s nm.Required ty a d → t.kind ≡ k.Mark p.Assign → IsExpr s levels.assignment b x
-      → IsLocal s ty (a ++ t ∷ b) (record { declaration = d; init = Some x })
+      → IsLocalDeclarator s ty (a ++ t ∷ b) (record { declaration = d; init = Some x })
 
-pub data AreLocals (s : TypeNames) (ty : TypeNode) : List Lexeme → List Local → Type 0 where
-  one : (a : List Lexeme) (x : Local) → IsLocal s ty a x → AreLocals s ty a (x ∷ [])
-  more : (a : List Lexeme) (t : Lexeme) (b : List Lexeme) (x : Local) (xs : List Local) → IsLocal s ty a x
+pub data AreLocals (s : TypeNames) (ty : TypeNode) : List Lexeme → List LocalDeclarator → Type 0 where
+  one : (a : List Lexeme) (x : LocalDeclarator) → IsLocalDeclarator s ty a x → AreLocals s ty a (x ∷ [])
+  more : (a : List Lexeme) (t : Lexeme) (b : List Lexeme) (x : LocalDeclarator) (xs : List LocalDeclarator) → IsLocalDeclarator s ty a x
       → t.kind ≡ k.Mark p.Comma → AreLocals s ty b xs → AreLocals s ty (a ++ t ∷ b) (x ∷ xs)
 
 -- a line of declarations
-pub data IsLine (s : TypeNames) : List Lexeme → List Local → Type 0 where
-  line : (a b : List Lexeme) (t : Lexeme) (ty : TypeNode) (xs : List Local) → IsPlain s a ty → AreLocals s ty b xs
+pub data IsLine (s : TypeNames) : List Lexeme → List LocalDeclarator → Type 0 where
+  line : (a b : List Lexeme) (t : Lexeme) (ty : TypeNode) (xs : List LocalDeclarator) → IsPlain s a ty → AreLocals s ty b xs
       → t.kind ≡ k.Mark p.Semicolon → IsLine s (a ++ (b ++ t ∷ [])) xs
 
 -- an expression that may be missing
@@ -49,7 +49,7 @@ pub data IsFirst (s : TypeNames) : List Lexeme → ForFirst → Type 0 where
   nothing : (t : Lexeme) → t.kind ≡ k.Mark p.Semicolon → IsFirst s (t ∷ []) f.Nothing
   value : (a : List Lexeme) (t : Lexeme) (x : Expr) → IsWhole s a x → t.kind ≡ k.Mark p.Semicolon
       → IsFirst s (a ++ t ∷ []) (f.Value x)
-  locals : (a : List Lexeme) (xs : List Local) → IsLine s a xs → IsFirst s a (f.Locals xs)
+  locals : (a : List Lexeme) (xs : List LocalDeclarator) → IsLine s a xs → IsFirst s a (f.Locals xs)
 
 pub data IsLabel (s : TypeNames) : List Lexeme → Label → Type 0 where
   «case» : (t : Lexeme) (a : List Lexeme) (r : Lexeme) (x : Expr) → t.kind ≡ k.Word w.Case
@@ -57,7 +57,7 @@ pub data IsLabel (s : TypeNames) : List Lexeme → Label → Type 0 where
   «default» : (t r : Lexeme) → t.kind ≡ k.Word w.Default → r.kind ≡ k.Mark p.Colon
       → IsLabel s (t ∷ r ∷ []) (l.Default t.at)
 
-abbrev pub locals_of : List Local → List Stmt
+abbrev pub locals_of : List LocalDeclarator → List Stmt
 locals_of [] = []
 locals_of (x ∷ xs) = u.Local x ∷ locals_of xs
 
@@ -106,7 +106,7 @@ mutual
   -- what stands in a block
   pub data AreItems (s : TypeNames) : List Lexeme → List Stmt → Type 0 where
     nothing : AreItems s [] []
-    line : (a b : List Lexeme) (xs : List Local) (ys : List Stmt) → IsLine s a xs → AreItems s b ys
+    line : (a b : List Lexeme) (xs : List LocalDeclarator) (ys : List Stmt) → IsLine s a xs → AreItems s b ys
         → AreItems s (a ++ b) (locals_of xs ++ ys)
     statement : (a b : List Lexeme) (x : Stmt) (ys : List Stmt) → IsStmt s 0 a x → AreItems s b ys
         → AreItems s (a ++ b) (x ∷ ys)

@@ -8,8 +8,8 @@ use Rattle.c_arithmetic.specs.IntegerTypes.{bytes}
 use Rattle.c_arithmetic.specs.Operations.{conversion}
 use Rattle.c_constant_rules.specs.declared.addresses.Address.{Address}
 use Rattle.data_object.specs.declared.DataObject.{DataObject}
-use Rattle.data_object.specs.declared.Cell.{Cell}
-use Rattle.data_object.specs.declared.Cell.TheVariants.{Byte, AddressPart}
+use Rattle.data_object.specs.declared.DataCell.{DataCell}
+use Rattle.data_object.specs.declared.DataCell.TheVariants.{Byte, AddressPart}
 use Rattle.data_object.specs.Globals.{Reaches, StandsWhole}
 use Rattle.c_initial_values.specs.declared.values.InitialValue.{InitialValue}
 use Rattle.c_initial_values.specs.declared.values.InitialValue.TheVariants as v
@@ -47,28 +47,28 @@ stands (z ∷ xs) ys (suc at) x e = one_further z xs ys at x (stands xs ys at x 
 
 module _ (globals : List DataObject) where
   -- cells stand as they did where others follow
-  still_lawful : (xs ys : List Cell) (at : ℕ) (x : Cell) → IsCellIn globals xs at x → IsCellIn globals (xs ++ ys) at x
+  still_lawful : (xs ys : List DataCell) (at : ℕ) (x : DataCell) → IsCellIn globals xs at x → IsCellIn globals (xs ++ ys) at x
   still_lawful xs ys at (Byte b) h = h
   still_lawful xs ys at (AddressPart g plus part) h = (λ k less. get_front xs ys (at / 8 * 8 + k) (AddressPart g plus k) (h.0 k less), h.1)
 
-  abbrev HoldBytes : List Cell → Type 0
+  abbrev HoldBytes : List DataCell → Type 0
   HoldBytes [] = Unit {0}
   HoldBytes (Byte b ∷ xs) = (b < 256) × HoldBytes xs
   HoldBytes (AddressPart g plus part ∷ xs) = ⊥
 
-  byte_at : (xs all : List Cell) (at k : ℕ) (x : Cell) → HoldBytes xs → slice_get xs k ≡ Some x → IsCellIn globals all at x
+  byte_at : (xs all : List DataCell) (at k : ℕ) (x : DataCell) → HoldBytes xs → slice_get xs k ≡ Some x → IsCellIn globals all at x
   byte_at [] all at k x h e = absurd (none-some x e)
   byte_at (Byte b ∷ xs) all at zero x h e = subst (IsCellIn globals all at) (same_Some (Byte b) x e) h.0
   byte_at (Byte b ∷ xs) all at (suc k) x h e = byte_at xs all at k x h.1 e
   byte_at (AddressPart g plus part ∷ xs) all at k x h e = absurd h
 
-  more_bytes : (end : ℕ) (xs ys : List Cell) → AreCells globals end xs → HoldBytes ys → AreCells globals (end + length ys) (xs ++ ys)
+  more_bytes : (end : ℕ) (xs ys : List DataCell) → AreCells globals end xs → HoldBytes ys → AreCells globals (end + length ys) (xs ++ ys)
   more_bytes end xs ys h g = record {
     within = let w : length xs ≤ end = h.within in omega (arith, length-append xs ys);
     lawful = λ at x e. of at x (stands xs ys at x e);
   }
     where
-      of : (at : ℕ) (x : Cell) → Stands xs ys at x → IsCellIn globals (xs ++ ys) at x
+      of : (at : ℕ) (x : DataCell) → Stands xs ys at x → IsCellIn globals (xs ++ ys) at x
       of at x (before e) = still_lawful xs ys at x (h.lawful at x e)
       of at x (behind k e f) = byte_at ys (xs ++ ys) at k x g f
 
@@ -87,11 +87,11 @@ module _ (globals : List DataObject) where
 
   -- ---- as far as a place
 
-  record Reached (place : ℕ) (cells : List Cell) : Type 0 where
+  record Reached (place : ℕ) (cells : List DataCell) : Type 0 where
     cells_lawful : AreCells globals place (reach place cells)
     far : length (reach place cells) ≡ place
 
-  reached : (place : ℕ) (cells : List Cell) → AreCells globals place cells → Reached place cells
+  reached : (place : ℕ) (cells : List DataCell) → AreCells globals place cells → Reached place cells
   reached place cells h =
       let gap = place - length cells in
       let w : length cells ≤ place = h.within in
@@ -103,10 +103,10 @@ module _ (globals : List DataObject) where
         far = far;
       }
 
-  shorter : (end later : ℕ) (cells : List Cell) → end ≤ later → AreCells globals end cells → AreCells globals later cells
+  shorter : (end later : ℕ) (cells : List DataCell) → end ≤ later → AreCells globals end cells → AreCells globals later cells
   shorter end later cells less h = record { within = let w : length cells ≤ end = h.within in omega arith; lawful = h.lawful }
 
-  bytes_put : (place size : ℕ) (piece cells : List Cell) → HoldBytes piece → length piece ≤ size → AreCells globals place cells → AreCells globals (place + size) (put place piece cells)
+  bytes_put : (place size : ℕ) (piece cells : List DataCell) → HoldBytes piece → length piece ≤ size → AreCells globals place cells → AreCells globals (place + size) (put place piece cells)
   bytes_put place size piece cells g less h =
       shorter (place + length piece) (place + size) (put place piece cells) (omega arith) (more_bytes place (reach place cells) piece (reached place cells h).cells_lawful g)
 
@@ -124,7 +124,7 @@ module _ (globals : List DataObject) where
   part_of a (suc (suc (suc (suc (suc (suc (suc (suc n)))))))) h = let no : ⊥ = omega arith in absurd no
 
   -- there are eight parts
-  few_parts : (a : Address) (part : ℕ) (x : Cell) → slice_get (address_cells a) part ≡ Some x → part < 8
+  few_parts : (a : Address) (part : ℕ) (x : DataCell) → slice_get (address_cells a) part ≡ Some x → part < 8
   few_parts a part x e = slice_get_within (address_cells a) part x e
 
   reaches : (a : Address) (o : Option DataObject) → HasSize a.size o → a.plus ≤ a.size → Reaches a.plus o
@@ -132,7 +132,7 @@ module _ (globals : List DataObject) where
   reaches a (Some o) h less = omega (arith, h)
 
   -- eight cells at a multiple of 8
-  address_more : (q : ℕ) (xs : List Cell) (a : Address) → length xs ≡ q * 8 → IsAddressIn globals a → AreCells globals (q * 8) xs → AreCells globals (q * 8 + 8) (xs ++ address_cells a)
+  address_more : (q : ℕ) (xs : List DataCell) (a : Address) → length xs ≡ q * 8 → IsAddressIn globals a → AreCells globals (q * 8) xs → AreCells globals (q * 8 + 8) (xs ++ address_cells a)
   address_more q xs a far there h = record {
     within = omega (arith, far, length-append xs (address_cells a));
     lawful = λ at x e. of at x (stands xs (address_cells a) at x e);
@@ -147,13 +147,13 @@ module _ (globals : List DataObject) where
       one : (at k : ℕ) → at ≡ length xs + k → k < 8 → IsCellIn globals (xs ++ address_cells a) at (AddressPart a.global a.plus k)
       one at k e less = (subst (λ n. StandsWhole (xs ++ address_cells a) n a.global a.plus) (sym (at_part at k e less)) whole, reaches a (slice_get globals a.global) there.there there.within)
 
-      of : (at : ℕ) (x : Cell) → Stands xs (address_cells a) at x → IsCellIn globals (xs ++ address_cells a) at x
+      of : (at : ℕ) (x : DataCell) → Stands xs (address_cells a) at x → IsCellIn globals (xs ++ address_cells a) at x
       of at x (before e) = still_lawful xs (address_cells a) at x (h.lawful at x e)
       of at x (behind k e f) =
           let less = few_parts a k x f in
           subst (IsCellIn globals (xs ++ address_cells a) at) (same_Some (AddressPart a.global a.plus k) x (sym (part_of a k less) ∙ f)) (one at k e less)
 
-  address_put : (place : ℕ) (a : Address) (cells : List Cell) → IsMultiple 8 place → IsAddressIn globals a → AreCells globals place cells → AreCells globals (place + 8) (put place (address_cells a) cells)
+  address_put : (place : ℕ) (a : Address) (cells : List DataCell) → IsMultiple 8 place → IsAddressIn globals a → AreCells globals place cells → AreCells globals (place + 8) (put place (address_cells a) cells)
   address_put place a cells m there h =
       let r = reached place cells h in
       subst (λ n. AreCells globals (n + 8) (put place (address_cells a) cells)) (sym m.same)
@@ -163,7 +163,7 @@ module _ (globals : List DataObject) where
   word_length zero word = refl
   word_length (suc count) word = ap suc (word_length count (word / 256))
 
-  put_value : (to : Option IntegerType) (value : InitialValue) (place : ℕ) (cells : List Cell) → IsValueIn globals value → IsPlaceFor to place → AreCells globals place cells
+  put_value : (to : Option IntegerType) (value : InitialValue) (place : ℕ) (cells : List DataCell) → IsValueIn globals value → IsPlaceFor to place → AreCells globals place cells
       → AreCells globals (place + value_size to) (put place (value_cells to value) cells)
   put_value None (v.Word t word) place cells there m h = bytes_put place 8 (zero_cells 8) cells (zeros_bytes 8) (omega arith) h
   put_value None v.Null place cells there m h = bytes_put place 8 (zero_cells 8) cells (zeros_bytes 8) (omega arith) h
@@ -178,10 +178,10 @@ module _ (globals : List DataObject) where
   text_length (suc room) [] = omega arith
   text_length (suc room) (b ∷ text) = omega (arith, text_length room text)
 
-pub value_put : (globals : List DataObject) (to : Option IntegerType) (value : InitialValue) (place : ℕ) (cells : List Cell) → IsValueIn globals value → IsPlaceFor to place → AreCells globals place cells
+pub value_put : (globals : List DataObject) (to : Option IntegerType) (value : InitialValue) (place : ℕ) (cells : List DataCell) → IsValueIn globals value → IsPlaceFor to place → AreCells globals place cells
     → AreCells globals (place + value_size to) (put place (value_cells to value) cells)
 value_put globals to value place cells there m h = put_value globals to value place cells there m h
 
-pub text_put : (globals : List DataObject) (room : ℕ) (text : List ℕ) (place : ℕ) (cells : List Cell) → AreBytes text → AreCells globals place cells
+pub text_put : (globals : List DataObject) (room : ℕ) (text : List ℕ) (place : ℕ) (cells : List DataCell) → AreBytes text → AreCells globals place cells
     → AreCells globals (place + room) (put place (text_cells room text) cells)
 text_put globals room text place cells all h = bytes_put globals place room (text_cells room text) cells (text_bytes globals room text all) (text_length globals room text) h

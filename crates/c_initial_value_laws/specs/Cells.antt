@@ -2,8 +2,8 @@
 use Rattle.std.specs.Prelude.{◌≡◌, ℕ, ◌*◌, ◌/◌, ◌<◌, ◌≤◌, List, [], ◌∷◌, length, slice_get, Option, Some, None}
 use Rattle.c_constant_rules.specs.declared.addresses.Address.{Address}
 use Rattle.data_object.specs.declared.DataObject.{DataObject}
-use Rattle.data_object.specs.declared.Cell.{Cell}
-use Rattle.data_object.specs.declared.Cell.TheVariants.{Byte, AddressPart}
+use Rattle.data_object.specs.declared.DataCell.{DataCell}
+use Rattle.data_object.specs.declared.DataCell.TheVariants.{Byte, AddressPart}
 use Rattle.data_object.specs.Globals.{Reaches, StandsWhole}
 use Rattle.c_initial_values.specs.declared.values.InitialValue.{InitialValue}
 use Rattle.c_initial_values.specs.declared.values.InitialValue.TheVariants as v
@@ -28,15 +28,15 @@ IsValueIn globals (v.Address a) = IsAddressIn globals a
 -- ---- cells
 
 -- as `IsLawfulCell` of `data_object` asks of the cells of an object that may be written
-abbrev pub IsCellIn : List DataObject → List Cell → (at : ℕ) → Cell → Type 0
+abbrev pub IsCellIn : List DataObject → List DataCell → (at : ℕ) → DataCell → Type 0
 IsCellIn globals cells at (Byte b) = b < 256
 IsCellIn globals cells at (AddressPart global plus part) =
     StandsWhole cells (at / 8 * 8) global plus × Reaches plus (slice_get globals global)
 
 -- lawful cells that go no further than a place
-pub record AreCells (globals : List DataObject) (end : ℕ) (cells : List Cell) : Type 0 where
+pub record AreCells (globals : List DataObject) (end : ℕ) (cells : List DataCell) : Type 0 where
   pub within : length cells ≤ end
-  pub lawful : (at : ℕ) (x : Cell) → slice_get cells at ≡ Some x → IsCellIn globals cells at x
+  pub lawful : (at : ℕ) (x : DataCell) → slice_get cells at ≡ Some x → IsCellIn globals cells at x
 
 -- each of these numbers is a byte
 abbrev pub AreBytes : List ℕ → Type 0

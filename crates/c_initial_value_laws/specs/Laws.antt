@@ -8,7 +8,7 @@ use Rattle.c_typed_tree.specs.Typing.{Context, is_typed}
 use Rattle.c_type_rules.specs.declared.typed.TypedExpression.{TypedExpression}
 use Rattle.c_constant_rules.specs.Addresses.{address_constant}
 use Rattle.data_object.specs.declared.DataObject.{DataObject}
-use Rattle.data_object.specs.declared.Cell.{Cell}
+use Rattle.data_object.specs.declared.DataCell.{DataCell}
 use Rattle.c_initial_values.specs.declared.values.InitialValue.{InitialValue}
 use Rattle.c_initial_values.specs.Values.{initial_value}
 use Rattle.c_initial_values.specs.Cells.{value_cells, text_cells, put}
@@ -42,12 +42,12 @@ IsPlaceFor (Some t) place = Unit {0}
 
 abbrev pub ValueIsPut : Type 0
 ValueIsPut =
-    (globals : List DataObject) (to : Option IntegerType) (value : InitialValue) (place : ℕ) (cells : List Cell) →
+    (globals : List DataObject) (to : Option IntegerType) (value : InitialValue) (place : ℕ) (cells : List DataCell) →
     IsValueIn globals value → IsPlaceFor to place → AreCells globals place cells →
     AreCells globals (place + value_size to) (put place (value_cells to value) cells)
 
 abbrev pub TextIsPut : Type 0
 TextIsPut =
-    (globals : List DataObject) (room : ℕ) (text : List ℕ) (place : ℕ) (cells : List Cell) →
+    (globals : List DataObject) (room : ℕ) (text : List ℕ) (place : ℕ) (cells : List DataCell) →
     AreBytes text → AreCells globals place cells →
     AreCells globals (place + room) (put place (text_cells room text) cells)

@@ -7,25 +7,25 @@ use Rattle.c_arithmetic.specs.Operations.{conversion}
 use Rattle.c_constant_rules.specs.declared.addresses.Address.{Address}
 use Rattle.c_initial_values.specs.declared.values.InitialValue.{InitialValue}
 use Rattle.c_initial_values.specs.declared.values.InitialValue.TheVariants as v
-use Rattle.data_object.specs.declared.Cell.{Cell}
-use Rattle.data_object.specs.declared.Cell.TheVariants.{Byte, AddressPart}
+use Rattle.data_object.specs.declared.DataCell.{DataCell}
+use Rattle.data_object.specs.declared.DataCell.TheVariants.{Byte, AddressPart}
 
-abbrev pub zero_cells : (count : ℕ) → List Cell
+abbrev pub zero_cells : (count : ℕ) → List DataCell
 zero_cells count = replicate count (Byte 0)
 
 -- the bytes of a word, the least first
-abbrev pub word_cells : (count word : ℕ) → List Cell
+abbrev pub word_cells : (count word : ℕ) → List DataCell
 word_cells zero word = []
 word_cells (suc count) word = Byte (word % 256) ∷ word_cells count (word / 256)
 
-abbrev pub address_cells : Address → List Cell
+abbrev pub address_cells : Address → List DataCell
 address_cells a =
     AddressPart a.global a.plus 0 ∷ AddressPart a.global a.plus 1 ∷ AddressPart a.global a.plus 2
     ∷ AddressPart a.global a.plus 3 ∷ AddressPart a.global a.plus 4 ∷ AddressPart a.global a.plus 5
     ∷ AddressPart a.global a.plus 6 ∷ AddressPart a.global a.plus 7 ∷ []
 
 -- a value in an integer type, to which it is converted, or in a pointer type
-abbrev pub value_cells : Option IntegerType → InitialValue → List Cell
+abbrev pub value_cells : Option IntegerType → InitialValue → List DataCell
 value_cells None (v.Word t word) = zero_cells 8
 value_cells None v.Null = zero_cells 8
 value_cells None (v.Address a) = address_cells a
@@ -34,13 +34,13 @@ value_cells (Some to) v.Null = []
 value_cells (Some to) (v.Address a) = []
 
 -- the bytes of a text, as many as there is room for
-abbrev pub text_cells : (room : ℕ) → (text : List ℕ) → List Cell
+abbrev pub text_cells : (room : ℕ) → (text : List ℕ) → List DataCell
 text_cells room text = map Byte (take room text)
 
 -- cells that go as far as a place at least
-abbrev pub reach : (place : ℕ) → List Cell → List Cell
+abbrev pub reach : (place : ℕ) → List DataCell → List DataCell
 reach place cells = cells ++ zero_cells (place - length cells)
 
 -- what stands at a place, behind the cells before it
-abbrev pub put : (place : ℕ) → (piece cells : List Cell) → List Cell
+abbrev pub put : (place : ℕ) → (piece cells : List DataCell) → List DataCell
 put place piece cells = reach place cells ++ piece

@@ -8,22 +8,22 @@ use Rattle.c_typed_tree.specs.Types.{PlainType, Int}
 use Rattle.c_typed_tree.specs.Layout.{size_of, struct_member}
 use Rattle.c_typed_tree.specs.Typing.{is_array, is_struct}
 use Rattle.c_typed_tree.specs.View.{type_view}
-use Rattle.c_initial_values.specs.declared.parts.Part.{Part}
+use Rattle.c_initial_values.specs.declared.parts.ObjectPart.{ObjectPart}
 
 -- arrays and structs have parts
 abbrev pub is_aggregate : t.CType → Bool
 is_aggregate ty = is_array (type_view ty) || is_struct (type_view ty)
 
-abbrev pub element_at : List StructDef → (element : t.CType) → (length k : ℕ) → Option Part
+abbrev pub element_at : List StructDef → (element : t.CType) → (length k : ℕ) → Option ObjectPart
 element_at ds element length k =
     if nat_lt k length then Some (record { place = size_of ds (type_view element) * k; ty = element }) else None
 
-abbrev pub member_at : Option Member → Option Part
+abbrev pub member_at : Option Member → Option ObjectPart
 member_at None = None
 member_at (Some m) = Some (record { place = m.offset; ty = m.ty })
 
 -- the part with a number, from 0 on; there are no more than the type has
-unfoldable pub part_of : List StructDef → t.CType → (k : ℕ) → Option Part
+unfoldable pub part_of : List StructDef → t.CType → (k : ℕ) → Option ObjectPart
 part_of ds t.Void k = None
 part_of ds (t.Int bytes signed) k = None
 part_of ds (t.Pointer' _ target) k = None

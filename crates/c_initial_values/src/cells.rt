@@ -2,79 +2,79 @@
 
 ghost use Rattle.std.specs.Prelude.{◌≡◌, ◌++◌, OnOk, map, take};
 ghost use Rattle.c_initial_values.specs.Cells as spec;
-ghost use Rattle.data_object.specs.declared.Cell.TheVariants.{Byte};
+ghost use Rattle.data_object.specs.declared.DataCell.TheVariants.{Byte};
 
 use crate::values::InitialValue;
 use c_arithmetic::integer_type::IntegerType;
 use c_constant_rules::addresses::Address;
-use data_object::Cell;
+use data_object::DataCell;
 use std::alloc::AllocError;
 
 /// Lets cells go as far as a place at least.
-fn pad(cells: &mut Vec<Cell>, place: u64) -> Result<(), AllocError>
+fn pad(cells: &mut Vec<DataCell>, place: u64) -> Result<(), AllocError>
     ensures { OnOk result (cells.new.items ≡ spec.reach place cells.old.items) }
 {
     let missing = place.saturating_sub(cells.len() as u64);
     for _zero in 0..missing {
-        cells.push(Cell::Byte(0))?;
+        cells.push(DataCell::Byte(0))?;
     }
     Ok(())
 }
 
 /// Puts the low bytes of a word, the least first.
 #[tactic(auto, using(crate::proofs::Words::word_turn, crate::proofs::Words::word_end))]
-fn put_word(cells: &mut Vec<Cell>, count: u8, word: u64) -> Result<(), AllocError>
+fn put_word(cells: &mut Vec<DataCell>, count: u8, word: u64) -> Result<(), AllocError>
     ensures { OnOk result (cells.new.items ≡ cells.old.items ++ spec.word_cells count word) }
 {
     let mut rest = word;
     for _byte in 0..count {
-        cells.push(Cell::Byte((rest % 256) as u8))?;
+        cells.push(DataCell::Byte((rest % 256) as u8))?;
         rest /= 256;
     }
     Ok(())
 }
 
-fn put_address(cells: &mut Vec<Cell>, address: Address) -> Result<(), AllocError>
+fn put_address(cells: &mut Vec<DataCell>, address: Address) -> Result<(), AllocError>
     ensures { OnOk result (cells.new.items ≡ cells.old.items ++ spec.address_cells address) }
 {
     let Address { global, plus, .. } = address;
     cells.extend_from_slice(&[
-        Cell::AddressPart {
+        DataCell::AddressPart {
             global,
             plus,
             part: 0,
         },
-        Cell::AddressPart {
+        DataCell::AddressPart {
             global,
             plus,
             part: 1,
         },
-        Cell::AddressPart {
+        DataCell::AddressPart {
             global,
             plus,
             part: 2,
         },
-        Cell::AddressPart {
+        DataCell::AddressPart {
             global,
             plus,
             part: 3,
         },
-        Cell::AddressPart {
+        DataCell::AddressPart {
             global,
             plus,
             part: 4,
         },
-        Cell::AddressPart {
+        DataCell::AddressPart {
             global,
             plus,
             part: 5,
         },
-        Cell::AddressPart {
+        DataCell::AddressPart {
             global,
             plus,
             part: 6,
         },
-        Cell::AddressPart {
+        DataCell::AddressPart {
             global,
             plus,
             part: 7,
@@ -82,14 +82,14 @@ fn put_address(cells: &mut Vec<Cell>, address: Address) -> Result<(), AllocError
     ])
 }
 
-fn put_null(cells: &mut Vec<Cell>) -> Result<(), AllocError>
+fn put_null(cells: &mut Vec<DataCell>) -> Result<(), AllocError>
     ensures { OnOk result (cells.new.items ≡ cells.old.items ++ spec.zero_cells 8) }
 {
-    cells.extend_from_slice(&[Cell::Byte(0); 8])
+    cells.extend_from_slice(&[DataCell::Byte(0); 8])
 }
 
 fn put_in(
-    cells: &mut Vec<Cell>,
+    cells: &mut Vec<DataCell>,
     to: Option<IntegerType>,
     value: InitialValue,
 ) -> Result<(), AllocError>
@@ -111,7 +111,7 @@ fn put_in(
 
 /// Puts a value at a place of an object, in the integer type that it is converted to there, or else in a pointer type.
 pub fn put_value(
-    cells: &mut Vec<Cell>,
+    cells: &mut Vec<DataCell>,
     place: u64,
     to: Option<IntegerType>,
     value: InitialValue,
@@ -122,11 +122,11 @@ pub fn put_value(
     put_in(cells, to, value)
 }
 
-fn put_bytes(cells: &mut Vec<Cell>, text: &[u8]) -> Result<(), AllocError>
+fn put_bytes(cells: &mut Vec<DataCell>, text: &[u8]) -> Result<(), AllocError>
     ensures { OnOk result (cells.new.items ≡ cells.old.items ++ map Byte text.now) }
 {
     for byte in text {
-        cells.push(Cell::Byte(*byte))?;
+        cells.push(DataCell::Byte(*byte))?;
     }
     Ok(())
 }
@@ -142,7 +142,12 @@ fn front(room: u64, text: &[u8]) -> &[u8]
 }
 
 /// Puts the bytes of a text at a place of an object, as many as there is room for.
-pub fn put_text(cells: &mut Vec<Cell>, place: u64, room: u64, text: &[u8]) -> Result<(), AllocError>
+pub fn put_text(
+    cells: &mut Vec<DataCell>,
+    place: u64,
+    room: u64,
+    text: &[u8],
+) -> Result<(), AllocError>
     ensures { OnOk result (cells.new.items ≡ spec.put place (spec.text_cells room text.now) cells.old.items) }
 {
     pad(cells, place)?;

@@ -13,7 +13,7 @@ use std::alloc::{AllocError, Global};
 
 /// A part of an object: an element of an array, or a member of a struct.
 #[derive(Drop)]
-pub struct Part {
+pub struct ObjectPart {
     /// Its place in the object, in bytes from the start.
     pub place: u64,
     pub ty: CType,
@@ -55,7 +55,7 @@ fn element_at(
     element: &CType,
     length: u64,
     k: u64,
-) -> Result<Option<Part>, AllocError>
+) -> Result<Option<ObjectPart>, AllocError>
     ensures { IfOk result (λ r. r ≡ spec.element_at structs.now element.now length k) }
 {
     if !(k < length) {
@@ -66,7 +66,7 @@ fn element_at(
         None => Err(AllocError),
         Some(place) => {
             let ty = element.copy(alloc)?;
-            Ok(Some(Part { place, ty }))
+            Ok(Some(ObjectPart { place, ty }))
         }
     }
 }
@@ -76,7 +76,7 @@ fn member_at(
     structs: &[StructDef],
     number: u32,
     k: u64,
-) -> Result<Option<Part>, AllocError>
+) -> Result<Option<ObjectPart>, AllocError>
     ensures { IfOk result (λ r. r ≡ spec.member_at (layout.struct_member (slice_get structs.now number) k)) }
 {
     match structs.get(number as usize) {
@@ -85,7 +85,7 @@ fn member_at(
             None => Ok(None),
             Some(member) => {
                 let ty = member.ty.copy(alloc)?;
-                Ok(Some(Part {
+                Ok(Some(ObjectPart {
                     place: member.offset,
                     ty,
                 }))
@@ -102,7 +102,7 @@ pub fn part_of(
     structs: &[StructDef],
     ty: &CType,
     k: u64,
-) -> Result<Option<Part>, AllocError>
+) -> Result<Option<ObjectPart>, AllocError>
     ensures { IfOk result (λ r. r ≡ spec.part_of structs.now ty.now k) }
 {
     match ty {

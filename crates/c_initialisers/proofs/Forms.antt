@@ -2,13 +2,13 @@
 use Rattle.std.proofs.Common.{◌≡◌, ℕ, List, Option, Bool, true, Result, Ok, Err, length, sym, ap, ◌∙◌}
 use Rattle.c_tree.specs.declared.declarations.Init as i
 use Rattle.c_typed_tree.specs.declared.types.CType.{CType}
-use Rattle.data_object.specs.declared.Cell.{Cell}
+use Rattle.data_object.specs.declared.DataCell.{DataCell}
 use Rattle.c_checks.specs.declared.env.Env.{Env}
 use Rattle.c_checks.specs.declared.notes.Notes.{Notes}
 use Rattle.c_checks.specs.Checks.{pure, and_then, Finds}
 use Rattle.c_judgements.specs.Types.{State}
-use Rattle.c_initialisers.specs.declared.lists.Items.{Items}
-use Rattle.c_initialisers.specs.declared.lists.Items.TheVariants.{Fitting}
+use Rattle.c_initialisers.specs.declared.lists.InitialiserItems.{InitialiserItems}
+use Rattle.c_initialisers.specs.declared.lists.InitialiserItems.TheVariants.{Fitting}
 use Rattle.c_initialisers.specs.Unfit.{judge_init, list_place}
 use Rattle.c_initialisers.specs.Values.{FillingState, beside, with_env}
 use Rattle.c_initialisers.specs.Initialisers.{initialise, list_in, length_given}
@@ -22,7 +22,7 @@ list_judged v at xs ys s u whole r form same parts given =
     ∙ (ap (λ q. and_then q (λ w. pure (list_place at w))) (ap (λ l. judge_inits l true s) (sym same) ∙ parts)
     ∙ ap (λ p. (p, u)) (sym given)))
 
-pub list_done : {E : Type 0} (v : i.Init) (brace : ℕ) (xs ys : List i.Init) (ty : CType) (place : ℕ) (s : FillingState) (cells : List Cell) (env : Env) (n n' : Notes) (found : Items) (r : Result (Option ℕ) E)
+pub list_done : {E : Type 0} (v : i.Init) (brace : ℕ) (xs ys : List i.Init) (ty : CType) (place : ℕ) (s : FillingState) (cells : List DataCell) (env : Env) (n n' : Notes) (found : InitialiserItems) (r : Result (Option ℕ) E)
     → v ≡ i.List brace xs → ys ≡ xs → items_from ys ty place 0 Fitting s ≡ (found, (cells, (env, n))) → Finds (list_in ty brace found n) r n' → Finds (initialise v ty place s) r (cells, (env, n'))
 list_done v brace xs ys ty place s cells env n n' found (Ok a) form same parts given =
     ap (λ w. initialise w ty place s) form ∙ (initialise-List brace xs ty place s

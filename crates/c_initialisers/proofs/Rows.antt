@@ -6,8 +6,8 @@ use Rattle.c_tree.specs.declared.declarations.Init.TheBlock as k
 use Rattle.c_typed_tree.specs.declared.types.CType.{CType}
 use Rattle.c_checks.specs.Checks.{pure, and_then}
 use Rattle.c_judgements.specs.Types.{State}
-use Rattle.c_initialisers.specs.declared.lists.Items.{Items}
-use Rattle.c_initialisers.specs.declared.lists.Items.TheVariants.{Fitting}
+use Rattle.c_initialisers.specs.declared.lists.InitialiserItems.{InitialiserItems}
+use Rattle.c_initialisers.specs.declared.lists.InitialiserItems.TheVariants.{Fitting}
 use Rattle.c_initialisers.specs.Unfit.{judge_init, judge_items, list_place, is_whole_with}
 use Rattle.c_initialisers.specs.Values.{FillingState, beside, with_env}
 use Rattle.c_initialisers.specs.Initialisers.{initialise, item_row, list_in, row_length, length_given}
@@ -22,12 +22,12 @@ judge_items_is m (i.more_of-Init x xs) whole s = judge_items_is _ xs (is_whole_w
 pub judge_items-hidden : (xs : List i.Init) (whole : Bool) (s : State) → judge_items (k.hidden-the_row-Init-0 xs) whole s ≡ judge_inits xs whole s
 judge_items-hidden xs whole s = judge_items_is _ (k.hidden-the_row-Init-0 xs) whole s ∙ ap (λ l. judge_inits l whole s) (k.items_hidden-the_row-Init-0 xs)
 
-item_row_is : (m : Count) (xs : i.Row_of-Init m) (ty : CType) (place n : ℕ) (found : Items) (s : FillingState) → item_row xs ty place n found s ≡ items_from (i.items-the_row-Init m xs) ty place n found s
+item_row_is : (m : Count) (xs : i.Row_of-Init m) (ty : CType) (place n : ℕ) (found : InitialiserItems) (s : FillingState) → item_row xs ty place n found s ≡ items_from (i.items-the_row-Init m xs) ty place n found s
 unfolding initialise
 item_row_is m i.end_of-Init ty place n found s = refl
 item_row_is m (i.more_of-Init x xs) ty place n found s = item_row_is _ xs ty place (n + 1) (one_item x ty place n found s).0 (one_item x ty place n found s).1
 
-pub item_row-hidden : (xs : List i.Init) (ty : CType) (place n : ℕ) (found : Items) (s : FillingState) → item_row (k.hidden-the_row-Init-0 xs) ty place n found s ≡ items_from xs ty place n found s
+pub item_row-hidden : (xs : List i.Init) (ty : CType) (place n : ℕ) (found : InitialiserItems) (s : FillingState) → item_row (k.hidden-the_row-Init-0 xs) ty place n found s ≡ items_from xs ty place n found s
 item_row-hidden xs ty place n found s = item_row_is _ (k.hidden-the_row-Init-0 xs) ty place n found s ∙ ap (λ l. items_from l ty place n found s) (k.items_hidden-the_row-Init-0 xs)
 
 row_length_is : (m : Count) (xs : i.Row_of-Init m) → row_length xs ≡ length (i.items-the_row-Init m xs)

@@ -9,7 +9,7 @@ use Rattle.c_typed_tree.specs.View.{type_view}
 use Rattle.c_type_faults.specs.declared.faults.Kind.TheVariants.{BadInit}
 use Rattle.c_type_rules.specs.declared.typed.TypedExpression.{TypedExpression}
 use Rattle.c_type_rules.specs.Conversions.{decay}
-use Rattle.data_object.specs.declared.Cell.{Cell}
+use Rattle.data_object.specs.declared.DataCell.{DataCell}
 use Rattle.c_initial_values.specs.declared.values.InitialValue.{InitialValue}
 use Rattle.c_initial_values.specs.Values.{initial_value}
 use Rattle.c_initial_values.specs.Cells.{put, value_cells, text_cells}
@@ -24,14 +24,14 @@ use Rattle.c_initialisers.specs.Unfit.{no_place}
 
 -- the cells of an object so far, and what was noted
 abbrev pub Filling : Type 0
-Filling = List Cell × Notes
+Filling = List DataCell × Notes
 
 -- these, with the names in scope
 abbrev pub FillingState : Type 0
-FillingState = List Cell × State
+FillingState = List DataCell × State
 
 -- what is judged beside the cells
-abbrev pub beside : {A S : Type 0} → List Cell → A × S → A × (List Cell × S)
+abbrev pub beside : {A S : Type 0} → List DataCell → A × S → A × (List DataCell × S)
 beside cells x = (x.0, (cells, x.1))
 
 -- what is filled where names stay as they are
@@ -48,13 +48,13 @@ is_taken ty a n = and_then (note_fault (take_value ty a) n) (λ tree. pure (is_s
 
 -- the place of the value, with the cells that it fills
 abbrev pub put_scalar :
-    CType → (place at : ℕ) → Option InitialValue → (is_taken : Bool) → List Cell → Option ℕ × List Cell
+    CType → (place at : ℕ) → Option InitialValue → (is_taken : Bool) → List DataCell → Option ℕ × List DataCell
 put_scalar ty place at None is_taken cells = (None, cells)
 put_scalar ty place at (Some v) false cells = (None, cells)
 put_scalar ty place at (Some v) true cells =
     (Some at, put place (value_cells (integer_of (type_view ty)) v) cells)
 
-abbrev pub with_notes : {A : Type 0} → A × List Cell → Notes → A × Filling
+abbrev pub with_notes : {A : Type 0} → A × List DataCell → Notes → A × Filling
 with_notes r n = (r.0, (r.1, n))
 
 -- a value of which an array is a pointer already

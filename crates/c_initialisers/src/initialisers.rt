@@ -2,14 +2,14 @@
 
 ghost use Rattle.std.specs.Prelude.{◌≡◌, ◌+◌, IfOk};
 ghost use Rattle.c_checks.specs.Checks.{Finds};
-ghost use Rattle.c_initialisers.specs.declared.lists.Items.TheVariants.{Fitting};
+ghost use Rattle.c_initialisers.specs.declared.lists.InitialiserItems.TheVariants.{Fitting};
 ghost use Rattle.c_initial_values.specs.Parts.{is_character};
 ghost use Rattle.c_initialisers.specs.Initialisers as spec;
 ghost use Rattle.c_initialisers.specs.Values.{text_in};
 ghost use Rattle.c_typed_tree.specs.View.{type_view};
 ghost use Rattle.c_initialisers.specs.model.Parts as model;
 
-use crate::lists::{Items, list_in, with_item, with_surplus};
+use crate::lists::{InitialiserItems, list_in, with_item, with_surplus};
 use crate::unfitting::judge_init;
 use crate::values::{single_value, text_in};
 use c_checks::{Env, Notes};
@@ -17,7 +17,7 @@ use c_initial_values::parts::{is_character, part_of};
 use c_judgements::texts::bytes_of;
 use c_tree::{Expr, Init, Seq};
 use c_typed_tree::CType;
-use data_object::Cell;
+use data_object::DataCell;
 use std::alloc::{AllocError, Global};
 
 /// The sum of two places in an object, which has a number of 64 bits.
@@ -36,7 +36,7 @@ fn behind(place: u64, more: u64) -> Result<u64, AllocError>
 fn initialise<'a>(
     alloc: Global,
     init: &'a Init,
-    cells: &mut Vec<Cell>,
+    cells: &mut Vec<DataCell>,
     env: &mut Env<'a>,
     notes: &mut Notes<'a>,
     ty: &CType,
@@ -59,16 +59,16 @@ fn initialise<'a>(
 fn items_in<'a>(
     alloc: Global,
     list: &'a [Init],
-    cells: &mut Vec<Cell>,
+    cells: &mut Vec<DataCell>,
     env: &mut Env<'a>,
     notes: &mut Notes<'a>,
     ty: &CType,
     place: u64,
-) -> Result<Items, AllocError>
+) -> Result<InitialiserItems, AllocError>
     ensures { Finds (model.items_from list.now ty.now place 0 Fitting (cells.old.items, (env.old, notes.old)))
         result (cells.new.items, (env.new, notes.new)) }
 {
-    let mut found = Items::Fitting;
+    let mut found = InitialiserItems::Fitting;
     let mut k = 0;
     for init in list {
         found = one_item(alloc, init, cells, env, notes, ty, place, k, found)?;
@@ -82,14 +82,14 @@ fn items_in<'a>(
 fn one_item<'a>(
     alloc: Global,
     init: &'a Init,
-    cells: &mut Vec<Cell>,
+    cells: &mut Vec<DataCell>,
     env: &mut Env<'a>,
     notes: &mut Notes<'a>,
     ty: &CType,
     place: u64,
     k: u64,
-    found: Items,
-) -> Result<Items, AllocError>
+    found: InitialiserItems,
+) -> Result<InitialiserItems, AllocError>
     ensures { Finds (model.one_item init.now ty.now place k found (cells.old.items, (env.old, notes.old)))
         result (cells.new.items, (env.new, notes.new)) }
 {
@@ -113,7 +113,7 @@ pub fn object_cells<'a>(
     init: &'a Init,
     env: &mut Env<'a>,
     notes: &mut Notes<'a>,
-) -> Result<Option<Seq<Cell>>, AllocError>
+) -> Result<Option<Seq<DataCell>>, AllocError>
     ensures { Finds (spec.object_cells ty.now init.now (env.old, notes.old)) result (env.new, notes.new) }
 {
     let mut cells = Vec::new(alloc);

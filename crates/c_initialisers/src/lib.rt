@@ -10,5 +10,5 @@ mod unfitting;
 mod values;
 
 pub use initialisers::{length_given, object_cells};
-pub use lists::Items;
+pub use lists::InitialiserItems;
 pub use unfitting::{judge_init, unfit};

@@ -13,7 +13,7 @@ use std::alloc::AllocError;
 
 /// What the items of a list are, beside the parts of what they initialise.
 #[derive(Clone, Copy, Debug, PartialEq, Eq)]
-pub enum Items {
+pub enum InitialiserItems {
     /// One has a fault.
     Faulty,
     /// None has a fault, and there is a part for each.
@@ -23,56 +23,64 @@ pub enum Items {
 }
 
 /// One item more that initialises a part, by its place, if it has no fault.
-pub(crate) fn with_item(found: Items, place: Option<u32>) -> Items
+pub(crate) fn with_item(found: InitialiserItems, place: Option<u32>) -> InitialiserItems
     ensures { result ≡ spec.with_item found place }
 {
     match found {
-        Items::Faulty => Items::Faulty,
-        Items::Fitting => match place {
-            None => Items::Faulty,
-            Some(_) => Items::Fitting,
+        InitialiserItems::Faulty => InitialiserItems::Faulty,
+        InitialiserItems::Fitting => match place {
+            None => InitialiserItems::Faulty,
+            Some(_) => InitialiserItems::Fitting,
         },
-        Items::TooMany(first) => match place {
-            None => Items::Faulty,
-            Some(_) => Items::TooMany(first),
+        InitialiserItems::TooMany(first) => match place {
+            None => InitialiserItems::Faulty,
+            Some(_) => InitialiserItems::TooMany(first),
         },
     }
 }
 
 /// One item more, for which there is no part.
-pub(crate) fn with_surplus(found: Items, place: Option<u32>) -> Items
+pub(crate) fn with_surplus(found: InitialiserItems, place: Option<u32>) -> InitialiserItems
     ensures { result ≡ spec.with_surplus found place }
 {
     match found {
-        Items::Faulty => Items::Faulty,
-        Items::Fitting => match place {
-            None => Items::Faulty,
-            Some(at) => Items::TooMany(at),
+        InitialiserItems::Faulty => InitialiserItems::Faulty,
+        InitialiserItems::Fitting => match place {
+            None => InitialiserItems::Faulty,
+            Some(at) => InitialiserItems::TooMany(at),
         },
-        Items::TooMany(first) => match place {
-            None => Items::Faulty,
-            Some(_) => Items::TooMany(first),
+        InitialiserItems::TooMany(first) => match place {
+            None => InitialiserItems::Faulty,
+            Some(_) => InitialiserItems::TooMany(first),
         },
     }
 }
 
-fn list_of(notes: &mut Notes<'_>, brace: u32, found: Items) -> Result<Option<u32>, AllocError>
+fn list_of(
+    notes: &mut Notes<'_>,
+    brace: u32,
+    found: InitialiserItems,
+) -> Result<Option<u32>, AllocError>
     ensures { Finds (spec.list_of brace found notes.old) result notes.new }
 {
     match found {
-        Items::Faulty => Ok(None),
-        Items::Fitting => Ok(Some(brace)),
-        Items::TooMany(first) => no_place(notes, Kind::BadInit, first),
+        InitialiserItems::Faulty => Ok(None),
+        InitialiserItems::Fitting => Ok(Some(brace)),
+        InitialiserItems::TooMany(first) => no_place(notes, Kind::BadInit, first),
     }
 }
 
-fn scalar_list(notes: &mut Notes<'_>, brace: u32, found: Items) -> Result<Option<u32>, AllocError>
+fn scalar_list(
+    notes: &mut Notes<'_>,
+    brace: u32,
+    found: InitialiserItems,
+) -> Result<Option<u32>, AllocError>
     ensures { Finds (spec.scalar_list brace found notes.old) result notes.new }
 {
     match found {
-        Items::Faulty => Ok(None),
-        Items::Fitting => no_place(notes, Kind::BadInit, brace),
-        Items::TooMany(_) => no_place(notes, Kind::BadInit, brace),
+        InitialiserItems::Faulty => Ok(None),
+        InitialiserItems::Fitting => no_place(notes, Kind::BadInit, brace),
+        InitialiserItems::TooMany(_) => no_place(notes, Kind::BadInit, brace),
     }
 }
 
@@ -81,7 +89,7 @@ pub(crate) fn list_in(
     notes: &mut Notes<'_>,
     ty: &CType,
     brace: u32,
-    found: Items,
+    found: InitialiserItems,
 ) -> Result<Option<u32>, AllocError>
     ensures { Finds (spec.list_in ty.now brace found notes.old) result notes.new }
 {

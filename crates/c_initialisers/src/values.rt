@@ -20,7 +20,7 @@ use c_type_rules::TypedExpression;
 use c_type_rules::conversions::decay;
 use c_typed_tree::CType;
 use c_typed_tree::layout::integer_of;
-use data_object::Cell;
+use data_object::DataCell;
 use std::alloc::{AllocError, Global};
 
 /// The constant that a value is.
@@ -50,7 +50,7 @@ fn is_taken(
 
 /// Fills a scalar, where its value is a constant and is converted to its type.
 fn put_scalar(
-    cells: &mut Vec<Cell>,
+    cells: &mut Vec<DataCell>,
     ty: &CType,
     place: u64,
     at: u32,
@@ -74,7 +74,7 @@ fn put_scalar(
 /// A value of a scalar, of which an array is a pointer already.
 fn scalar_value(
     alloc: Global,
-    cells: &mut Vec<Cell>,
+    cells: &mut Vec<DataCell>,
     notes: &mut Notes<'_>,
     ty: &CType,
     place: u64,
@@ -90,7 +90,7 @@ fn scalar_value(
 
 fn value_of(
     alloc: Global,
-    cells: &mut Vec<Cell>,
+    cells: &mut Vec<DataCell>,
     notes: &mut Notes<'_>,
     ty: &CType,
     place: u64,
@@ -108,7 +108,7 @@ fn value_of(
 /// A value that is no text of characters.
 fn expression_value<'a>(
     alloc: Global,
-    cells: &mut Vec<Cell>,
+    cells: &mut Vec<DataCell>,
     env: &mut Env<'a>,
     notes: &mut Notes<'a>,
     ty: &CType,
@@ -152,7 +152,7 @@ pub(crate) fn text_in(e: &Expr) -> Option<(u32, &[Name])>
 
 /// A text in an array of characters of this length.
 fn text_value(
-    cells: &mut Vec<Cell>,
+    cells: &mut Vec<DataCell>,
     notes: &mut Notes<'_>,
     place: u64,
     room: u64,
@@ -171,7 +171,7 @@ fn text_value(
 /// A single value at a place of an object of a type.
 pub(crate) fn single_value<'a>(
     alloc: Global,
-    cells: &mut Vec<Cell>,
+    cells: &mut Vec<DataCell>,
     env: &mut Env<'a>,
     notes: &mut Notes<'a>,
     ty: &CType,

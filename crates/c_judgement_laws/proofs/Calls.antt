@@ -10,8 +10,8 @@ use Rattle.c_type_rules.specs.declared.typed.TypedExpression.{TypedExpression}
 use Rattle.c_type_rules.specs.Rulings.{Ruling, fault}
 use Rattle.c_primary_rules.specs.Calls.{call}
 use Rattle.c_operators.specs.Null.{take_value}
-use Rattle.c_checks.specs.declared.meanings.Meaning.{Meaning}
-use Rattle.c_checks.specs.declared.meanings.Meaning.TheVariants as m
+use Rattle.c_checks.specs.declared.meanings.NameMeaning.{NameMeaning}
+use Rattle.c_checks.specs.declared.meanings.NameMeaning.TheVariants as m
 use Rattle.c_checks.specs.declared.notes.Notes.{Notes}
 use Rattle.c_checks.specs.Checks.{each, and_then, note_fault, append_part}
 use Rattle.c_checks.specs.Notes.{with_use}
@@ -114,7 +114,7 @@ module _ (c : Context) (names : Type 0) where
       of true e = passing_judged at callee ty tys args n f (eqb-true (length args) (length tys) e) h
       of false e = found_fault c names (IsJudged c) at BadCall n
 
-  pub call_judged : (at : ℕ) (o : Option Meaning) (args : Option (List TypedExpression)) (n : Notes) → (names → IsNameIn c o) → (names → Knows c n → IfSome args (AreJudged c (Takes c n))) → Judges c names (IsJudged c) n (call_by_meaning at o args n)
+  pub call_judged : (at : ℕ) (o : Option NameMeaning) (args : Option (List TypedExpression)) (n : Notes) → (names → IsNameIn c o) → (names → Knows c n → IfSome args (AreJudged c (Takes c n))) → Judges c names (IsJudged c) n (call_by_meaning at o args n)
   call_judged at None args n f h = found_fault c names (IsJudged c) at _ n
   call_judged at (Some m.Faulty) args n f h = found_none c names (IsJudged c) n n (later_itself c n)
   call_judged at (Some (m.Undefined number)) args n f h = found_none c names (IsJudged c) n (with_use number at n) (later_use c number at n)

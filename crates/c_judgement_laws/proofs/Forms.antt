@@ -31,8 +31,8 @@ use Rattle.c_operators.specs.Unary.{unary}
 use Rattle.c_operators.specs.Binary.{binary, subscript, conditional}
 use Rattle.c_operators.specs.Assigned.{assign}
 use Rattle.c_operators.specs.Casts.{cast_to, size_of_type}
-use Rattle.c_checks.specs.declared.meanings.Meaning.{Meaning}
-use Rattle.c_checks.specs.declared.meanings.Meaning.TheVariants as m
+use Rattle.c_checks.specs.declared.meanings.NameMeaning.{NameMeaning}
+use Rattle.c_checks.specs.declared.meanings.NameMeaning.TheVariants as m
 use Rattle.c_checks.specs.declared.notes.Notes.{Notes}
 use Rattle.c_checks.specs.Checks.{pure, and_then, fault, note_fault}
 use Rattle.c_checks.specs.Notes.{with_use, new_text}
@@ -222,7 +222,7 @@ module _ (c : Context) (lawful : IsLawfulContext c) (names : Type 0) where
       of None = tt
       of (Some word) = integer_whole i.Int
 
-  pub name_judged : (at : ℕ) (o : Option Meaning) (n : Notes) → (names → IsNameIn c o) → Judges c names (IsJudged c) n (name_of at o n)
+  pub name_judged : (at : ℕ) (o : Option NameMeaning) (n : Notes) → (names → IsNameIn c o) → Judges c names (IsJudged c) n (name_of at o n)
   name_judged at None n h = found_fault c names (IsJudged c) at _ n
   name_judged at (Some m.Faulty) n h = found_none c names (IsJudged c) n n (later_itself c n)
   name_judged at (Some (m.Undefined number)) n h = found_none c names (IsJudged c) n (with_use number at n) (later_use c number at n)

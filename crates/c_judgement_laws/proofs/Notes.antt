@@ -4,8 +4,8 @@ use Rattle.c_tree.specs.declared.expressions.UnaryOp.{UnaryOp}
 use Rattle.c_tree.specs.declared.expressions.UnaryOp.TheVariants as u
 use Rattle.c_typed_tree.specs.Typing.{Context}
 use Rattle.c_type_faults.specs.declared.faults.Kind.{Kind}
-use Rattle.c_type_rules.specs.declared.typed.Place.{Place}
-use Rattle.c_type_rules.specs.declared.typed.Place.TheVariants as p
+use Rattle.c_type_rules.specs.declared.typed.PlaceKind.{PlaceKind}
+use Rattle.c_type_rules.specs.declared.typed.PlaceKind.TheVariants as p
 use Rattle.c_type_rules.specs.declared.typed.TypedExpression.{TypedExpression}
 use Rattle.c_type_rules.specs.Rulings.{Ruling}
 use Rattle.c_place_rules.specs.Places.{is_somewhere}
@@ -61,7 +61,7 @@ later_fault c at kind n = record { first = refl; knows = λ k. k; takes = λ t. 
 pub later_use : (c : Context) (number at : ℕ) (n : Notes) → Later c n (with_use number at n)
 later_use c number at n = record { first = refl; knows = λ k. k; takes = λ t. t }
 
-later_address : (c : Context) (stands : Place) (n : Notes) → Later c n (with_address stands n)
+later_address : (c : Context) (stands : PlaceKind) (n : Notes) → Later c n (with_address stands n)
 later_address c p.Nowhere n = later_itself c n
 later_address c (p.Local number) n = record {
   first = refl;
@@ -71,13 +71,13 @@ later_address c (p.Local number) n = record {
 later_address c (p.Global number) n = later_itself c n
 later_address c p.Elsewhere n = later_itself c n
 
-address_memory : (c : Context) (stands : Place) (n : Notes) → Takes c (with_address stands n) → IsTrue (is_somewhere stands) → IsTrue (is_memory c.locals stands)
+address_memory : (c : Context) (stands : PlaceKind) (n : Notes) → Takes c (with_address stands n) → IsTrue (is_somewhere stands) → IsTrue (is_memory c.locals stands)
 address_memory c p.Nowhere n t s = no_true s
 address_memory c (p.Local number) n t s = memory_last c n.addressed number t.locals
 address_memory c (p.Global number) n t s = refl
 address_memory c p.Elsewhere n t s = refl
 
-pub later_taken : (c : Context) (op : UnaryOp) (stands : Place) (n : Notes) → Later c n (taken_by op stands n)
+pub later_taken : (c : Context) (op : UnaryOp) (stands : PlaceKind) (n : Notes) → Later c n (taken_by op stands n)
 later_taken c u.Address stands n = later_address c stands n
 later_taken c u.Increment stands n = later_itself c n
 later_taken c u.Decrement stands n = later_itself c n
@@ -87,7 +87,7 @@ later_taken c u.Minus stands n = later_itself c n
 later_taken c u.Invert stands n = later_itself c n
 later_taken c u.Not stands n = later_itself c n
 
-pub taken_memory : (c : Context) (op : UnaryOp) (stands : Place) (n : Notes) → Takes c (taken_by op stands n) → TakesMemory c op stands
+pub taken_memory : (c : Context) (op : UnaryOp) (stands : PlaceKind) (n : Notes) → Takes c (taken_by op stands n) → TakesMemory c op stands
 taken_memory c u.Address stands n t = address_memory c stands n t
 taken_memory c u.Increment stands n t = tt
 taken_memory c u.Decrement stands n t = tt

@@ -14,8 +14,8 @@ use Rattle.c_typed_tree.specs.Lawful.{IsLawfulStruct}
 use Rattle.c_type_rules.specs.declared.typed.TypedExpression.{TypedExpression}
 use Rattle.c_primary_rules.specs.Primary.{text_type}
 use Rattle.c_checks.specs.declared.env.Env.{Env}
-use Rattle.c_checks.specs.declared.meanings.Meaning.{Meaning}
-use Rattle.c_checks.specs.declared.meanings.Meaning.TheVariants as m
+use Rattle.c_checks.specs.declared.meanings.NameMeaning.{NameMeaning}
+use Rattle.c_checks.specs.declared.meanings.NameMeaning.TheVariants as m
 use Rattle.c_scopes.specs.Names.{Entry}
 use Rattle.c_checks.specs.declared.meanings.Tag.{Tag}
 use Rattle.c_checks.specs.declared.meanings.Tag.TheVariants as g
@@ -43,21 +43,21 @@ pub record IsLocalOf (c : Context) (number : ℕ) (ty : CType) : Type 0 where
   pub named : IsTrue (has_local_type (slice_get c.locals number) (type_view ty))
   pub type : IsPlaceType c ty
 
-pub record IsObjectOf (c : Context) (number : ℕ) (ty : CType) : Type 0 where
+pub record IsObjectOfType (c : Context) (number : ℕ) (ty : CType) : Type 0 where
   pub named : IsTrue (has_global_type c.structs (slice_get c.globals number) (type_view ty))
   pub type : IsPlaceType c ty
 
 -- a name means what is there
-abbrev pub IsMeaningIn : Context → Meaning → Type 0
+abbrev pub IsMeaningIn : Context → NameMeaning → Type 0
 IsMeaningIn c m.Faulty = Unit {0}
 IsMeaningIn c (m.Undefined number) = Unit {0}
 IsMeaningIn c (m.Local number ty) = IsLocalOf c number ty
-IsMeaningIn c (m.Object number ty) = IsObjectOf c number ty
+IsMeaningIn c (m.Object number ty) = IsObjectOfType c number ty
 IsMeaningIn c (m.Constant word) = IsTrue (is_word Int word)
 IsMeaningIn c (m.Function callee result parameters) = IsFunctionOf c callee result parameters
 IsMeaningIn c (m.Typedef ty) = Unit {0}
 
-abbrev pub IsNameIn : Context → Option Meaning → Type 0
+abbrev pub IsNameIn : Context → Option NameMeaning → Type 0
 IsNameIn c None = Unit {0}
 IsNameIn c (Some meaning) = IsMeaningIn c meaning
 

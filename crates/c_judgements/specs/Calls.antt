@@ -8,8 +8,8 @@ use Rattle.c_type_faults.specs.declared.faults.Kind.TheVariants.{UnknownName, No
 use Rattle.c_type_rules.specs.declared.typed.TypedExpression.{TypedExpression}
 use Rattle.c_primary_rules.specs.Calls.{count_arguments, call}
 use Rattle.c_operators.specs.Null.{take_value}
-use Rattle.c_checks.specs.declared.meanings.Meaning.{Meaning}
-use Rattle.c_checks.specs.declared.meanings.Meaning.TheVariants as m
+use Rattle.c_checks.specs.declared.meanings.NameMeaning.{NameMeaning}
+use Rattle.c_checks.specs.declared.meanings.NameMeaning.TheVariants as m
 use Rattle.c_checks.specs.Checks.{Check, pure, and_then, each, note_fault, append_part}
 use Rattle.c_judgements.specs.Names.{faulty, use_of_undefined}
 
@@ -34,7 +34,7 @@ call_of at callee ty parameters args n =
     and_then (note_fault (count_arguments at parameters args) n) (λ r. each r (call_passing at callee ty parameters))
 
 -- a call of what a name means
-abbrev pub call_by_meaning : ℕ → Option Meaning → Option (List TypedExpression) → Check (Option TypedExpression)
+abbrev pub call_by_meaning : ℕ → Option NameMeaning → Option (List TypedExpression) → Check (Option TypedExpression)
 call_by_meaning at None args n = faulty at UnknownName n
 call_by_meaning at (Some m.Faulty) args n = (None, n)
 call_by_meaning at (Some (m.Undefined number)) args n = use_of_undefined at number n

@@ -15,8 +15,8 @@ use Rattle.c_type_faults.specs.declared.faults.Kind.{Kind}
 use Rattle.c_type_faults.specs.declared.faults.Kind.TheVariants.{UnknownName, Redeclared, BadType}
 use Rattle.c_type_rules.specs.Values.{integer_type}
 use Rattle.c_checks.specs.declared.env.Env.{Env}
-use Rattle.c_checks.specs.declared.meanings.Meaning.{Meaning}
-use Rattle.c_checks.specs.declared.meanings.Meaning.TheVariants as m
+use Rattle.c_checks.specs.declared.meanings.NameMeaning.{NameMeaning}
+use Rattle.c_checks.specs.declared.meanings.NameMeaning.TheVariants as m
 use Rattle.c_checks.specs.declared.meanings.Tag.{Tag}
 use Rattle.c_checks.specs.declared.meanings.Tag.TheVariants as g
 use Rattle.c_checks.specs.declared.meanings.UntaggedStruct.{UntaggedStruct}
@@ -42,7 +42,7 @@ abbrev pub no_type : ℕ → Kind → Check (Option DeclaredType)
 no_type at kind = fault at kind
 
 -- a typedef name (6.7.7)
-abbrev pub named_type : ℕ → Option Meaning → Check (Option DeclaredType)
+abbrev pub named_type : ℕ → Option NameMeaning → Check (Option DeclaredType)
 named_type at None n = no_type at UnknownName n
 named_type at (Some m.Faulty) n = (None, n)
 named_type at (Some (m.Undefined number)) n = no_type at BadType n

@@ -5,8 +5,8 @@ use Rattle.c_type_faults.specs.declared.faults.Kind.{Kind}
 use Rattle.c_type_faults.specs.declared.faults.Kind.TheVariants.{UnknownName, BadOperand}
 use Rattle.c_type_rules.specs.declared.typed.TypedExpression.{TypedExpression}
 use Rattle.c_primary_rules.specs.Primary.{local, object, enumeration_constant}
-use Rattle.c_checks.specs.declared.meanings.Meaning.{Meaning}
-use Rattle.c_checks.specs.declared.meanings.Meaning.TheVariants as m
+use Rattle.c_checks.specs.declared.meanings.NameMeaning.{NameMeaning}
+use Rattle.c_checks.specs.declared.meanings.NameMeaning.TheVariants as m
 use Rattle.c_checks.specs.Checks.{Check, fault}
 use Rattle.c_checks.specs.Notes.{with_use}
 
@@ -17,7 +17,7 @@ abbrev pub use_of_undefined : ℕ → (number : ℕ) → Check (Option TypedExpr
 use_of_undefined at number n = (None, with_use number at n)
 
 -- a function's name is called, and no operand
-abbrev pub name_of : ℕ → Option Meaning → Check (Option TypedExpression)
+abbrev pub name_of : ℕ → Option NameMeaning → Check (Option TypedExpression)
 name_of at None n = faulty at UnknownName n
 name_of at (Some m.Faulty) n = (None, n)
 name_of at (Some (m.Undefined number)) n = use_of_undefined at number n

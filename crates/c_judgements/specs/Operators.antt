@@ -7,7 +7,7 @@ use Rattle.c_tree.specs.declared.expressions.AssignOp.{AssignOp}
 use Rattle.c_tree.specs.declared.expressions.StepOp.{StepOp}
 use Rattle.c_type_faults.specs.declared.faults.Kind.TheVariants.{BadOperand}
 use Rattle.c_declared_types.specs.declared.declared.DeclaredType.{DeclaredType}
-use Rattle.c_type_rules.specs.declared.typed.Place.{Place}
+use Rattle.c_type_rules.specs.declared.typed.PlaceKind.{PlaceKind}
 use Rattle.c_type_rules.specs.declared.typed.TypedExpression.{TypedExpression}
 use Rattle.c_place_rules.specs.Members.{size}
 use Rattle.c_place_rules.specs.Places.{step_behind}
@@ -21,7 +21,7 @@ use Rattle.c_checks.specs.Notes.{with_address}
 use Rattle.c_checks.specs.Checks.{Check, fault, each, both, note_fault}
 
 -- `&` takes the address of its operand, so a local that this is, or is a part of, is an object of memory
-abbrev pub taken_by : UnaryOp → Place → Notes → Notes
+abbrev pub taken_by : UnaryOp → PlaceKind → Notes → Notes
 taken_by u.Address place n = with_address place n
 taken_by u.Increment place n = n
 taken_by u.Decrement place n = n

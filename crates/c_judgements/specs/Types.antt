@@ -13,8 +13,8 @@ use Rattle.c_type_faults.specs.declared.faults.Kind.TheVariants.{Redeclared, Bad
 use Rattle.c_type_rules.specs.declared.typed.TypedExpression.{TypedExpression}
 use Rattle.c_constant_rules.specs.Values.{length}
 use Rattle.c_checks.specs.declared.env.Env.{Env}
-use Rattle.c_checks.specs.declared.meanings.Meaning.{Meaning}
-use Rattle.c_checks.specs.declared.meanings.Meaning.TheVariants as m
+use Rattle.c_checks.specs.declared.meanings.NameMeaning.{NameMeaning}
+use Rattle.c_checks.specs.declared.meanings.NameMeaning.TheVariants as m
 use Rattle.c_checks.specs.declared.notes.Notes.{Notes}
 use Rattle.c_checks.specs.Checks.{Check, pure, and_then, each, fault, note_fault}
 use Rattle.c_checks.specs.Scopes.{with_name, stands_here}
@@ -62,7 +62,7 @@ abbrev pub parameter_type : ℕ → DeclaredType → Check (Option CType)
 parameter_type at ty n = within_depth at (parameter_of ty) n
 
 -- outside a definition a parameter has no number in a function
-abbrev pub parameter_meaning : Option CType → Meaning
+abbrev pub parameter_meaning : Option CType → NameMeaning
 parameter_meaning None = m.Faulty
 parameter_meaning (Some ty) = m.Local 0 ty
 

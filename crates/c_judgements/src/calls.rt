@@ -6,7 +6,7 @@ ghost use Rattle.c_checks.specs.Checks.{Finds, each};
 ghost use Rattle.c_judgements.specs.Calls as spec;
 
 use crate::names::{faulty, use_of_undefined};
-use c_checks::{Meaning, Notes, append_part, note_fault};
+use c_checks::{NameMeaning, Notes, append_part, note_fault};
 use c_operators::take_value;
 use c_primary_rules::calls::{call, count_arguments};
 use c_tree::{Box, Seq};
@@ -135,7 +135,7 @@ pub fn call_by_meaning(
     alloc: Global,
     notes: &mut Notes<'_>,
     at: u32,
-    meaning: Option<&Meaning>,
+    meaning: Option<&NameMeaning>,
     arguments: Option<Seq<TypedExpression>>,
 ) -> Result<Option<TypedExpression>, AllocError>
     ensures { Finds (spec.call_by_meaning at (option_copied meaning.entry) arguments notes.old) result notes.new }
@@ -143,12 +143,12 @@ pub fn call_by_meaning(
     match meaning {
         None => faulty(notes, at, Kind::UnknownName),
         Some(meaning) => match meaning {
-            Meaning::Faulty => Ok(None),
-            Meaning::Undefined(number) => use_of_undefined(notes, at, *number),
-            Meaning::Local { .. } => faulty(notes, at, Kind::NotFunction),
-            Meaning::Object { .. } => faulty(notes, at, Kind::NotFunction),
-            Meaning::Constant(_) => faulty(notes, at, Kind::NotFunction),
-            Meaning::Function {
+            NameMeaning::Faulty => Ok(None),
+            NameMeaning::Undefined(number) => use_of_undefined(notes, at, *number),
+            NameMeaning::Local { .. } => faulty(notes, at, Kind::NotFunction),
+            NameMeaning::Object { .. } => faulty(notes, at, Kind::NotFunction),
+            NameMeaning::Constant(_) => faulty(notes, at, Kind::NotFunction),
+            NameMeaning::Function {
                 callee,
                 result,
                 parameters,
@@ -156,7 +156,7 @@ pub fn call_by_meaning(
                 let parameters = parameters.as_slice();
                 call_where(alloc, notes, at, *callee, result, parameters, arguments)
             }
-            Meaning::Typedef(_) => faulty(notes, at, Kind::NotFunction),
+            NameMeaning::Typedef(_) => faulty(notes, at, Kind::NotFunction),
         },
     }
 }

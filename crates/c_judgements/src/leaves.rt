@@ -7,9 +7,9 @@ ghost use Rattle.c_checks.specs.Checks.{Finds};
 ghost use Rattle.c_judgements.specs.Leaves as spec;
 
 use c_arithmetic::integer_type::IntegerType;
-use c_checks::{Env, Meaning, Notes, Tag, add_struct, add_tag, meaning_of, note};
+use c_checks::{Env, NameMeaning, Notes, Tag, add_struct, add_tag, meaning_of, note};
 use c_declared_types::DeclaredType;
-use c_scopes::Table;
+use c_scopes::NameTable;
 use c_tree::{BasicType, Name, Seq, TypeNode};
 use c_type_faults::Kind;
 use c_type_rules::types::integer_type;
@@ -78,26 +78,26 @@ fn named_type(
     alloc: Global,
     notes: &mut Notes<'_>,
     at: u32,
-    meaning: Option<&Meaning>,
+    meaning: Option<&NameMeaning>,
 ) -> Result<Option<DeclaredType>, AllocError>
     ensures { Finds (spec.named_type at (option_copied meaning.entry) notes.old) result notes.new }
 {
     match meaning {
         None => no_type(notes, at, Kind::UnknownName),
         Some(meaning) => match meaning {
-            Meaning::Faulty => Ok(None),
-            Meaning::Undefined(_) => no_type(notes, at, Kind::BadType),
-            Meaning::Local { .. } => no_type(notes, at, Kind::BadType),
-            Meaning::Object { .. } => no_type(notes, at, Kind::BadType),
-            Meaning::Constant(_) => no_type(notes, at, Kind::BadType),
-            Meaning::Function { .. } => no_type(notes, at, Kind::BadType),
-            Meaning::Typedef(ty) => Ok(Some(copy_declared(alloc, ty)?)),
+            NameMeaning::Faulty => Ok(None),
+            NameMeaning::Undefined(_) => no_type(notes, at, Kind::BadType),
+            NameMeaning::Local { .. } => no_type(notes, at, Kind::BadType),
+            NameMeaning::Object { .. } => no_type(notes, at, Kind::BadType),
+            NameMeaning::Constant(_) => no_type(notes, at, Kind::BadType),
+            NameMeaning::Function { .. } => no_type(notes, at, Kind::BadType),
+            NameMeaning::Typedef(ty) => Ok(Some(copy_declared(alloc, ty)?)),
         },
     }
 }
 
 /// What a tag means.
-fn tag_named(tags: &Table<'_, Tag>, name: &[u8]) -> Option<Tag>
+fn tag_named(tags: &NameTable<'_, Tag>, name: &[u8]) -> Option<Tag>
     ensures { result ≡ spec.tag_named (find name.now tags.now) }
 {
     match tags.find(name) {

@@ -9,7 +9,7 @@ ghost use Rattle.c_judgements.specs.Members as spec;
 
 use c_checks::{Notes, note_fault};
 use c_place_rules::members::{FoundMember, arrow, field};
-use c_scopes::Table;
+use c_scopes::NameTable;
 use c_type_rules::TypedExpression;
 use c_type_rules::conversions::decay;
 use c_typed_tree::{CType, StructDef};
@@ -75,7 +75,7 @@ fn member_at(
 }
 
 /// What is declared of a name: the number of the member, if its declaration has no fault.
-fn declared_number(members: &Table<'_, Option<u32>>, name: &[u8]) -> Option<Option<u32>>
+fn declared_number(members: &NameTable<'_, Option<u32>>, name: &[u8]) -> Option<Option<u32>>
     ensures { result ≡ spec.declared_number name.now members.now }
 {
     match members.find(name) {
@@ -84,7 +84,7 @@ fn declared_number(members: &Table<'_, Option<u32>>, name: &[u8]) -> Option<Opti
     }
 }
 
-fn number_in(members: Option<&Table<'_, Option<u32>>>, name: &[u8]) -> Option<Option<u32>>
+fn number_in(members: Option<&NameTable<'_, Option<u32>>>, name: &[u8]) -> Option<Option<u32>>
     ensures { result ≡ spec.number_in name.now (option_copied members.entry) }
 {
     match members {

@@ -4,7 +4,7 @@ ghost use Rattle.std.specs.Option.{option_copied};
 ghost use Rattle.c_checks.specs.Checks.{Finds};
 ghost use Rattle.c_judgements.specs.Names as spec;
 
-use c_checks::{Meaning, Notes, note, note_use};
+use c_checks::{NameMeaning, Notes, note, note_use};
 use c_primary_rules::primary::{enumeration_constant, local, object};
 use c_type_faults::Kind;
 use c_type_rules::TypedExpression;
@@ -39,20 +39,20 @@ pub fn name_of(
     alloc: Global,
     notes: &mut Notes<'_>,
     at: u32,
-    meaning: Option<&Meaning>,
+    meaning: Option<&NameMeaning>,
 ) -> Result<Option<TypedExpression>, AllocError>
     ensures { Finds (spec.name_of at (option_copied meaning.entry) notes.old) result notes.new }
 {
     match meaning {
         None => faulty(notes, at, Kind::UnknownName),
         Some(meaning) => match meaning {
-            Meaning::Faulty => Ok(None),
-            Meaning::Undefined(number) => use_of_undefined(notes, at, *number),
-            Meaning::Local { number, ty } => Ok(Some(local(alloc, at, *number, ty)?)),
-            Meaning::Object { number, ty } => Ok(Some(object(alloc, at, *number, ty)?)),
-            Meaning::Constant(word) => Ok(Some(enumeration_constant(alloc, at, *word)?)),
-            Meaning::Function { .. } => faulty(notes, at, Kind::BadOperand),
-            Meaning::Typedef(_) => faulty(notes, at, Kind::BadOperand),
+            NameMeaning::Faulty => Ok(None),
+            NameMeaning::Undefined(number) => use_of_undefined(notes, at, *number),
+            NameMeaning::Local { number, ty } => Ok(Some(local(alloc, at, *number, ty)?)),
+            NameMeaning::Object { number, ty } => Ok(Some(object(alloc, at, *number, ty)?)),
+            NameMeaning::Constant(word) => Ok(Some(enumeration_constant(alloc, at, *word)?)),
+            NameMeaning::Function { .. } => faulty(notes, at, Kind::BadOperand),
+            NameMeaning::Typedef(_) => faulty(notes, at, Kind::BadOperand),
         },
     }
 }

@@ -12,11 +12,11 @@ use c_place_rules::places::step_behind;
 use c_primary_rules::commas::comma;
 use c_tree::{AssignOp, BinaryOp, Seq, StepOp, UnaryOp};
 use c_type_faults::Kind;
-use c_type_rules::{Place, TypedExpression};
+use c_type_rules::{PlaceKind, TypedExpression};
 use std::alloc::{AllocError, Global};
 
 /// `&` takes the address of its operand; no other operator does.
-fn take(notes: &mut Notes<'_>, op: UnaryOp, place: Place) -> Result<(), AllocError>
+fn take(notes: &mut Notes<'_>, op: UnaryOp, place: PlaceKind) -> Result<(), AllocError>
     ensures { OnOk result (notes.new ≡ spec.taken_by op place notes.old) }
 {
     match op {

@@ -6,7 +6,7 @@ ghost use Rattle.c_checks.specs.Checks.{Finds, each, both};
 ghost use Rattle.c_judgements.specs.Types as spec;
 
 use crate::leaves::no_type;
-use c_checks::{Env, Meaning, Notes, declare, note, note_fault, stands_here};
+use c_checks::{Env, NameMeaning, Notes, declare, note, note_fault, stands_here};
 use c_constant_rules::values::length;
 use c_declared_types::{
     DeclaredType, array_of, function_of, is_declarable, is_deep_at_most, parameter_of, pointer_to,
@@ -178,14 +178,14 @@ fn parameter_type(
 }
 
 /// What the name of a parameter means in a declaration.
-fn parameter_meaning(alloc: Global, ty: &Option<CType>) -> Result<Meaning, AllocError>
+fn parameter_meaning(alloc: Global, ty: &Option<CType>) -> Result<NameMeaning, AllocError>
     ensures { IfOk result (λ r. r ≡ spec.parameter_meaning ty.now) }
 {
     match ty {
-        None => Ok(Meaning::Faulty),
+        None => Ok(NameMeaning::Faulty),
         Some(ty) => {
             let ty = ty.copy(alloc)?;
-            Ok(Meaning::Local { number: 0, ty })
+            Ok(NameMeaning::Local { number: 0, ty })
         }
     }
 }

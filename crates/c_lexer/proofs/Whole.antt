@@ -17,7 +17,7 @@ use Rattle.c_lexer.specs.Numbers.{is_number}
 use Rattle.c_lexer.specs.Literals.{char_end, text_end}
 use Rattle.c_lexer.specs.Blanks.{is_linemarker}
 use Rattle.c_lexer.specs.Pieces.{is_at, is_comment, when, mark_piece, piece_of, Cuts, Lexeme, lexeme, lexemes, Pieces, Tokens, IsStuck, FaultAt}
-use Rattle.c_lexer.specs.Steps.{Place, IsEnd, Gives, Refuses}
+use Rattle.c_lexer.specs.Steps.{TextPlace, IsEnd, Gives, Refuses}
 use Rattle.c_lexer.proofs.Options.{by_test}
 use Rattle.c_lexer.proofs.Walk.{pieces-append}
 
@@ -70,7 +70,7 @@ no_end text at n c = piece_no_end (take n (drop at text)) c.begins_with.piece.is
 
 -- ---- a walk
 
-pub walk_token : (text : List ℕ) (ts : List Lexeme) (old new : Place) (t : Token) → text ≡ old.text → Pieces text 0 ts old.at → Gives old t new → (t.kind ≡ k.End → ⊥)
+pub walk_token : (text : List ℕ) (ts : List Lexeme) (old new : TextPlace) (t : Token) → text ≡ old.text → Pieces text 0 ts old.at → Gives old t new → (t.kind ≡ k.End → ⊥)
     → (text ≡ new.text) × Pieces text 0 (ts ++ lexeme text t ∷ []) new.at
 walk_token text ts old new t same so_far given other =
     let skipped : Pieces text old.at [] t.at = subst (λ s. Pieces s old.at [] t.at) (sym same) given.skipped in
@@ -84,14 +84,14 @@ lexemes-append text [] t = refl
 lexemes-append text (u ∷ ts) t = ap (λ r. lexeme text u ∷ r) (lexemes-append text ts t)
 
 -- One more token in the list of the tokens that `next` gave.
-pub walk_push : (text : List ℕ) (ts : List Token) (old new : Place) (t : Token) → text ≡ old.text → Pieces text 0 (lexemes text ts) old.at → Gives old t new → (t.kind ≡ k.End → ⊥)
+pub walk_push : (text : List ℕ) (ts : List Token) (old new : TextPlace) (t : Token) → text ≡ old.text → Pieces text 0 (lexemes text ts) old.at → Gives old t new → (t.kind ≡ k.End → ⊥)
     → (text ≡ new.text) × Pieces text 0 (lexemes text (ts ++ t ∷ [])) new.at
 walk_push text ts old new t same so_far given other =
     let w = walk_token text (lexemes text ts) old new t same so_far given other in
     (w.0, subst (λ r. Pieces text 0 r new.at) (sym (lexemes-append text ts t)) w.1)
 
 -- At the end these are the tokens of the text.
-pub walk_end : (text : List ℕ) (ts : List Lexeme) (old new : Place) (t : Token) → text ≡ old.text → Pieces text 0 ts old.at → Gives old t new → t.kind ≡ k.End
+pub walk_end : (text : List ℕ) (ts : List Lexeme) (old new : TextPlace) (t : Token) → text ≡ old.text → Pieces text 0 ts old.at → Gives old t new → t.kind ≡ k.End
     → Tokens text (record { items = ts; size = length text })
 walk_end text ts old new t same so_far given kind =
     let skipped : Pieces text old.at [] t.at = subst (λ s. Pieces s old.at [] t.at) (sym same) given.skipped in
@@ -103,7 +103,7 @@ walk_end text ts old new t same so_far given kind =
     record { pieces = whole; size = refl }
 
 -- At a fault this is the first fault place of the text.
-pub walk_fault : (text : List ℕ) (ts : List Lexeme) (old new : Place) (f : LexFault) → text ≡ old.text → Pieces text 0 ts old.at → Refuses old f new → FaultAt text f.at
+pub walk_fault : (text : List ℕ) (ts : List Lexeme) (old new : TextPlace) (f : LexFault) → text ≡ old.text → Pieces text 0 ts old.at → Refuses old f new → FaultAt text f.at
 walk_fault text ts old new f same so_far refused =
     let skipped : Pieces text old.at [] f.at = subst (λ s. Pieces s old.at [] f.at) (sym same) refused.skipped in
     record {

@@ -8,11 +8,11 @@ use Rattle.c_lexer.specs.declared.piece.Piece.TheVariants as p
 use Rattle.c_lexer.specs.Pieces.{Cuts, Pieces, IsStuck}
 
 -- a text, and the offset in it at which a lexer stands
-pub record Place : Type 0 where
+pub record TextPlace : Type 0 where
   pub text : List ℕ
   pub at : ℕ
 
-abbrev pub place_code : Coded Place
+abbrev pub place_code : Coded TextPlace
 place_code =
     code_by (List ℕ × ℕ) (coded× (coded_list coded_ℕ) coded_ℕ)
     (λ p. (p.text, p.at)) (λ p. record { text = p.0; at = p.1 }) (λ _. refl)
@@ -24,14 +24,14 @@ pub record IsEnd (text : List ℕ) (t : Token) : Type 0 where
   pub len : t.len ≡ 0
 
 -- past blanks, comments and linemarkers stands this token, or the end, and the lexer stands behind it
-pub record Gives (old : Place) (t : Token) (new : Place) : Type 0 where
+pub record Gives (old : TextPlace) (t : Token) (new : TextPlace) : Type 0 where
   pub skipped : Pieces old.text old.at [] t.at
   pub token : IsEnd old.text t ⊎ Cuts old.text t.at t.len (p.Token t.kind)
   pub text : new.text ≡ old.text
   pub at : new.at ≡ t.at + t.len
 
 -- past blanks, comments and linemarkers stand bytes at which no piece begins, and the lexer stands there
-pub record Refuses (old : Place) (f : LexFault) (new : Place) : Type 0 where
+pub record Refuses (old : TextPlace) (f : LexFault) (new : TextPlace) : Type 0 where
   pub skipped : Pieces old.text old.at [] f.at
   pub stuck : IsStuck old.text f.at
   pub text : new.text ≡ old.text

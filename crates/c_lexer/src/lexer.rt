@@ -18,9 +18,9 @@ pub struct Lexer<'a> {
 impl<'a> Model for Lexer<'a> {
     ghost use Rattle.std.specs.Prelude.{◌≤◌, ◌^◌, length};
     ghost use Rattle.c_lexer.specs.Limits.{text_limit};
-    ghost use Rattle.c_lexer.specs.Steps.{Place, place_code};
+    ghost use Rattle.c_lexer.specs.Steps.{TextPlace, place_code};
 
-    ghost Value = { Place };
+    ghost Value = { TextPlace };
 
     ghost coded = { place_code };
 

@@ -5,7 +5,7 @@ use Rattle.std.proofs.lemmas.List.{map-append}
 use Rattle.std.proofs.lemmas.List.Sums.{sum_by_push}
 use Rattle.c_scopes.specs.Names.{find}
 use Rattle.c_tree.specs.declared.expressions.Expr.{Expr}
-use Rattle.c_tree.specs.declared.statements.Local as tree
+use Rattle.c_tree.specs.declared.statements.LocalDeclarator as tree
 use Rattle.c_tree.specs.declared.statements.ForFirst.{ForFirst}
 use Rattle.c_tree.specs.declared.statements.ForFirst.TheVariants as g
 use Rattle.c_typed_tree.specs.declared.types.CType.{CType}
@@ -79,7 +79,7 @@ init_says : (k : ℕ) (new : Option NewLocal) (e : Option Expr) (w : BodyState) 
 init_says k new None w a h = declares_as k a (length w.0) _ _ (plain_says k new) h
 init_says k new (Some x) w a h = declares_as k a (length w.0) _ _ (initialised_says k new (judge x w.1).0 (judge x w.1).1.1) h
 
-pub local_says : (k : ℕ) (d : tree.Local) (w : BodyState) → Declares k (length w.0) (length (local_of d w).1.0) (count_of (here k) (local_of d w).0)
+pub local_says : (k : ℕ) (d : tree.LocalDeclarator) (w : BodyState) → Declares k (length w.0) (length (local_of d w).1.0) (count_of (here k) (local_of d w).0)
 local_says k d w =
     let ty = type_of d.declaration.at d.declaration.ty w.1 in
     let s = each ty.0 (object_type d.declaration.at) ty.1.1 in

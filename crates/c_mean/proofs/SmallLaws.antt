@@ -3,7 +3,7 @@ use Rattle.std.proofs.Common.{◌≡◌, ◌≢◌, ℕ, ◌+◌, ◌≤◌, Boo
 use Rattle.std.proofs.Math.Seq.{take-add}
 use Rattle.std.proofs.lemmas.List.{take-append-drop}
 use Rattle.std.proofs.lemmas.Bool.{ltb-false}
-use Rattle.c_mean.specs.Behaviour.{Behaviour, Done, More, output_of}
+use Rattle.c_mean.specs.Behaviour.{CBehaviour, Done, More, output_of}
 use Rattle.c_mean.specs.Small.{Expression, Number, Complement, Sum, Difference, Product, complement, value, low_byte, SmallUnit, IsSmall, written_by, status_of, behave_c, most_text}
 use Rattle.c_mean.specs.model.SmallModel.{trees, values, body}
 use Rattle.c_mean.proofs.SmallTools.{same_some}
@@ -12,7 +12,7 @@ use Rattle.c_mean.proofs.SmallUnits.{whole_of, body_sound, body_complete}
 
 -- ---- turns
 
-Grows : Behaviour → Behaviour → Type 0
+Grows : CBehaviour → CBehaviour → Type 0
 Grows a b = (rest : List ℕ) × (output_of b ≡ output_of a ++ rest)
 
 done_grows : (w : List ℕ) (s n k : ℕ) (b : Bool) → b ≡ false → Grows (cond false (More (take n w)) (Done w s)) (cond b (More (take (n + k) w)) (Done w s))

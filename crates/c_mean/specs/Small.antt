@@ -1,7 +1,7 @@
 -- The small form of C programs: `main` puts the values of expressions, and returns one.
 use Rattle.std.specs.Prelude.{◌≡◌, ℕ, suc, ◌%◌, ◌≤◌, ℤ, pos, negsuc, ◌+ℤ◌, ◌-ℤ◌, ◌*ℤ◌, ◌⊎◌, List, [], ◌∷◌, ◌++◌, map, length, take, nat_lt, if◌then◌else◌, codes, decimal}
 use Rattle.std.specs.Int.{w32, cast_unsigned, int_wrap}
-use Rattle.c_mean.specs.Behaviour.{Behaviour, Done, More, Meaning}
+use Rattle.c_mean.specs.Behaviour.{CBehaviour, Done, More, Meaning}
 
 -- ---- expressions
 
@@ -94,7 +94,7 @@ abbrev pub status_of : SmallUnit → ℕ
 status_of u = low_byte u.status
 
 -- Each call of `putchar` is a turn. The input is not read.
-abbrev pub behave_c : SmallUnit → List ℕ → ℕ → Behaviour
+abbrev pub behave_c : SmallUnit → List ℕ → ℕ → CBehaviour
 behave_c u input n =
     if nat_lt n (length u.puts) then More (take n (written_by u)) else Done (written_by u) (status_of u)
 

@@ -7,7 +7,7 @@ use Rattle.c_lexer.specs.declared.token.LexFault.{LexFault}
 use Rattle.c_lexer.specs.declared.token.TokenKind.TheVariants.{End}
 use Rattle.c_lexer.specs.declared.piece.Piece.TheVariants as p
 use Rattle.c_lexer.specs.Pieces.{Cuts, Lexeme, Pieces, FaultAt, lexemes}
-use Rattle.c_lexer.specs.Steps.{Place, IsEnd, Gives}
+use Rattle.c_lexer.specs.Steps.{TextPlace, IsEnd, Gives}
 use Rattle.c_lexer.proofs.Once.{cuts_some}
 use Rattle.c_nesting.specs.declared.fault.ScanFault.{ScanFault}
 use Rattle.c_nesting.specs.declared.fault.ScanFault.TheVariants.{Lex}
@@ -28,7 +28,7 @@ pieces_rise (Pieces.blank n ts c d) = let h = pieces_rise d in omega arith
 pieces_rise (Pieces.token n kind ts c d) = let h = pieces_rise d in omega arith
 
 -- a token takes the lexer on, within the text
-pub walk_on : (text : List ℕ) (old new : Place) (t : Token) → text ≡ old.text → Gives old t new → (t.kind ≡ End → ⊥) → (old.at < new.at) × (new.at ≤ length text)
+pub walk_on : (text : List ℕ) (old new : TextPlace) (t : Token) → text ≡ old.text → Gives old t new → (t.kind ≡ End → ⊥) → (old.at < new.at) × (new.at ≤ length text)
 walk_on text old new t same given other =
     let rise : old.at ≤ t.at = pieces_rise given.skipped in
     let at : new.at ≡ t.at + t.len = given.at in

@@ -4,13 +4,13 @@ use Rattle.std.proofs.Math.Nat.{max-zero}
 use Rattle.c_nesting.specs.declared.nesting.Role.{Role}
 use Rattle.c_nesting.specs.declared.nesting.Role.TheVariants.{Opens, Closes, ClosesBrace, Separates, Counts, Else, Plain}
 use Rattle.c_nesting.specs.declared.nesting.Group.{Group}
-use Rattle.c_nesting.specs.Nesting.{Item, token, group, ends, begins_else, segments, value_of, value, Levels, open_to_end, closed, inner, brace, around, prepend, place, levels, outside, nesting}
+use Rattle.c_nesting.specs.Nesting.{GroupItem, token, group, ends, begins_else, segments, value_of, value, Levels, open_to_end, closed, inner, brace, around, prepend, place, levels, outside, nesting}
 use Rattle.c_nesting.specs.Nesting.{count_of_item as counted_of}
 use Rattle.c_nesting.specs.model.Walking.{State, empty, start, cost_of, next_segment, with_one, with_group, at_token, close, act, step, total}
 use Rattle.c_nesting.proofs.Segments.{left, joined-zero, left-push, left-nil, left_next}
 
 -- the greatest cost of the segments of a group that these items end
-abbrev pub group_cost : Group → Bool → List Item → ℕ
+abbrev pub group_cost : Group → Bool → List GroupItem → ℕ
 group_cost g ended items = max g.greatest (left ended g.count g.value items)
 
 -- the nesting of the whole, where these groups are open and this is left
@@ -23,17 +23,17 @@ resume_from s rest = resume s.outer s.group s.ended rest
 
 -- ---- an item further
 
-abbrev with_item : Item → Group → Group
+abbrev with_item : GroupItem → Group → Group
 with_item x g = record { greatest = g.greatest; count = g.count + counted_of x; value = max g.value (value_of x) }
 
-group_push : (g : Group) (x : Item) (xs : List Item) → group_cost g false (x ∷ xs) ≡ group_cost (with_item x g) (ends x) xs
+group_push : (g : Group) (x : GroupItem) (xs : List GroupItem) → group_cost g false (x ∷ xs) ≡ group_cost (with_item x g) (ends x) xs
 group_push g x xs = ap (λ n. max g.greatest n) (left-push g.count g.value x xs)
 
-outside-prepend : (x : Item) (rest : Levels) → outside (prepend x rest) ≡ x ∷ outside rest
+outside-prepend : (x : GroupItem) (rest : Levels) → outside (prepend x rest) ≡ x ∷ outside rest
 outside-prepend x (open_to_end items) = refl
 outside-prepend x (closed items bracket outer) = refl
 
-resume-push : (os : List Group) (g : Group) (x : Item) (rest : Levels) → resume os g false (prepend x rest) ≡ resume os (with_item x g) (ends x) rest
+resume-push : (os : List Group) (g : Group) (x : GroupItem) (rest : Levels) → resume os g false (prepend x rest) ≡ resume os (with_item x g) (ends x) rest
 resume-push [] g x rest = ap (λ items. group_cost g false items) (outside-prepend x rest) ∙ group_push g x (outside rest)
 resume-push (o ∷ os) g x (open_to_end items) = ap (λ n. resume os (with_group o n) false (open_to_end [])) (group_push g x items)
 resume-push (o ∷ os) g x (closed items bracket outer) = ap (λ n. resume os (with_group o n) (brace (closed items bracket outer)) outer) (group_push g x items)
@@ -44,14 +44,14 @@ record NoElse (rest : Levels) : Type 0 where
   inside : begins_else (inner rest) ≡ false
   outmost : begins_else (outside rest) ≡ false
 
-group_next : (g : Group) (items : List Item) → begins_else items ≡ false → group_cost g true items ≡ group_cost (next_segment g) false items
+group_next : (g : Group) (items : List GroupItem) → begins_else items ≡ false → group_cost g true items ≡ group_cost (next_segment g) false items
 group_next g items h = let e = left_next (begins_else items) g.count g.value items h in omega (arith, e)
 
 resume_next : (os : List Group) (g : Group) (rest : Levels) → NoElse rest → resume os g true rest ≡ resume os (next_segment g) false rest
 resume_next [] g rest h = group_next g (outside rest) h.outmost
 resume_next (o ∷ os) g rest h = ap (λ n. resume os (with_group o n) (brace rest) (around rest)) (group_next g (inner rest) h.inside)
 
-no_else : (x : Item) (rest : Levels) → begins_else (x ∷ []) ≡ false → NoElse (prepend x rest)
+no_else : (x : GroupItem) (rest : Levels) → begins_else (x ∷ []) ≡ false → NoElse (prepend x rest)
 no_else (group v b) (open_to_end items) h = record { inside = refl; outmost = refl }
 no_else (group v b) (closed items bracket outer) h = record { inside = refl; outmost = refl }
 no_else (token Else) rest h = absurd (cc h)

@@ -44,26 +44,26 @@ role_of _ = Plain
 
 -- What stands directly in a group, or outside all of them: a token, or a whole group, by its value and by whether a `}`
 -- closes it.
-pub data Item : Type 0 where
-  token : Role → Item
-  group : ℕ → Bool → Item
+pub data GroupItem : Type 0 where
+  token : Role → GroupItem
+  group : ℕ → Bool → GroupItem
 
 -- Behind a `;`, a `,` and a group that a `}` closes a segment ends ..
-abbrev pub ends : Item → Bool
+abbrev pub ends : GroupItem → Bool
 ends (token Separates) = true
 ends (token _) = false
 ends (group value brace) = brace
 
 -- .. except before `else`. (Behind an item stands the next item, or a bracket that closes the group, or nothing.)
-abbrev pub begins_else : List Item → Bool
+abbrev pub begins_else : List GroupItem → Bool
 begins_else (token Else ∷ items) = true
 begins_else _ = false
 
-abbrev pub add_to_first : Item → List (List Item) → List (List Item)
+abbrev pub add_to_first : GroupItem → List (List GroupItem) → List (List GroupItem)
 add_to_first item [] = (item ∷ []) ∷ []
 add_to_first item (segment ∷ segments) = (item ∷ segment) ∷ segments
 
-abbrev pub segments : List Item → List (List Item)
+abbrev pub segments : List GroupItem → List (List GroupItem)
 segments [] = []
 segments (item ∷ items) =
     if ends item && not (begins_else items) then (item ∷ []) ∷ segments items else add_to_first item (segments items)
@@ -71,16 +71,16 @@ segments (item ∷ items) =
 -- ---- costs
 
 -- An opening bracket counts, and stands for its group here.
-abbrev pub count_of_item : Item → ℕ
+abbrev pub count_of_item : GroupItem → ℕ
 count_of_item (token Counts) = 1
 count_of_item (token _) = 0
 count_of_item (group value brace) = 1
 
-abbrev pub value_of : Item → ℕ
+abbrev pub value_of : GroupItem → ℕ
 value_of (token role) = 0
 value_of (group value brace) = value
 
-abbrev pub count : List Item → ℕ
+abbrev pub count : List GroupItem → ℕ
 count [] = 0
 count (item ∷ items) = count_of_item item + count items
 
@@ -89,11 +89,11 @@ abbrev pub greatest : List ℕ → ℕ
 greatest [] = 0
 greatest (n ∷ ns) = max n (greatest ns)
 
-abbrev pub cost : List Item → ℕ
+abbrev pub cost : List GroupItem → ℕ
 cost segment = count segment + greatest (map value_of segment)
 
 -- the greatest cost of the segments: the value of the group that these items stand in
-abbrev pub value : List Item → ℕ
+abbrev pub value : List GroupItem → ℕ
 value items = greatest (map cost (segments items))
 
 -- ---- groups
@@ -102,11 +102,11 @@ value items = greatest (map cost (segments items))
 -- closes that group, the bracket, and what follows it as it stands to the group around. Where no bracket does, the
 -- group ends with the tokens.
 pub data Levels : Type 0 where
-  open_to_end : List Item → Levels
-  closed : List Item → Role → Levels → Levels
+  open_to_end : List GroupItem → Levels
+  closed : List GroupItem → Role → Levels → Levels
 
 -- the items of the group that is open
-abbrev pub inner : Levels → List Item
+abbrev pub inner : Levels → List GroupItem
 inner (open_to_end items) = items
 inner (closed items bracket outer) = items
 
@@ -124,7 +124,7 @@ abbrev pub around : Levels → Levels
 around (open_to_end items) = open_to_end []
 around (closed items bracket outer) = outer
 
-abbrev pub prepend : Item → Levels → Levels
+abbrev pub prepend : GroupItem → Levels → Levels
 prepend item (open_to_end items) = open_to_end (item ∷ items)
 prepend item (closed items bracket outer) = closed (item ∷ items) bracket outer
 
@@ -140,7 +140,7 @@ levels [] = open_to_end []
 levels (role ∷ roles) = place role (levels roles)
 
 -- What stands outside all groups. A bracket that closes no group is a token there.
-abbrev pub outside : Levels → List Item
+abbrev pub outside : Levels → List GroupItem
 outside (open_to_end items) = items
 outside (closed items bracket rest) = items ++ token bracket ∷ outside rest
 

@@ -10,16 +10,16 @@ use Rattle.c_judgements.specs.Leaves.{leaf}
 use Rattle.c_judgements.specs.Types.{State}
 use Rattle.c_expressions.specs.Expressions.{judge, derive}
 
-pub record Adds (n later : Notes) : Type 0 where
+pub record OnlyAdds (n later : Notes) : Type 0 where
   pub more : List StructDef
   pub same : later.structs ≡ n.structs ++ more
 
 abbrev pub ExpressionsAddStructs : Type 0
-ExpressionsAddStructs = (x : Expr) (s : State) → Adds s.1 (judge x s).1.1
+ExpressionsAddStructs = (x : Expr) (s : State) → OnlyAdds s.1 (judge x s).1.1
 
 abbrev pub SpecifiersAddStructs : Type 0
-SpecifiersAddStructs = (env : Env) (at : ℕ) (node : TypeNode) (n : Notes) → Adds n (leaf env at node n).1
+SpecifiersAddStructs = (env : Env) (at : ℕ) (node : TypeNode) (n : Notes) → OnlyAdds n (leaf env at node n).1
 
 abbrev pub DeclaratorsAddStructs : Type 0
 DeclaratorsAddStructs =
-    (at : ℕ) (node : TypeNode) (of : Option DeclaredType) (s : State) → Adds s.1 (derive at node of s).1.1
+    (at : ℕ) (node : TypeNode) (of : Option DeclaredType) (s : State) → OnlyAdds s.1 (derive at node of s).1.1

@@ -11,7 +11,7 @@ ghost use Rattle.c_parser.specs.model.Gives.{Gives};
 
 use crate::fault::ParseFault;
 use crate::units::externals;
-use c_expression_parser::{Scope, Tokens};
+use c_expression_parser::{Tokens, TypedefScope};
 use c_lexer::Token;
 use c_nesting::{nesting_of, tokens};
 use c_tree::{TranslationUnit, is_within_height};
@@ -59,7 +59,7 @@ fn unit_of(alloc: Global, text: &[u8], tokens: &[Token]) -> Result<TranslationUn
     ensures height { IfOk result (λ unit. unit_height unit ≤ most_height) }
 {
     let length = text.len() as u32;
-    let mut scope = Scope::new(alloc);
+    let mut scope = TypedefScope::new(alloc);
     let mut cursor = Tokens::new(text, tokens);
     match externals(alloc, &mut scope, &mut cursor) {
         Ok(externals) => low_enough(TranslationUnit { externals, length }),

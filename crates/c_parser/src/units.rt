@@ -9,7 +9,9 @@ ghost use Rattle.c_parser.specs.model.Answers.{AnswersIn, AnswersUnit};
 ghost use Rattle.c_parser.specs.model.Parts as parts;
 ghost use Rattle.c_grammar.specs.Units.{external_of, is_function};
 
-use c_expression_parser::{ParseStop, Scope, SpecifierType, Tokens, declarator, expr, with_shapes};
+use c_expression_parser::{
+    ParseStop, SpecifierType, Tokens, TypedefScope, declarator, expr, with_shapes,
+};
 use c_grammar::{Declarator, DeclaredName, Naming, Opening, Shape, levels, opening_of};
 use c_lexer::Punct;
 use c_statement_parser::{append, declaration, items, specifier};
@@ -21,7 +23,7 @@ use std::alloc::{AllocError, Global};
 #[tactic(auto, using(c_statement_parser::proofs::Loops::braced_turn, c_statement_parser::proofs::Loops::braced_end))]
 fn inits(
     alloc: Global,
-    scope: &Scope,
+    scope: &TypedefScope,
     tokens: &mut Tokens<'_>,
     depth: usize,
 ) -> Result<Seq<Init>, ParseStop>
@@ -47,7 +49,7 @@ fn inits(
 #[tactic(auto, using(crate::proofs::Deeper::init_deeper), unfolding(crate::proofs::Opens::initialiser))]
 fn init(
     alloc: Global,
-    scope: &Scope,
+    scope: &TypedefScope,
     tokens: &mut Tokens<'_>,
     depth: usize,
 ) -> Result<Init, ParseStop>
@@ -71,7 +73,7 @@ fn init(
 #[tactic(auto, unfolding(crate::specs::model::Parts::typedef_declarator))]
 fn typedef_declarator(
     alloc: Global,
-    scope: &mut Scope,
+    scope: &mut TypedefScope,
     tokens: &mut Tokens<'_>,
     depth: usize,
     base: SpecifierType,
@@ -88,7 +90,7 @@ fn typedef_declarator(
 #[tactic(auto, using(crate::proofs::Loops::typedefs_turn, crate::proofs::Loops::typedefs_end))]
 fn typedef_declarators(
     alloc: Global,
-    scope: &mut Scope,
+    scope: &mut TypedefScope,
     tokens: &mut Tokens<'_>,
     depth: usize,
     base: SpecifierType,
@@ -115,7 +117,7 @@ fn typedef_declarators(
 #[tactic(auto, unfolding(c_grammar::specs::ParseUnits::typedefs))]
 fn typedefs(
     alloc: Global,
-    scope: &mut Scope,
+    scope: &mut TypedefScope,
     tokens: &mut Tokens<'_>,
     depth: usize,
 ) -> Result<Seq<External>, ParseStop>
@@ -205,7 +207,7 @@ fn init_of(init: Option<Box<Init>>) -> Option<Init>
 #[tactic(auto, unfolding(c_grammar::specs::ParseUnits::object_by))]
 fn object(
     alloc: Global,
-    scope: &Scope,
+    scope: &TypedefScope,
     tokens: &mut Tokens<'_>,
     depth: usize,
     storage: Option<Storage>,
@@ -226,7 +228,7 @@ fn object(
 #[tactic(auto, unfolding(crate::specs::model::Parts::object_declarator))]
 fn object_declarator(
     alloc: Global,
-    scope: &Scope,
+    scope: &TypedefScope,
     tokens: &mut Tokens<'_>,
     depth: usize,
     storage: Option<Storage>,
@@ -252,7 +254,7 @@ fn object_declarator(
 #[tactic(auto, using(crate::proofs::Loops::objects_turn, crate::proofs::Loops::objects_end))]
 fn objects(
     alloc: Global,
-    scope: &Scope,
+    scope: &TypedefScope,
     tokens: &mut Tokens<'_>,
     depth: usize,
     storage: Option<Storage>,
@@ -280,7 +282,7 @@ fn objects(
 #[tactic(auto, unfolding(c_grammar::specs::ParseUnits::objects_behind))]
 fn objects_behind(
     alloc: Global,
-    scope: &Scope,
+    scope: &TypedefScope,
     tokens: &mut Tokens<'_>,
     depth: usize,
     storage: Option<Storage>,
@@ -304,7 +306,7 @@ fn objects_behind(
 #[tactic(auto, unfolding(c_grammar::specs::ParseUnits::body_behind))]
 fn body_behind(
     alloc: Global,
-    scope: &Scope,
+    scope: &TypedefScope,
     tokens: &mut Tokens<'_>,
     depth: usize,
     storage: Option<Storage>,
@@ -326,7 +328,7 @@ fn body_behind(
 #[tactic(auto, unfolding(c_grammar::specs::ParseUnits::objects_named))]
 fn objects_or_body(
     alloc: Global,
-    scope: &Scope,
+    scope: &TypedefScope,
     tokens: &mut Tokens<'_>,
     depth: usize,
     storage: Option<Storage>,
@@ -351,7 +353,7 @@ fn objects_or_body(
 #[tactic(auto, unfolding(c_grammar::specs::ParseUnits::behind_type))]
 fn behind_type(
     alloc: Global,
-    scope: &Scope,
+    scope: &TypedefScope,
     tokens: &mut Tokens<'_>,
     depth: usize,
     storage: Option<Storage>,
@@ -380,7 +382,7 @@ fn behind_type(
 #[tactic(auto, unfolding(c_grammar::specs::ParseUnits::behind_storage))]
 fn behind_storage(
     alloc: Global,
-    scope: &Scope,
+    scope: &TypedefScope,
     tokens: &mut Tokens<'_>,
     depth: usize,
     storage: Option<Storage>,
@@ -395,7 +397,7 @@ fn behind_storage(
 #[tactic(auto, unfolding(c_grammar::specs::ParseUnits::external))]
 fn external(
     alloc: Global,
-    scope: &mut Scope,
+    scope: &mut TypedefScope,
     tokens: &mut Tokens<'_>,
     depth: usize,
 ) -> Result<Seq<External>, ParseStop>
@@ -422,7 +424,7 @@ fn external(
 #[tactic(auto, using(crate::proofs::Loops::externals_loop))]
 pub fn externals(
     alloc: Global,
-    scope: &mut Scope,
+    scope: &mut TypedefScope,
     tokens: &mut Tokens<'_>,
 ) -> Result<Seq<External>, ParseStop>
     ensures { AnswersUnit (model.externals_from (length tokens.old) scope.old [] tokens.old) result tokens.new }

@@ -10,8 +10,8 @@ use Rattle.c_typed_tree.specs.Layout.{size_of, is_object}
 use Rattle.c_typed_tree.specs.View.{type_view}
 use Rattle.c_type_faults.specs.declared.faults.Kind.TheVariants.{BadOperand, NoMember}
 use Rattle.c_place_rules.specs.declared.members.FoundMember.{FoundMember}
-use Rattle.c_type_rules.specs.declared.typed.Place.{Place}
-use Rattle.c_type_rules.specs.declared.typed.Place.TheVariants as p
+use Rattle.c_type_rules.specs.declared.typed.PlaceKind.{PlaceKind}
+use Rattle.c_type_rules.specs.declared.typed.PlaceKind.TheVariants as p
 use Rattle.c_type_rules.specs.declared.typed.TypedExpression.{TypedExpression}
 use Rattle.c_type_rules.specs.Rulings.{Ruling, fault}
 use Rattle.c_typed_tree.specs.Typing.{is_struct}
@@ -21,7 +21,7 @@ use Rattle.c_place_rules.specs.Places.{is_somewhere, led_to}
 
 -- ---- `.` of a place of struct type: the member of a local is that local's, as one takes its address
 
-abbrev pub place_of_member : Place → Place
+abbrev pub place_of_member : PlaceKind → PlaceKind
 place_of_member p.Nowhere = p.Nowhere
 place_of_member (p.Local number) = p.Local number
 place_of_member (p.Global number) = p.Elsewhere

@@ -8,8 +8,8 @@ use Rattle.c_typed_tree.specs.declared.types.StructDef.{StructDef}
 use Rattle.c_typed_tree.specs.declared.expressions.TExpr as x
 use Rattle.c_typed_tree.specs.View.{type_view}
 use Rattle.c_type_faults.specs.declared.faults.Kind.TheVariants.{BadOperand, NotAssignable}
-use Rattle.c_type_rules.specs.declared.typed.Place.{Place}
-use Rattle.c_type_rules.specs.declared.typed.Place.TheVariants as p
+use Rattle.c_type_rules.specs.declared.typed.PlaceKind.{PlaceKind}
+use Rattle.c_type_rules.specs.declared.typed.PlaceKind.TheVariants as p
 use Rattle.c_type_rules.specs.declared.typed.TypedExpression.{TypedExpression}
 use Rattle.c_type_rules.specs.Rulings.{Ruling, fault}
 use Rattle.c_typed_tree.specs.Constants.{is_integer}
@@ -59,7 +59,7 @@ index ds at a b =
 
 -- ---- addresses, and what may be changed
 
-abbrev pub is_somewhere : Place → Bool
+abbrev pub is_somewhere : PlaceKind → Bool
 is_somewhere p.Nowhere = false
 is_somewhere (p.Local number) = true
 is_somewhere (p.Global number) = true

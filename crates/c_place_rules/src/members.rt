@@ -10,7 +10,7 @@ use c_arithmetic::integer_type::IntegerType;
 use c_tree::Box;
 use c_type_faults::Kind;
 use c_type_rules::types::{integer_type, is_object, is_struct, points_to_struct};
-use c_type_rules::{Place, Refusal, TypedExpression, refuse, value};
+use c_type_rules::{PlaceKind, Refusal, TypedExpression, refuse, value};
 use c_typed_tree::layout::size_of;
 use c_typed_tree::{CType, StructDef, TExpr};
 use std::alloc::{AllocError, Global};
@@ -23,14 +23,14 @@ pub struct FoundMember {
     pub ty: CType,
 }
 
-fn place_of_member(place: Place) -> Place
+fn place_of_member(place: PlaceKind) -> PlaceKind
     ensures { result ≡ spec.place_of_member place }
 {
     match place {
-        Place::Nowhere => Place::Nowhere,
-        Place::Local(number) => Place::Local(number),
-        Place::Global(_) => Place::Elsewhere,
-        Place::Elsewhere => Place::Elsewhere,
+        PlaceKind::Nowhere => PlaceKind::Nowhere,
+        PlaceKind::Local(number) => PlaceKind::Local(number),
+        PlaceKind::Global(_) => PlaceKind::Elsewhere,
+        PlaceKind::Elsewhere => PlaceKind::Elsewhere,
     }
 }
 

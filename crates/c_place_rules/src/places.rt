@@ -8,7 +8,7 @@ use c_tree::{Box, StepOp, UnaryOp};
 use c_type_faults::Kind;
 use c_type_rules::trees::unary;
 use c_type_rules::types::{is_integer, is_scalar, is_struct, points_to_object};
-use c_type_rules::{Place, Refusal, TypedExpression, refuse, value};
+use c_type_rules::{PlaceKind, Refusal, TypedExpression, refuse, value};
 use c_typed_tree::{CType, StructDef, TExpr};
 use std::alloc::{AllocError, Global};
 
@@ -43,7 +43,7 @@ pub(crate) fn led_to(at: u32, ty: CType, tree: Box<TExpr>) -> TypedExpression
         at,
         tree,
         ty,
-        place: Place::Elsewhere,
+        place: PlaceKind::Elsewhere,
     }
 }
 
@@ -138,14 +138,14 @@ pub fn index(
     element_by_index(alloc, at, a, b, is_index, object)
 }
 
-pub(crate) fn is_somewhere(place: Place) -> bool
+pub(crate) fn is_somewhere(place: PlaceKind) -> bool
     ensures { result ≡ spec.is_somewhere place }
 {
     match place {
-        Place::Nowhere => false,
-        Place::Local(_) => true,
-        Place::Global(_) => true,
-        Place::Elsewhere => true,
+        PlaceKind::Nowhere => false,
+        PlaceKind::Local(_) => true,
+        PlaceKind::Global(_) => true,
+        PlaceKind::Elsewhere => true,
     }
 }
 

@@ -7,7 +7,7 @@ use Rattle.c_literals.specs.Characters.{character}
 use Rattle.c_typed_tree.specs.declared.types.CType as t
 use Rattle.c_typed_tree.specs.declared.expressions.TExpr as x
 use Rattle.c_type_faults.specs.declared.faults.Kind.TheVariants.{BadLiteral}
-use Rattle.c_type_rules.specs.declared.typed.Place.TheVariants as p
+use Rattle.c_type_rules.specs.declared.typed.PlaceKind.TheVariants as p
 use Rattle.c_type_rules.specs.declared.typed.TypedExpression.{TypedExpression}
 use Rattle.c_type_rules.specs.Rulings.{Ruling, fault}
 use Rattle.c_type_rules.specs.Values.{integer_type}

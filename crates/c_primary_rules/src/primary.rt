@@ -11,7 +11,7 @@ use c_place_rules::members::number;
 use c_tree::Box;
 use c_type_faults::Kind;
 use c_type_rules::types::integer_type;
-use c_type_rules::{Place, Refusal, TypedExpression, refuse};
+use c_type_rules::{PlaceKind, Refusal, TypedExpression, refuse};
 use c_typed_tree::{CType, TExpr};
 use std::alloc::{AllocError, Global};
 
@@ -67,7 +67,7 @@ pub fn local(alloc: Global, at: u32, number: u32, of: &CType) -> Result<TypedExp
         at,
         tree,
         ty,
-        place: Place::Local(number),
+        place: PlaceKind::Local(number),
     })
 }
 
@@ -93,7 +93,7 @@ pub fn object(
         at,
         tree,
         ty,
-        place: Place::Global(number),
+        place: PlaceKind::Global(number),
     })
 }
 

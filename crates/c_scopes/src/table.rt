@@ -20,14 +20,14 @@ struct Declaration<'a, T> {
 
 /// Names with what they mean. Contracts see them with the newest first. The names are borrowed, so none is copied.
 #[derive(Drop)]
-pub struct Table<'a, T> {
+pub struct NameTable<'a, T> {
     /// With the oldest first.
     list: Vec<Declaration<'a, T>>,
     /// The place of the newest of each name. A name that is gone has none.
     newest: IndexMap<&'a [u8], Option<usize>>,
 }
 
-impl<'a, T> Model for Table<'a, T> {
+impl<'a, T> Model for NameTable<'a, T> {
     ghost use Rattle.std.specs.Prelude.{List, ℕ, reverse};
     ghost use Rattle.c_scopes.specs.Names.{Entry};
 
@@ -50,12 +50,12 @@ fn set_place<'a>(newest: &mut IndexMap<&'a [u8], Option<usize>>, name: &[u8], pl
     }
 }
 
-impl<'a, T: Drop> Table<'a, T> {
+impl<'a, T: Drop> NameTable<'a, T> {
     /// No names.
-    pub fn new(alloc: Global) -> Table<'a, T>
+    pub fn new(alloc: Global) -> NameTable<'a, T>
         ensures { result ≡ [] }
     {
-        Table {
+        NameTable {
             list: Vec::new(alloc),
             newest: IndexMap::new(alloc),
         }

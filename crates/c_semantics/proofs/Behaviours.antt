@@ -9,9 +9,9 @@ use Rattle.data_object.specs.Start.{start_memory}
 use Rattle.c_typed_tree.specs.declared.units.TypedFn.{TypedFn}
 use Rattle.c_typed_tree.specs.declared.units.TypedUnit.{TypedUnit}
 use Rattle.c_mean.specs.Behaviour as b
-use Rattle.c_mean.specs.Behaviour.{Behaviour, output_of}
-use Rattle.c_semantics.specs.Runs.{State}
-use Rattle.c_semantics.specs.Executes.{Flow, Goes, Breaks, Continues, Returns, level, enter_function, leave_function}
+use Rattle.c_mean.specs.Behaviour.{CBehaviour, output_of}
+use Rattle.c_semantics.specs.Runs.{CallState}
+use Rattle.c_semantics.specs.Executes.{StatementFlow, Goes, Breaks, Continues, Returns, level, enter_function, leave_function}
 use Rattle.c_semantics.specs.Behaves.{world_of, status_of, ended_by, ending_of, run_of, main_of, run, rooms_of, behaviour_of, behave_c}
 use Rattle.c_semantics.specs.Laws.{EndingsStay, OutputsGrow, PeaksRise, OneEnding, TurnsAreOne}
 use Rattle.c_semantics.proofs.Grown.{Starts, starts_same, Later, Reaches, more_turns, Grows}
@@ -29,7 +29,7 @@ status_grows d w (Word n) = refl
 status_grows d w (Address p) = refl
 status_grows d w Unset = refl
 
-ended_grows : (d : ℕ) (w : World) (f : Flow) → EndGrows d (ended_by w f) (ended_by (more_turns d w) f)
+ended_grows : (d : ℕ) (w : World) (f : StatementFlow) → EndGrows d (ended_by w f) (ended_by (more_turns d w) f)
 ended_grows d w (Returns (Some v)) = status_grows d w v
 ended_grows d w (Returns None) = refl
 ended_grows d w Goes = refl
@@ -41,7 +41,7 @@ status_world w (Word n) = refl
 status_world w (Address p) = refl
 status_world w Unset = refl
 
-ended_world : (w : World) (f : Flow) → ending_world (ended_by w f) ≡ w
+ended_world : (w : World) (f : StatementFlow) → ending_world (ended_by w f) ≡ w
 ended_world w (Returns (Some v)) = status_world w v
 ended_world w (Returns None) = refl
 ended_world w Goes = refl
@@ -51,11 +51,11 @@ ended_world w Continues = refl
 later_left : (rooms : Rooms) (n : ℕ) (v w : World) → Later v w → Later v (leave_function rooms n w)
 later_left rooms n v w h = record { output = h.output; peak = h.peak }
 
-reaches_ending : (rooms : Rooms) (n : ℕ) (w : World) (r : Evaluation Flow State) → Reaches w r → Later w (ending_world (ending_of (leave_function rooms n) r))
+reaches_ending : (rooms : Rooms) (n : ℕ) (w : World) (r : Evaluation StatementFlow CallState) → Reaches w r → Later w (ending_world (ending_of (leave_function rooms n) r))
 reaches_ending rooms n w (Gives f s) h = subst (Later w) (sym (ended_world (leave_function rooms n s.world) f)) (later_left rooms n w s.world h)
 reaches_ending rooms n w (Ends e) h = h
 
-ending_grows : (rooms : Rooms) (n d : ℕ) (r r' : Evaluation Flow State) → Grows d r r' → EndGrows d (ending_of (leave_function rooms n) r) (ending_of (leave_function rooms n) r')
+ending_grows : (rooms : Rooms) (n d : ℕ) (r r' : Evaluation StatementFlow CallState) → Grows d r r' → EndGrows d (ending_of (leave_function rooms n) r) (ending_of (leave_function rooms n) r')
 ending_grows rooms n d (Gives f s) r' g =
     subst (λ x. EndGrows d (ended_by (leave_function rooms n s.world) f) (ending_of (leave_function rooms n) x)) (sym g) (ended_grows d (leave_function rooms n s.world) f)
 ending_grows rooms n d (Ends (Done w status)) r' g = ap (ending_of (leave_function rooms n)) g

@@ -8,7 +8,7 @@ use Rattle.mem_model.specs.Memory.{Memory, begin_object}
 use Rattle.mem_model.specs.World.{Rooms, room_of, with_memory, turn_from}
 use Rattle.mem_model.specs.Ending.{Done, Trap, Undefined, More, Evaluation, Gives, Ends}
 use Rattle.c_semantics.specs.Reasons.{Reason}
-use Rattle.c_semantics.specs.Runs.{State, in_world, Run, and_then, ◌>>=◌, pure, undefined, trap, exit, no_turn, spend_turn, turn, on_memory, set_memory, use_value, read_register, write_register}
+use Rattle.c_semantics.specs.Runs.{CallState, in_world, Run, and_then, ◌>>=◌, pure, undefined, trap, exit, no_turn, spend_turn, turn, on_memory, set_memory, use_value, read_register, write_register}
 use Rattle.c_semantics.specs.Objects.{Scope, with_object, with_local_object}
 use Rattle.c_semantics.specs.Evaluates.{put, get}
 use Rattle.c_semantics.specs.Executes.{enter_function, within_call}
@@ -17,7 +17,7 @@ use Rattle.c_semantics.proofs.Forms.{Congruence}
 
 -- ---- evaluations
 
-pub below_same : {A : Type 0} (e : Evaluation A State) → GivesBelow e e
+pub below_same : {A : Type 0} (e : Evaluation A CallState) → GivesBelow e e
 below_same (Gives a s) = record { peak = s.world.meter.peak; low = omega arith; holds = refl }
 below_same (Ends (Done w status)) = record { peak = w.meter.peak; low = omega arith; holds = refl }
 below_same (Ends (Trap w code)) = record { peak = w.meter.peak; low = omega arith; holds = refl }
@@ -27,14 +27,14 @@ below_same (Ends (More w)) = record { peak = w.meter.peak; low = omega arith; ho
 lower_still : {P Q : ℕ → Type 0} (most : ℕ) (h : WithPeak most P) → WithPeak h.peak Q → WithPeak most Q
 lower_still most h g = record { peak = g.peak; low = omega (arith, g.low, h.low); holds = g.holds }
 
-pub gives_on : {A : Type 0} (c d e : Evaluation A State) → GivesBelow c d → GivesBelow d e → GivesBelow c e
+pub gives_on : {A : Type 0} (c d e : Evaluation A CallState) → GivesBelow c d → GivesBelow d e → GivesBelow c e
 gives_on c d (Ends (Undefined w at)) h g = tt
 gives_on c d (Gives a t) h g = lower_still _ g (subst (GivesBelow c) g.holds h)
 gives_on c d (Ends (Done w status)) h g = lower_still _ g (subst (GivesBelow c) g.holds h)
 gives_on c d (Ends (Trap w code)) h g = lower_still _ g (subst (GivesBelow c) g.holds h)
 gives_on c d (Ends (More w)) h g = lower_still _ g (subst (GivesBelow c) g.holds h)
 
-pub gives_then : {A B : Type 0} (c d : Evaluation A State) (k l : A → Run B) → GivesBelow c d → ((a : A) → IsBelow (k a) (l a)) → GivesBelow (and_then c k) (and_then d l)
+pub gives_then : {A B : Type 0} (c d : Evaluation A CallState) (k l : A → Run B) → GivesBelow c d → ((a : A) → IsBelow (k a) (l a)) → GivesBelow (and_then c k) (and_then d l)
 gives_then c (Gives a t) k l h g = subst (λ x. GivesBelow (and_then x k) (l a t)) (sym h.holds) ((g a).by t h.peak h.low)
 gives_then c (Ends (Done w status)) k l h g = record { peak = h.peak; low = h.low; holds = ap (λ x. and_then x k) h.holds }
 gives_then c (Ends (Trap w code)) k l h g = record { peak = h.peak; low = h.low; holds = ap (λ x. and_then x k) h.holds }
@@ -54,7 +54,7 @@ refines_below {c = c} {d = d} g h = record {
   by = λ s p l. gives_on (c (lower_peak p s)) (d (lower_peak p s)) (d s) (h.by (lower_peak p s)) (g.by s p l);
 }
 
-same_state : (s : State) → lower_peak s.world.meter.peak s ≡ s
+same_state : (s : CallState) → lower_peak s.world.meter.peak s ≡ s
 same_state s = refl
 
 pub below_refines : {A : Type 0} {c d : Run A} → IsBelow c d → RunRefines c d
@@ -110,7 +110,7 @@ pub no_turn_below : {A : Type 0} → IsBelow (no_turn {A = A}) no_turn
 unfolding no_turn
 no_turn_below = record { by = λ s p l. record { peak = p; low = l; holds = refl } }
 
-turned_below : (n p : ℕ) (s : State) → p ≤ s.world.meter.peak
+turned_below : (n p : ℕ) (s : CallState) → p ≤ s.world.meter.peak
     → GivesBelow (spend_turn (turn_from n (lower_peak p s).world.meter) (lower_peak p s)) (spend_turn (turn_from n s.world.meter) s)
 unfolding no_turn
 turned_below zero p s l = record { peak = p; low = l; holds = refl }
@@ -141,7 +141,7 @@ object_below size k {run = run} {other = other} scope g = record {
 call_below : {A : Type 0} (rooms : Rooms) (n : ℕ) {run other : Run A} → IsBelow run other → IsBelow (within_call rooms n run) (within_call rooms n other)
 call_below rooms n {run = run} {other = other} g = record {
   by = λ s p l.
-      let t : State = record { registers = λ k. Unset; world = enter_function rooms n s.world } in
+      let t : CallState = record { registers = λ k. Unset; world = enter_function rooms n s.world } in
       let q = max p (s.world.meter.room + room_of rooms n) in
       gives_then (run (lower_peak q t)) (other t) _ _ (g.by t q (omega (arith, l)))
       (λ a. record { by = λ u i m. record { peak = i; low = m; holds = refl } });

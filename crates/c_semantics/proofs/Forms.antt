@@ -20,8 +20,8 @@ use Rattle.c_typed_tree.specs.Layout.{size_of, align_of}
 use Rattle.c_semantics.specs.Reasons.{Reason, ComparesApart, ComparesAtEnd}
 use Rattle.c_semantics.specs.Runs as r
 use Rattle.c_semantics.specs.Evaluates as w
-use Rattle.c_semantics.specs.Runs.{Run, State, ◌>>=◌, pure, undefined, trap, exit, turn, on_memory, set_memory, or_undefined, use_value, number, read_register, write_register}
-use Rattle.c_semantics.specs.Objects.{Place, Register, At, Scope, integer_of, access, load, store, copy_cells, copy, as_integer, as_held, call_result, read_at, read, write_at, write, pointer_to, move_reason, move, element_plus, move_elements, move_by, local_place, with_local, with_locals, offset_of, no_scope, with_local_object}
+use Rattle.c_semantics.specs.Runs.{Run, CallState, ◌>>=◌, pure, undefined, trap, exit, turn, on_memory, set_memory, or_undefined, use_value, number, read_register, write_register}
+use Rattle.c_semantics.specs.Objects.{ValuePlace, Register, At, Scope, integer_of, access, load, store, copy_cells, copy, as_integer, as_held, call_result, read_at, read, write_at, write, pointer_to, move_reason, move, element_plus, move_elements, move_by, local_place, with_local, with_locals, offset_of, no_scope, with_local_object}
 use Rattle.c_semantics.specs.Operators.{unless_dead, outcome, integers, convert_word, compare_by, pure_truth, bytes_between, distance, pointers, pointer_and_integer, with_integer, with_pointer, binary, unary, test_in, test, convert, operation_type, combined_in, combine, step_operator, one_type, step_value, operator_of}
 use Rattle.mem_model.specs.World.{Rooms}
 use Rattle.c_typed_tree.specs.declared.expressions.Builtin.{Builtin}
@@ -31,7 +31,7 @@ use Rattle.c_typed_tree.specs.Expressions.{Expr, Number, Global, Call, Unary, Bi
 use Rattle.c_typed_tree.specs.Statements.{LocalDeclaration, First, Stmt, Else, no_else, else_stmt, Stmts, no_stmts, more_stmts, Sections, no_sections, more_sections}
 use Rattle.c_typed_tree.specs.View.{type_view, stmt_view}
 use Rattle.c_semantics.specs.Evaluates.{put, get, builtin, Functions, call, element, member_at, target_of, update, assign, choose, converted_from, eval, place, evals, last_of}
-use Rattle.c_semantics.specs.Executes.{Flow, Goes, Breaks, Continues, Returns, after_body, and_next, after_switch, declared_in, declared_first, is_label_of, target_in, with_parameters, value_of_call, body_of, holds, condition, step, initialise, declare, declares, first, return_value, exec, exec_else, execs, exec_sections, exec_from, within_call, Level, call_of}
+use Rattle.c_semantics.specs.Executes.{StatementFlow, Goes, Breaks, Continues, Returns, after_body, and_next, after_switch, declared_in, declared_first, is_label_of, target_in, with_parameters, value_of_call, body_of, holds, condition, step, initialise, declare, declares, first, return_value, exec, exec_else, execs, exec_sections, exec_from, within_call, Level, call_of}
 use Rattle.c_typed_tree.specs.Lawful.{is_main}
 use Rattle.c_arithmetic.specs.declared.outcome.ArithmeticOutcome.TheVariants as o
 use Rattle.c_tree.specs.declared.expressions.UnaryOp.TheVariants as u
@@ -134,7 +134,7 @@ module _ (R : (A : Type 0) → Run A → Run A → Type 0) (kept : Congruence R)
   steady_given ty (Word n) = steady_as_held ty (Word n)
   steady_given ty (Address p) = steady_as_held ty (Address p)
 
-  pub steady_read_place : (ty : PlainType) (p : Place) → Itself (read ty p)
+  pub steady_read_place : (ty : PlainType) (p : ValuePlace) → Itself (read ty p)
   steady_read_place ty (Register k) = kept.bind (kept.register k) (steady_as_held ty)
   steady_read_place ty (At p) = steady_read_at ty p
 
@@ -145,11 +145,11 @@ module _ (R : (A : Type 0) → Run A → Run A → Type 0) (kept : Congruence R)
   steady_write_at ds (Array element n) p v = kept.undefined _
   steady_write_at ds (Struct n) p v = steady_copy (size_of ds (Struct n)) (align_of ds (Struct n)) p v
 
-  pub steady_write_place : (ds : List StructDef) (ty : PlainType) (p : Place) (v : Value) → Itself (write ds ty p v)
+  pub steady_write_place : (ds : List StructDef) (ty : PlainType) (p : ValuePlace) (v : Value) → Itself (write ds ty p v)
   steady_write_place ds ty (Register k) v = kept.bind (steady_used _ v) (kept.write k)
   steady_write_place ds ty (At p) v = steady_write_at ds ty p v
 
-  pub steady_pointer : (p : Place) → Itself (pointer_to p)
+  pub steady_pointer : (p : ValuePlace) → Itself (pointer_to p)
   steady_pointer (Register k) = kept.undefined _
   steady_pointer (At p) = kept.pure p
 
@@ -363,18 +363,18 @@ module _ (R : (A : Type 0) → Run A → Run A → Type 0) (kept : Congruence R)
   steady_element ds (Struct n) (Struct m) v w = kept.undefined _
 
   pub related_update : (ds : List StructDef) (ty : PlainType) {change : Value → Run Value} (pick : Value → Value → Value) → ((v : Value) → Itself (change v))
-      → (p : Place) → Itself (update ds ty change pick p)
+      → (p : ValuePlace) → Itself (update ds ty change pick p)
   related_update ds ty pick g p =
       kept.bind (steady_read_place ty p) (λ v. kept.bind (g v) (λ w. kept.bind (steady_write_place ds ty p w) (λ _. kept.pure _)))
 
-  pub steady_assign : (ds : List StructDef) (left right : PlainType) (op : Option BinaryOp) (p : Place) (v : Value) → Itself (assign ds left right op p v)
+  pub steady_assign : (ds : List StructDef) (left right : PlainType) (op : Option BinaryOp) (p : ValuePlace) (v : Value) → Itself (assign ds left right op p v)
   steady_assign ds left right None p v = kept.bind (steady_write_place ds left p v) (λ _. kept.pure _)
   steady_assign ds left right (Some op) p v = related_update ds left _ (λ old. steady_combined ds op left right old v) p
 
   pub related_choose : {A : Type 0} {a a' b b' : Run A} → Related a a' → Related b b' → (t : Bool) → Related (choose a b t) (choose a' b' t)
   related_choose g h t = related_if t g h
 
-  pub related_converted : (from to : PlainType) {v v' : Run Value} {p p' : Run Place} → Related v v' → Related p p' → Related (converted_from from to v p) (converted_from from to v' p')
+  pub related_converted : (from to : PlainType) {v v' : Run Value} {p p' : Run ValuePlace} → Related v v' → Related p p' → Related (converted_from from to v p) (converted_from from to v' p')
   related_converted Void to g h = kept.bind g (steady_convert Void to)
   related_converted (Int n s) to g h = kept.bind g (steady_convert (Int n s) to)
   related_converted (Pointer t) to g h = kept.bind g (steady_convert (Pointer t) to)
@@ -513,26 +513,26 @@ module _ (R : (A : Type 0) → Run A → Run A → Type 0) (kept : Congruence R)
 
   -- ---- statements
 
-  pub related_after : {a a' : Run Flow} → Related a a' → (flow : Flow) → Related (after_body a flow) (after_body a' flow)
+  pub related_after : {a a' : Run StatementFlow} → Related a a' → (flow : StatementFlow) → Related (after_body a flow) (after_body a' flow)
   related_after g Goes = g
   related_after g Continues = g
   related_after g Breaks = kept.pure _
   related_after g (Returns v) = kept.pure _
 
-  pub related_next : {a a' : Run Flow} → Related a a' → (flow : Flow) → Related (and_next a flow) (and_next a' flow)
+  pub related_next : {a a' : Run StatementFlow} → Related a a' → (flow : StatementFlow) → Related (and_next a flow) (and_next a' flow)
   related_next g Goes = g
   related_next g Continues = kept.pure _
   related_next g Breaks = kept.pure _
   related_next g (Returns v) = kept.pure _
 
-  pub steady_switch : (flow : Flow) → Itself (after_switch flow)
+  pub steady_switch : (flow : StatementFlow) → Itself (after_switch flow)
   steady_switch Goes = kept.pure _
   steady_switch Breaks = kept.pure _
   steady_switch Continues = kept.pure _
   steady_switch (Returns v) = kept.pure _
 
   module _ (ds : List StructDef) (ls : List Local) (f f' : Functions) (h : (n : ℕ) (vs : List Value) → Related (f n vs) (f' n vs))
-      (again again' : Scope → Stmt → Run Flow) (l : (scope : Scope) (s : Stmt) → Related (again scope s) (again' scope s)) where
+      (again again' : Scope → Stmt → Run StatementFlow) (l : (scope : Scope) (s : Stmt) → Related (again scope s) (again' scope s)) where
     mutual
       pub exec_related : (scope : Scope) (s : Stmt) → Related (exec ds ls f again scope s) (exec ds ls f' again' scope s)
       exec_related scope (q.Block ss) = related_locals ds ls (declared_in ss) (λ inner. execs_related inner ss) scope
@@ -578,7 +578,7 @@ module _ (R : (A : Type 0) → Run A → Run A → Type 0) (kept : Congruence R)
 
   -- ---- calls
 
-  pub steady_value : (main : Bool) (flow : Flow) → Itself (value_of_call main flow)
+  pub steady_value : (main : Bool) (flow : StatementFlow) → Itself (value_of_call main flow)
   steady_value main (Returns (Some v)) = kept.pure v
   steady_value main (Returns None) = kept.pure _
   steady_value main Goes = kept.pure _

@@ -8,7 +8,7 @@ use Rattle.mem_model.specs.Memory.{Memory, end_object, begin_object}
 use Rattle.mem_model.specs.World.{Meter, World, Rooms, with_memory, with_meter, with_turns, turn_from}
 use Rattle.mem_model.specs.Ending.{Done, Trap, Undefined, More, ending_world, Evaluation, Gives, Ends}
 use Rattle.c_semantics.specs.Reasons.{Reason}
-use Rattle.c_semantics.specs.Runs.{State, in_world, Run, and_then, ◌>>=◌, pure, undefined, trap, exit, no_turn, spend_turn, turn, on_memory, set_memory, or_undefined, use_value, number, read_register, write_register}
+use Rattle.c_semantics.specs.Runs.{CallState, in_world, Run, and_then, ◌>>=◌, pure, undefined, trap, exit, no_turn, spend_turn, turn, on_memory, set_memory, or_undefined, use_value, number, read_register, write_register}
 use Rattle.c_semantics.specs.Objects.{Scope, with_object, with_local_object}
 use Rattle.c_semantics.specs.Executes.{enter_function, leave_function, within_call}
 
@@ -37,11 +37,11 @@ later_on u v w a b = record {
 }
 
 -- a run that came to a value or an ending comes behind a world
-abbrev pub Reaches : {A : Type 0} → World → Evaluation A State → Type 0
+abbrev pub Reaches : {A : Type 0} → World → Evaluation A CallState → Type 0
 Reaches w (Gives a s) = Later w s.world
 Reaches w (Ends e) = Later w (ending_world e)
 
-reaches_on : {A : Type 0} (v w : World) (r : Evaluation A State) → Later v w → Reaches w r → Reaches v r
+reaches_on : {A : Type 0} (v w : World) (r : Evaluation A CallState) → Later v w → Reaches w r → Reaches v r
 reaches_on v w (Gives a s) h g = later_on v w s.world h g
 reaches_on v w (Ends e) h g = later_on v w (ending_world e) h g
 
@@ -49,11 +49,11 @@ reaches_on v w (Ends e) h g = later_on v w (ending_world e) h g
 abbrev pub more_turns : (more : ℕ) → World → World
 more_turns d w = with_meter w (with_turns d w.meter)
 
-abbrev pub with_more : (more : ℕ) → State → State
+abbrev pub with_more : (more : ℕ) → CallState → CallState
 with_more d s = in_world s (more_turns d s.world)
 
 -- what a run with so many turns more comes to
-abbrev pub Grows : {A : Type 0} → ℕ → Evaluation A State → Evaluation A State → Type 0
+abbrev pub Grows : {A : Type 0} → ℕ → Evaluation A CallState → Evaluation A CallState → Type 0
 Grows d (Gives a s) r = r ≡ Gives a (with_more d s)
 Grows d (Ends (Done w status)) r = r ≡ Ends (Done (more_turns d w) status)
 Grows d (Ends (Trap w code)) r = r ≡ Ends (Trap (more_turns d w) code)
@@ -61,20 +61,20 @@ Grows d (Ends (Undefined w at)) r = r ≡ Ends (Undefined (more_turns d w) at)
 Grows d (Ends (More w)) r = Reaches w r
 
 pub record Grown {A : Type 0} (c c' : Run A) : Type 0 where
-  pub by : (s : State) (d : ℕ) → Grows d (c s) (c' (with_more d s))
-  pub low : (s : State) → Reaches s.world (c s)
-  pub high : (s : State) → Reaches s.world (c' s)
+  pub by : (s : CallState) (d : ℕ) → Grows d (c s) (c' (with_more d s))
+  pub low : (s : CallState) → Reaches s.world (c s)
+  pub high : (s : CallState) → Reaches s.world (c' s)
 
 -- a run that is the same with more turns
 abbrev pub Steady : {A : Type 0} → Run A → Type 0
 Steady c = Grown c c
 
-reaches_bind : {A B : Type 0} (w : World) (r : Evaluation A State) (k : A → Run B) → Reaches w r
-    → ((a : A) (s : State) → Reaches s.world (k a s)) → Reaches w (and_then r k)
+reaches_bind : {A B : Type 0} (w : World) (r : Evaluation A CallState) (k : A → Run B) → Reaches w r
+    → ((a : A) (s : CallState) → Reaches s.world (k a s)) → Reaches w (and_then r k)
 reaches_bind w (Gives a s) k h g = reaches_on w s.world (k a s) h (g a s)
 reaches_bind w (Ends e) k h g = h
 
-grows_bind : {A B : Type 0} (d : ℕ) (r r' : Evaluation A State) (k k' : A → Run B) → Grows d r r'
+grows_bind : {A B : Type 0} (d : ℕ) (r r' : Evaluation A CallState) (k k' : A → Run B) → Grows d r r'
     → ((a : A) → Grown (k a) (k' a)) → Grows d (and_then r k) (and_then r' k')
 grows_bind d (Gives a s) r' k k' e g = subst (λ x. Grows d (k a s) (and_then x k')) (sym e) ((g a).by s d)
 grows_bind d (Ends (Done w status)) r' k k' e g = ap (λ x. and_then x k') e
@@ -159,7 +159,7 @@ grown_if false g h = h
 -- ---- turns
 
 -- a run that has no turn may be any run
-pub grown_no_turn : {A : Type 0} (c : Run A) → ((s : State) → Reaches s.world (c s)) → Grown no_turn c
+pub grown_no_turn : {A : Type 0} (c : Run A) → ((s : CallState) → Reaches s.world (c s)) → Grown no_turn c
 unfolding no_turn
 grown_no_turn c h = record {
   by = λ s d. reaches_on s.world (more_turns d s.world) (c (with_more d s)) (record { output = starts_same s.world.outer.output; peak = omega arith }) (h (with_more d s));
@@ -167,12 +167,12 @@ grown_no_turn c h = record {
   high = h;
 }
 
-reaches_turned : (n : ℕ) (m : Meter) (s : State) → m.peak ≡ s.world.meter.peak → Reaches s.world (spend_turn (turn_from n m) s)
+reaches_turned : (n : ℕ) (m : Meter) (s : CallState) → m.peak ≡ s.world.meter.peak → Reaches s.world (spend_turn (turn_from n m) s)
 unfolding no_turn
 reaches_turned zero m s e = later_same s.world
 reaches_turned (suc n) m s e = record { output = starts_same s.world.outer.output; peak = omega (arith, e) }
 
-grows_turned : (n d : ℕ) (m : Meter) (s : State) → m.peak ≡ s.world.meter.peak
+grows_turned : (n d : ℕ) (m : Meter) (s : CallState) → m.peak ≡ s.world.meter.peak
     → Grows d (spend_turn (turn_from n m) s) (spend_turn (turn_from (n + d) (with_turns d m)) (with_more d s))
 unfolding no_turn
 grows_turned zero d m s e = reaches_on s.world (more_turns d s.world) (spend_turn (turn_from (zero + d) (with_turns d m)) (with_more d s)) (record { output = starts_same s.world.outer.output; peak = omega arith }) (reaches_turned (zero + d) (with_turns d m) (with_more d s) e)
@@ -192,7 +192,7 @@ steady_turn = record {
 abbrev leaving : {A : Type 0} → (object : ℕ) → A → Run A
 leaving object a = λ s. Gives a (in_world s (with_memory s.world (end_object s.world.outer.memory object)))
 
-abbrev begun : (size : ℕ) → State → State
+abbrev begun : (size : ℕ) → CallState → CallState
 begun size s = in_world s (with_memory s.world (begin_object s.world.outer.memory size true))
 
 steady_leaving : {A : Type 0} (object : ℕ) (a : A) → Steady (leaving object a)
@@ -202,8 +202,8 @@ steady_leaving object a = record {
   high = λ s. record { output = starts_same s.world.outer.output; peak = omega arith };
 }
 
-reaches_object : {A : Type 0} (size k : ℕ) (run : Scope → Run A) (scope : Scope) → ((inner : Scope) (s : State) → Reaches s.world (run inner s))
-    → (s : State) → Reaches s.world (with_local_object size k run scope s)
+reaches_object : {A : Type 0} (size k : ℕ) (run : Scope → Run A) (scope : Scope) → ((inner : Scope) (s : CallState) → Reaches s.world (run inner s))
+    → (s : CallState) → Reaches s.world (with_local_object size k run scope s)
 reaches_object size k run scope h s =
     let o = length s.world.outer.memory in
     reaches_bind s.world (run (with_object scope k o) (begun size s)) (leaving o)
@@ -221,7 +221,7 @@ grown_object size k {run = run} {run' = run'} scope g = record {
   high = reaches_object size k run' scope (λ inner s. (g inner).high s);
 }
 
-abbrev inside : Rooms → (function : ℕ) → State → State
+abbrev inside : Rooms → (function : ℕ) → CallState → CallState
 inside rooms n s = record { registers = λ k. Unset; world = enter_function rooms n s.world }
 
 abbrev behind : {A : Type 0} → Rooms → (function : ℕ) → (ℕ → Value) → A → Run A
@@ -234,11 +234,11 @@ steady_behind rooms n r a = record {
   high = λ s. record { output = starts_same s.world.outer.output; peak = omega arith };
 }
 
-later_inside : (rooms : Rooms) (n : ℕ) (s : State) → Later s.world (inside rooms n s).world
+later_inside : (rooms : Rooms) (n : ℕ) (s : CallState) → Later s.world (inside rooms n s).world
 later_inside rooms n s = record { output = starts_same s.world.outer.output; peak = omega arith }
 
-reaches_call : {A : Type 0} (rooms : Rooms) (n : ℕ) (run : Run A) → ((s : State) → Reaches s.world (run s))
-    → (s : State) → Reaches s.world (within_call rooms n run s)
+reaches_call : {A : Type 0} (rooms : Rooms) (n : ℕ) (run : Run A) → ((s : CallState) → Reaches s.world (run s))
+    → (s : CallState) → Reaches s.world (within_call rooms n run s)
 reaches_call rooms n run h s =
     reaches_bind s.world (run (inside rooms n s)) (behind rooms n s.registers)
     (reaches_on s.world (inside rooms n s).world (run (inside rooms n s)) (later_inside rooms n s) (h (inside rooms n s)))

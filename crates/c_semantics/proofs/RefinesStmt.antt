@@ -24,7 +24,7 @@ use Rattle.c_typed_tree.specs.Weight.{copy_weight, expr_weight, optional_weight,
 use Rattle.c_semantics.specs.Runs.{Run, ◌>>=◌, ◌>>◌, pure, turn}
 use Rattle.c_semantics.specs.Objects.{Scope, with_locals}
 use Rattle.c_semantics.specs.Evaluates.{Functions, choose}
-use Rattle.c_semantics.specs.Executes.{Flow, Goes, after_body, declared_by, declared_in, declared_first, is_label_of, has_label, target_in, holds, condition, step, initialise, declare, declares, first, return_value, exec, exec_else, execs, exec_sections, exec_from, calls_of, level, locals_of}
+use Rattle.c_semantics.specs.Executes.{StatementFlow, Goes, after_body, declared_by, declared_in, declared_first, is_label_of, has_label, target_in, holds, condition, step, initialise, declare, declares, first, return_value, exec, exec_else, execs, exec_sections, exec_from, calls_of, level, locals_of}
 use Rattle.c_semantics.specs.Refines as r
 use Rattle.c_semantics.specs.Refines.{IsBelow, IgnorePeak, ExprWithin, OptionWithin, DeclaredWithin, AllDeclaredWithin, FirstWithin, context_at, result_at, IsTypedAt, StmtRefines, StmtWithin, ElseWithin, StmtsWithin, SectionsWithin}
 use Rattle.c_semantics.proofs.Facts.{front, back, also, either_on, along, three, four}
@@ -396,7 +396,7 @@ module _ (unit : TypedUnit) (rooms : Rooms) (m n : ℕ)
   abbrev i : IgnorePeak f
   i = calls_itself unit rooms m
 
-  abbrev again : Scope → Stmt → Run Flow
+  abbrev again : Scope → Stmt → Run StatementFlow
   again = level unit rooms m n
 
   mutual

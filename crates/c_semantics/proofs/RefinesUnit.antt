@@ -19,9 +19,9 @@ use Rattle.c_typed_tree.specs.Typing.{Signature, Context, is_same_type, int, is_
 use Rattle.c_typed_tree.specs.TypingStatements.{no_jumps, is_typed_stmt}
 use Rattle.c_typed_tree.specs.Lawful.{signature_of, parameters_of, is_lawful_local, is_result, is_identifier, IsTypedFn, is_main, is_start, IsTypedUnit}
 use Rattle.c_typed_tree.specs.Weight.{function_weight}
-use Rattle.c_semantics.specs.Runs.{State}
+use Rattle.c_semantics.specs.Runs.{CallState}
 use Rattle.c_semantics.specs.Objects.{Scope, no_scope}
-use Rattle.c_semantics.specs.Executes.{Flow, Goes, Breaks, Continues, Returns, with_parameters, enter_function, leave_function, value_of_call, body_of, call_of, calls_of, exec, locals_of, level}
+use Rattle.c_semantics.specs.Executes.{StatementFlow, Goes, Breaks, Continues, Returns, with_parameters, enter_function, leave_function, value_of_call, body_of, call_of, calls_of, exec, locals_of, level}
 use Rattle.c_semantics.specs.Behaves.{world_of, status_of, ended_by, ending_of, run_of, place_of_main, main_of, run}
 use Rattle.c_semantics.specs.Refines as r
 use Rattle.c_semantics.specs.Refines.{with_peak, lower_peak, GivesBelow, IsBelow, context_at, result_at, IsTypedAt, FnRefines, FnsRefine, EndingRefines, with_functions, WeighNoMore, UnitRefines, UnitsRefine}
@@ -101,14 +101,14 @@ module _ (unit : TypedUnit) (fs : List TypedFn) (rooms : Rooms) (ok : IsTypedUni
   status_below w p (Address a) l = tt
   status_below w p Unset l = tt
 
-  ended_below : (w : World) (p : ℕ) (flow : Flow) → p ≤ w.meter.peak → EndingRefines (ended_by (with_peak p w) flow) (ended_by w flow)
+  ended_below : (w : World) (p : ℕ) (flow : StatementFlow) → p ≤ w.meter.peak → EndingRefines (ended_by (with_peak p w) flow) (ended_by w flow)
   ended_below w p (Returns (Some v)) l = status_below w p v l
   ended_below w p (Returns None) l = record { peak = p; low = l; holds = refl }
   ended_below w p Goes l = record { peak = p; low = l; holds = refl }
   ended_below w p Breaks l = tt
   ended_below w p Continues l = tt
 
-  ending_below : (n : ℕ) (c d : Evaluation Flow State) → GivesBelow c d → EndingRefines (ending_of (leave_function rooms n) c) (ending_of (leave_function rooms n) d)
+  ending_below : (n : ℕ) (c d : Evaluation StatementFlow CallState) → GivesBelow c d → EndingRefines (ending_of (leave_function rooms n) c) (ending_of (leave_function rooms n) d)
   ending_below n c (Ends (Undefined w at)) k = tt
   ending_below n c (Ends (Done w status)) k = record { peak = k.peak; low = k.low; holds = ap (ending_of (leave_function rooms n)) k.holds }
   ending_below n c (Ends (Trap w code)) k = record { peak = k.peak; low = k.low; holds = ap (ending_of (leave_function rooms n)) k.holds }
@@ -119,7 +119,7 @@ module _ (unit : TypedUnit) (fs : List TypedFn) (rooms : Rooms) (ok : IsTypedUni
   run_of_below : (n : ℕ) {f g : Option TypedFn} → Related unit n f g → (w : World) (turns : ℕ) → EndingRefines (run_of one rooms n f w turns) (run_of unit rooms n g w turns)
   run_of_below n absent w turns = tt
   run_of_below n (related k t p) w turns =
-      let s : State = record { registers = λ j. Unset; world = enter_function rooms n w } in
+      let s : CallState = record { registers = λ j. Unset; world = enter_function rooms n w } in
       ending_below n _ _ ((body_below (suc turns) n (levels_below (suc turns) n) k p []).by s s.world.meter.peak (omega arith))
 
 main_place : (fs gs : List TypedFn) → FnsRefine fs gs → place_of_main fs ≡ place_of_main gs

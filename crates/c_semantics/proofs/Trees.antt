@@ -6,9 +6,9 @@ use Rattle.mem_model.specs.World.{Rooms}
 use Rattle.c_typed_tree.specs.declared.types.StructDef.{StructDef}
 use Rattle.c_typed_tree.specs.declared.units.TypedFn.{TypedFn}
 use Rattle.c_typed_tree.specs.declared.units.TypedUnit.{TypedUnit}
-use Rattle.c_semantics.specs.Runs.{State, Run, no_turn}
+use Rattle.c_semantics.specs.Runs.{CallState, Run, no_turn}
 use Rattle.c_semantics.specs.Evaluates.{put, get}
-use Rattle.c_semantics.specs.Executes.{Flow, Level, body_of, calls_of, locals_of, above, level}
+use Rattle.c_semantics.specs.Executes.{StatementFlow, Level, body_of, calls_of, locals_of, above, level}
 use Rattle.c_semantics.proofs.Grown.{starts_same, later_same, Reaches, Grown, Steady, bind, steady_pure, steady_undefined, steady_trap, steady_exit, steady_memory, steady_write, grown_seen, steady_read, grown_no_turn, steady_turn, grown_object, grown_call}
 use Rattle.c_semantics.proofs.Forms as forms
 
@@ -61,7 +61,7 @@ above_grown unit rooms l l' h n scope s =
     forms.exec_related GrownOf kept unit.structs (locals_of (slice_get unit.functions n)) (calls_of unit rooms l) (calls_of unit rooms l')
     (λ m vs. forms.call_of_related GrownOf kept unit.structs rooms l l' h m (slice_get unit.functions m) vs) (l n) (l' n) (h n) scope s
 
-no_turn_reaches : (s : State) → Reaches s.world (no_turn {A = Flow} s)
+no_turn_reaches : (s : CallState) → Reaches s.world (no_turn {A = StatementFlow} s)
 unfolding no_turn
 no_turn_reaches s = later_same s.world
 

@@ -11,9 +11,9 @@ use Rattle.c_typed_tree.specs.declared.units.TypedFn.{TypedFn}
 use Rattle.c_typed_tree.specs.declared.units.TypedUnit.{TypedUnit}
 use Rattle.c_typed_tree.specs.Lawful.{is_main}
 use Rattle.c_typed_tree.specs.Rooms.{room}
-use Rattle.c_mean.specs.Behaviour.{Behaviour, Done, Trap, Undefined, More, Meaning}
-use Rattle.c_semantics.specs.Runs.{State}
-use Rattle.c_semantics.specs.Executes.{Flow, Goes, Breaks, Continues, Returns, level, enter_function, leave_function, body_of}
+use Rattle.c_mean.specs.Behaviour.{CBehaviour, Done, Trap, Undefined, More, Meaning}
+use Rattle.c_semantics.specs.Runs.{CallState}
+use Rattle.c_semantics.specs.Executes.{StatementFlow, Goes, Breaks, Continues, Returns, level, enter_function, leave_function, body_of}
 
 -- the world before a run: the objects of static storage, the input, and so many turns
 abbrev pub world_of : Memory → (input : List ℕ) → (turns : ℕ) → World
@@ -26,14 +26,14 @@ status_of w (Word n) = g.Done w (n % 256)
 status_of w (Address p) = g.Undefined w 0
 status_of w Unset = g.Undefined w 0
 
-abbrev pub ended_by : World → Flow → Ending
+abbrev pub ended_by : World → StatementFlow → Ending
 ended_by w (Returns (Some v)) = status_of w v
 ended_by w (Returns None) = g.Done w 0
 ended_by w Goes = g.Done w 0
 ended_by w Breaks = g.Undefined w 0
 ended_by w Continues = g.Undefined w 0
 
-abbrev pub ending_of : (World → World) → Evaluation Flow State → Ending
+abbrev pub ending_of : (World → World) → Evaluation StatementFlow CallState → Ending
 ending_of leave (Gives f s) = ended_by (leave s.world) f
 ending_of leave (Ends e) = e
 
@@ -62,13 +62,13 @@ run unit rooms input turns =
 abbrev pub rooms_of : TypedUnit → Rooms
 rooms_of unit = map (room unit.structs) unit.functions
 
-abbrev pub behaviour_of : Ending → Behaviour
+abbrev pub behaviour_of : Ending → CBehaviour
 behaviour_of (g.Done w status) = Done w.outer.output status
 behaviour_of (g.Trap w code) = Trap w.outer.output code
 behaviour_of (g.Undefined w at) = Undefined
 behaviour_of (g.More w) = More w.outer.output
 
-abbrev pub behave_c : TypedUnit → (input : List ℕ) → (turns : ℕ) → Behaviour
+abbrev pub behave_c : TypedUnit → (input : List ℕ) → (turns : ℕ) → CBehaviour
 behave_c unit input turns = behaviour_of (run unit (rooms_of unit) input turns)
 
 -- the greatest sum of the rooms of the calls that are active at one moment
@@ -79,7 +79,7 @@ abbrev pub meaning : TypedUnit → Meaning
 meaning unit = record { behave = behave_c unit; peak = peak unit }
 
 -- the run ended with a status or a trap
-abbrev pub IsEnded : Behaviour → Type 0
+abbrev pub IsEnded : CBehaviour → Type 0
 IsEnded (Done output status) = Unit {0}
 IsEnded (Trap output code) = Unit {0}
 IsEnded Undefined = ⊥

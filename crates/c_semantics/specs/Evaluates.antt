@@ -20,7 +20,7 @@ use Rattle.c_typed_tree.specs.Expressions.{Expr, Number, Global, Call, Unary, Bi
 use Rattle.c_typed_tree.specs.Expressions as e
 use Rattle.c_semantics.specs.Reasons.{UsesNoValue, AccessesOutside}
 use Rattle.c_semantics.specs.Runs.{with_outer, Run, ◌>>=◌, ◌>>◌, pure, undefined, trap, exit, turn, use_value, number}
-use Rattle.c_semantics.specs.Objects.{Place, At, start_of, call_result, read_at, read, write, pointer_to, move, move_by, offset_of, Scope, local_place, integer_of}
+use Rattle.c_semantics.specs.Objects.{ValuePlace, At, start_of, call_result, read_at, read, write, pointer_to, move, move_by, offset_of, Scope, local_place, integer_of}
 use Rattle.c_semantics.specs.Operators.{binary, unary, test, convert, operator_of, combine, step_value, pure_truth}
 
 -- ---- what the world outside does
@@ -56,7 +56,7 @@ call functions (c.Builtin f) vs = builtin f vs
 
 -- ---- places
 
-abbrev pub at : Value → Run Place
+abbrev pub at : Value → Run ValuePlace
 at p = pure (At p)
 
 -- the element of a pointer with an index, in either order (C99 6.5.2.1)
@@ -77,12 +77,12 @@ target_of ty = Void
 -- ---- changes of a place
 
 -- the value of an assignment: that of a struct is the pointer to the left side
-abbrev pub assign_place : PlainType → Place → Value → Value
+abbrev pub assign_place : PlainType → ValuePlace → Value → Value
 assign_place (Struct n) (At p) v = p
 assign_place ty place v = v
 
 -- a place is read and written; the value is picked of the old and the new one
-abbrev pub update : List StructDef → PlainType → (change : Value → Run Value) → (pick : Value → Value → Value) → Place
+abbrev pub update : List StructDef → PlainType → (change : Value → Run Value) → (pick : Value → Value → Value) → ValuePlace
     → Run Value
 update ds ty change pick p = read ty p >>= (λ v. change v >>= (λ w. write ds ty p w >> pure (pick v w)))
 
@@ -93,7 +93,7 @@ abbrev pub old_value : Value → Value → Value
 old_value old new = old
 
 -- an assignment, where the place and the right side are known
-abbrev pub assign : List StructDef → (left right : PlainType) → Option BinaryOp → Place → Value → Run Value
+abbrev pub assign : List StructDef → (left right : PlainType) → Option BinaryOp → ValuePlace → Value → Run Value
 assign ds left right None p v = write ds left p v >> pure (assign_place left p v)
 assign ds left right (Some op) p v = update ds left (λ old. combine ds op left right old v) new_value p
 
@@ -104,7 +104,7 @@ abbrev pub choose : {A : Type 0} → Run A → Run A → Bool → Run A
 choose holds fails t = if t then holds else fails
 
 -- a conversion: an array is converted by its place (C99 6.3.2.1)
-abbrev pub converted_from : (from to : PlainType) → Run Value → Run Place → Run Value
+abbrev pub converted_from : (from to : PlainType) → Run Value → Run ValuePlace → Run Value
 converted_from (Array target n) to by_value by_place = by_place >>= pointer_to
 converted_from from to by_value by_place = by_value >>= convert from to
 
@@ -146,7 +146,7 @@ module _ (ds : List StructDef) (ls : List Local) (functions : Functions) where
     eval scope (Comma ty (more_exprs x xs)) = last_of scope (eval scope x) xs
 
     -- where an expression stands that is a place (C99 6.3.2.1)
-    pub place : Scope → Expr → Run Place
+    pub place : Scope → Expr → Run ValuePlace
     place scope (e.Local ty k) = local_place scope k (slice_get ls k)
     place scope (Global ty k) = at (start_of k)
     place scope (Unary ty u.Dereference x) = eval scope x >>= use_value UsesNoValue >>= at

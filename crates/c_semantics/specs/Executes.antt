@@ -24,28 +24,28 @@ use Rattle.c_semantics.specs.Operators.{test}
 use Rattle.c_semantics.specs.Evaluates.{Functions, eval, choose}
 
 -- how a statement ends: by going on, or by a jump (C99 6.8.6)
-pub data Flow : Type 0 where
-  Goes : Flow
-  Breaks : Flow
-  Continues : Flow
-  Returns : Option Value → Flow
+pub data StatementFlow : Type 0 where
+  Goes : StatementFlow
+  Breaks : StatementFlow
+  Continues : StatementFlow
+  Returns : Option Value → StatementFlow
 
 -- what a loop does behind its body
-abbrev pub after_body : Run Flow → Flow → Run Flow
+abbrev pub after_body : Run StatementFlow → StatementFlow → Run StatementFlow
 after_body again Goes = again
 after_body again Continues = again
 after_body again Breaks = pure Goes
 after_body again (Returns v) = pure (Returns v)
 
 -- what a list of statements does behind one of them
-abbrev pub and_next : Run Flow → Flow → Run Flow
+abbrev pub and_next : Run StatementFlow → StatementFlow → Run StatementFlow
 and_next next Goes = next
 and_next next Breaks = pure Breaks
 and_next next Continues = pure Continues
 and_next next (Returns v) = pure (Returns v)
 
 -- a `break` in a `switch` ends that alone
-abbrev pub after_switch : Flow → Run Flow
+abbrev pub after_switch : StatementFlow → Run StatementFlow
 after_switch Goes = pure Goes
 after_switch Breaks = pure Goes
 after_switch Continues = pure Continues
@@ -83,7 +83,7 @@ target_in n sections = if has_label (Some n) sections then Some n else None
 
 -- what a statement of a function does, one level down
 abbrev pub Level : Type 0
-Level = (function : ℕ) → Scope → Stmt → Run Flow
+Level = (function : ℕ) → Scope → Stmt → Run StatementFlow
 
 -- the parameters have the values of the arguments: each is an object, or a register (C99 6.9.1)
 abbrev pub with_parameters : {A : Type 0} → List StructDef → (number : ℕ) → List Local → List Value → (Scope → Run A)
@@ -113,7 +113,7 @@ within_call rooms n run = λ s.
 abbrev pub no_value : (main : Bool) → Value
 no_value main = if main then Word 0 else Unset
 
-abbrev pub value_of_call : (main : Bool) → Flow → Run Value
+abbrev pub value_of_call : (main : Bool) → StatementFlow → Run Value
 value_of_call main (Returns (Some v)) = pure v
 value_of_call main (Returns None) = pure (no_value main)
 value_of_call main Goes = pure (no_value main)
@@ -121,7 +121,7 @@ value_of_call main Breaks = undefined UsesNoValue
 value_of_call main Continues = undefined UsesNoValue
 
 -- the body of a function on arguments
-abbrev pub body_of : List StructDef → Level → (function : ℕ) → TypedFn → List Value → Run Flow
+abbrev pub body_of : List StructDef → Level → (function : ℕ) → TypedFn → List Value → Run StatementFlow
 body_of ds prev n f vs =
     with_parameters ds 0 (take f.params f.locals) vs (λ scope. prev n scope (stmt_view f.body)) no_scope
 
@@ -169,14 +169,14 @@ module _ (ds : List StructDef) (ls : List Local) (functions : Functions) where
   first scope (q.Value x) = eval ds ls functions scope x >> pure tt
   first scope (q.Locals more) = declares scope more
 
-  abbrev pub return_value : Scope → Option Expr → Run Flow
+  abbrev pub return_value : Scope → Option Expr → Run StatementFlow
   return_value scope None = pure (Returns None)
   return_value scope (Some x) = eval ds ls functions scope x >>= use_value UsesNoValue >>= (λ v. pure (Returns (Some v)))
 
   -- again is what a statement does one level down
-  module _ (again : Scope → Stmt → Run Flow) where
+  module _ (again : Scope → Stmt → Run StatementFlow) where
     abbrev mutual
-      pub exec : Scope → Stmt → Run Flow
+      pub exec : Scope → Stmt → Run StatementFlow
       exec scope (q.Block ss) = with_locals ds ls (declared_in ss) (λ inner. execs inner ss) scope
       exec scope (q.If x s otherwise) = holds scope x >>= choose (exec scope s) (exec_else scope otherwise)
       exec scope (q.While x s) =
@@ -199,20 +199,20 @@ module _ (ds : List StructDef) (ls : List Local) (functions : Functions) where
       exec scope q.Empty = pure Goes
       exec scope (q.Declare d) = declare scope d >> pure Goes
 
-      pub exec_else : Scope → Else → Run Flow
+      pub exec_else : Scope → Else → Run StatementFlow
       exec_else scope no_else = pure Goes
       exec_else scope (else_stmt s) = exec scope s
 
-      pub execs : Scope → Stmts → Run Flow
+      pub execs : Scope → Stmts → Run StatementFlow
       execs scope no_stmts = pure Goes
       execs scope (more_stmts s ss) = exec scope s >>= and_next (execs scope ss)
 
       -- the sections of a `switch`, and those from a label on
-      pub exec_sections : Scope → Sections → Run Flow
+      pub exec_sections : Scope → Sections → Run StatementFlow
       exec_sections scope no_sections = pure Goes
       exec_sections scope (more_sections label ss rest) = execs scope ss >>= and_next (exec_sections scope rest)
 
-      pub exec_from : Scope → Option ℕ → Sections → Run Flow
+      pub exec_from : Scope → Option ℕ → Sections → Run StatementFlow
       exec_from scope target no_sections = pure Goes
       exec_from scope target (more_sections label ss rest) =
           if is_label_of target label then (execs scope ss >>= and_next (exec_sections scope rest))

@@ -4,7 +4,7 @@ use Rattle.mem_model.specs.World.{Rooms}
 use Rattle.mem_model.specs.Ending.{ending_peak}
 use Rattle.c_typed_tree.specs.declared.units.TypedUnit.{TypedUnit}
 use Rattle.c_mean.specs.Behaviour as b
-use Rattle.c_mean.specs.Behaviour.{Behaviour, output_of}
+use Rattle.c_mean.specs.Behaviour.{CBehaviour, output_of}
 use Rattle.c_semantics.specs.Behaves.{run, behave_c, IsTurns}
 
 -- an ending, or being undefined, is the same with more turns

@@ -20,12 +20,12 @@ use Rattle.c_typed_tree.specs.Types.{PlainType, Void, Int, Pointer, Array, Struc
 use Rattle.c_typed_tree.specs.View.{type_view}
 use Rattle.c_typed_tree.specs.Layout.{size_of, align_of}
 use Rattle.c_semantics.specs.Reasons.{Reason, AccessesOutside, MovesOutside, UsesDeadObject, UsesNoValue, OverlapsItself, reason_of}
-use Rattle.c_semantics.specs.Runs.{State, in_world, Run, and_then, ◌>>=◌, ◌>>◌, pure, undefined, on_memory, set_memory, or_undefined, use_value, number, read_register, write_register}
+use Rattle.c_semantics.specs.Runs.{CallState, in_world, Run, and_then, ◌>>=◌, ◌>>◌, pure, undefined, on_memory, set_memory, or_undefined, use_value, number, read_register, write_register}
 
 -- where a value stands: a local that is no object, or a pointer to it
-pub data Place : Type 0 where
-  Register : (local : ℕ) → Place
-  At : Value → Place
+pub data ValuePlace : Type 0 where
+  Register : (local : ℕ) → ValuePlace
+  At : Value → ValuePlace
 
 -- the first byte of an object
 abbrev pub start_of : (object : ℕ) → Value
@@ -91,7 +91,7 @@ call_result ty (Address p) = as_held ty (Address p)
 
 -- a register is read by its type too: so an expression gives a word of its type in every state, and not only in those
 -- that a run comes to
-abbrev pub read : PlainType → Place → Run Value
+abbrev pub read : PlainType → ValuePlace → Run Value
 read ty (Register k) = read_register k >>= as_held ty
 read ty (At p) = read_at ty p
 
@@ -103,12 +103,12 @@ write_at ds (Pointer target) p v = use_value UsesNoValue v >>= store 8 p
 write_at ds (Array element n) p v = undefined UsesNoValue
 write_at ds (Struct n) p v = copy (size_of ds (Struct n)) (align_of ds (Struct n)) p v
 
-abbrev pub write : List StructDef → PlainType → Place → Value → Run (Unit {0})
+abbrev pub write : List StructDef → PlainType → ValuePlace → Value → Run (Unit {0})
 write ds ty (Register k) v = use_value UsesNoValue v >>= write_register k
 write ds ty (At p) v = write_at ds ty p v
 
 -- the pointer to a place; a local that is no object has none
-abbrev pub pointer_to : Place → Run Value
+abbrev pub pointer_to : ValuePlace → Run Value
 pointer_to (Register k) = undefined AccessesOutside
 pointer_to (At p) = pure p
 
@@ -167,7 +167,7 @@ abbrev pub with_object : Scope → (local object : ℕ) → Scope
 with_object scope k object = λ j. if j == k then Some object else scope j
 
 -- an object ends where a run that goes on leaves its scope
-abbrev pub leave : {A : Type 0} → (object : ℕ) → Evaluation A State → Evaluation A State
+abbrev pub leave : {A : Type 0} → (object : ℕ) → Evaluation A CallState → Evaluation A CallState
 leave object r =
     and_then r (λ a s. Gives a (in_world s (with_memory s.world (end_object s.world.outer.memory object))))
 
@@ -192,7 +192,7 @@ with_locals ds ls [] run scope = run scope
 with_locals ds ls (k ∷ ks) run scope = with_local ds k (slice_get ls k) (with_locals ds ls ks run) scope
 
 -- where a local stands
-abbrev pub local_place : Scope → (local : ℕ) → Option Local → Run Place
+abbrev pub local_place : Scope → (local : ℕ) → Option Local → Run ValuePlace
 local_place scope k None = undefined AccessesOutside
 local_place scope k (Some l) =
     if l.in_memory then or_undefined UsesDeadObject (scope k) >>= (λ o. pure (At (start_of o))) else pure (Register k)

@@ -26,7 +26,7 @@ use Rattle.c_typed_tree.specs.Lawful.{signature_of, IsTypedUnit}
 use Rattle.c_typed_tree.specs.Declarations.{declarations}
 use Rattle.c_typed_tree.specs.Names.{Referent, names, stmt_names}
 use Rattle.c_typed_tree.specs.Weight.{expr_weight, stmt_weight, function_weight}
-use Rattle.c_semantics.specs.Runs.{State, in_world, Run}
+use Rattle.c_semantics.specs.Runs.{CallState, in_world, Run}
 use Rattle.c_semantics.specs.Objects.{Scope}
 use Rattle.c_semantics.specs.Evaluates.{Functions, eval, place}
 use Rattle.c_semantics.specs.Executes.{declared_by, locals_of, level}
@@ -38,7 +38,7 @@ use Rattle.c_semantics.specs.Behaves.{run}
 abbrev pub with_peak : (peak : ℕ) → World → World
 with_peak p w = with_meter w (record { turns = w.meter.turns; room = w.meter.room; peak = p })
 
-abbrev pub lower_peak : (peak : ℕ) → State → State
+abbrev pub lower_peak : (peak : ℕ) → CallState → CallState
 lower_peak p s = in_world s (with_peak p s.world)
 
 -- something holds with a peak that is not above
@@ -49,7 +49,7 @@ pub record WithPeak (most : ℕ) (P : ℕ → Type 0) : Type 0 where
 
 -- the one evaluation is the other, in value, state, ending, output and turns, with a peak that is not above, unless the
 -- other is undefined
-abbrev pub GivesBelow : {A : Type 0} → Evaluation A State → Evaluation A State → Type 0
+abbrev pub GivesBelow : {A : Type 0} → Evaluation A CallState → Evaluation A CallState → Type 0
 GivesBelow c (Gives a t) = WithPeak t.world.meter.peak (λ p. c ≡ Gives a (lower_peak p t))
 GivesBelow c (Ends (Done w status)) = WithPeak w.meter.peak (λ p. c ≡ Ends (Done (with_peak p w) status))
 GivesBelow c (Ends (Trap w code)) = WithPeak w.meter.peak (λ p. c ≡ Ends (Trap (with_peak p w) code))
@@ -58,11 +58,11 @@ GivesBelow c (Ends (More w)) = WithPeak w.meter.peak (λ p. c ≡ Ends (More (wi
 
 -- the one run is the other, from every state, unless that is undefined
 pub record RunRefines {A : Type 0} (c b : Run A) : Type 0 where
-  pub by : (s : State) → GivesBelow (c s) (b s)
+  pub by : (s : CallState) → GivesBelow (c s) (b s)
 
 -- the same where the one is run from a state with a lower peak
 pub record IsBelow {A : Type 0} (c b : Run A) : Type 0 where
-  pub by : (s : State) (p : ℕ) → p ≤ s.world.meter.peak → GivesBelow (c (lower_peak p s)) (b s)
+  pub by : (s : CallState) (p : ℕ) → p ≤ s.world.meter.peak → GivesBelow (c (lower_peak p s)) (b s)
 
 -- functions that do not look at the peak, as those of every unit
 abbrev pub IgnorePeak : Functions → Type 0

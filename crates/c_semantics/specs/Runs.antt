@@ -15,24 +15,24 @@ abbrev pub with_register : Registers → (number : ℕ) → Value → Registers
 with_register r number v = λ k. if k == number then v else r k
 
 -- the registers of the call, and the world
-pub record State : Type 0 where
+pub record CallState : Type 0 where
   pub registers : Registers
   pub world : World
 
-abbrev pub in_world : State → World → State
+abbrev pub in_world : CallState → World → CallState
 in_world s w = record { registers = s.registers; world = w }
 
-abbrev pub with_outer : State → Outer → State
+abbrev pub with_outer : CallState → Outer → CallState
 with_outer s o = in_world s (record { outer = o; meter = s.world.meter })
 
-abbrev pub with_registers : State → Registers → State
+abbrev pub with_registers : CallState → Registers → CallState
 with_registers s r = record { registers = r; world = s.world }
 
 abbrev pub Run : Type 0 → Type 0
-Run A = State → Evaluation A State
+Run A = CallState → Evaluation A CallState
 
 -- one run after the other: the second is given the value of the first
-abbrev pub and_then : {A B : Type 0} → Evaluation A State → (A → Run B) → Evaluation B State
+abbrev pub and_then : {A B : Type 0} → Evaluation A CallState → (A → Run B) → Evaluation B CallState
 and_then (Gives a s) k = k a s
 and_then (Ends e) k = Ends e
 

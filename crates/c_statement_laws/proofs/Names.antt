@@ -4,7 +4,7 @@ use Rattle.std.specs.Option.{option_map}
 use Rattle.std.specs.List.{list_all}
 use Rattle.c_tree.specs.declared.types.Parameter.{Parameter}
 use Rattle.c_tree.specs.declared.expressions.Expr.{Expr}
-use Rattle.c_tree.specs.declared.statements.Local as tree
+use Rattle.c_tree.specs.declared.statements.LocalDeclarator as tree
 use Rattle.c_tree.specs.declared.statements.ForFirst.{ForFirst}
 use Rattle.c_tree.specs.declared.statements.ForFirst.TheVariants as g
 use Rattle.c_typed_tree.specs.declared.types.CType.{CType}
@@ -32,8 +32,8 @@ use Rattle.c_type_rules.specs.declared.typed.TypedExpression.{TypedExpression}
 use Rattle.c_operators.specs.Null.{take_value}
 use Rattle.c_scopes.specs.Names.{find}
 use Rattle.c_checks.specs.declared.env.Env.{Env}
-use Rattle.c_checks.specs.declared.meanings.Meaning.{Meaning}
-use Rattle.c_checks.specs.declared.meanings.Meaning.TheVariants as means
+use Rattle.c_checks.specs.declared.meanings.NameMeaning.{NameMeaning}
+use Rattle.c_checks.specs.declared.meanings.NameMeaning.TheVariants as means
 use Rattle.c_checks.specs.declared.notes.Notes.{Notes}
 use Rattle.c_checks.specs.Checks.{pure, and_then, each, walk, note_fault}
 use Rattle.c_checks.specs.Notes.{with_fault}
@@ -148,10 +148,10 @@ module _ (c : Context) (known : Type 0) where
 
   -- ---- names
 
-  named_in : (q name : List ℕ) (meaning : Meaning) (env : Env) → IsMeaningIn c meaning → IsNameIn c (meaning_of env q) → IsNameIn c (meaning_of (with_name name meaning env) q)
+  named_in : (q name : List ℕ) (meaning : NameMeaning) (env : Env) → IsMeaningIn c meaning → IsNameIn c (meaning_of env q) → IsNameIn c (meaning_of (with_name name meaning env) q)
   named_in q name meaning env h g = of (bytes_eq q name)
     where
-      of : (b : Bool) → IsNameIn c (option_map (λ (r : ℕ × Meaning). r.1) (if b then Some (length env.names, meaning) else find q env.names))
+      of : (b : Bool) → IsNameIn c (option_map (λ (r : ℕ × NameMeaning). r.1) (if b then Some (length env.names, meaning) else find q env.names))
       of true = h
       of false = g
 
@@ -265,7 +265,7 @@ module _ (c : Context) (known : Type 0) where
         let r = judge x w.1 in
         two_moves c known IsNew (IsTypedIn c) IsDeclared new r.0 local_with_value v (w.0, r.1) value_later (λ a b h g. value_says a b r.1.1 h g) (moves_then c known v w (w.0, r.1) m (judge_moves c lawful known x w))
 
-    pub local_moves : (d : tree.Local) (w : BodyState) → Moves c known (IfSome (local_of d w).0 IsDeclared) w (local_of d w).1
+    pub local_moves : (d : tree.LocalDeclarator) (w : BodyState) → Moves c known (IfSome (local_of d w).0 IsDeclared) w (local_of d w).1
     local_moves d w =
         let at = d.declaration.at in
         let ty = type_of at d.declaration.ty w.1 in

@@ -5,7 +5,8 @@ ghost use Rattle.c_grammar.specs.ParseSpecifiers as model;
 ghost use Rattle.c_expression_parser.specs.Answers.{Answers};
 
 use c_expression_parser::{
-    ParseStop, Scope, SpecifierType, Tokens, declarator, expr, named_type, read_words, with_shapes,
+    ParseStop, SpecifierType, Tokens, TypedefScope, declarator, expr, named_type, read_words,
+    with_shapes,
 };
 use c_grammar::{Declarator, Naming, Specifier, SpecifierStart, levels};
 use c_lexer::Punct;
@@ -31,7 +32,7 @@ pub fn append<T: Drop>(found: Seq<T>, more: Seq<T>) -> Result<Seq<T>, AllocError
 #[tactic(auto, unfolding(c_grammar::specs::ParseSpecifiers::declaration))]
 pub fn declaration(
     alloc: Global,
-    scope: &Scope,
+    scope: &TypedefScope,
     tokens: &mut Tokens<'_>,
     depth: usize,
     naming: Naming,
@@ -56,7 +57,7 @@ pub fn declaration(
 #[tactic(auto, unfolding(c_grammar::specs::ParseSpecifiers::constant))]
 fn constant(
     alloc: Global,
-    scope: &Scope,
+    scope: &TypedefScope,
     tokens: &mut Tokens<'_>,
     depth: usize,
 ) -> Result<Constant, ParseStop>
@@ -91,7 +92,7 @@ fn constant(
 #[tactic(auto, using(crate::proofs::Loops::braced_turn, crate::proofs::Loops::braced_end))]
 fn constants(
     alloc: Global,
-    scope: &Scope,
+    scope: &TypedefScope,
     tokens: &mut Tokens<'_>,
     depth: usize,
 ) -> Result<Seq<Constant>, ParseStop>
@@ -116,7 +117,7 @@ fn constants(
 #[tactic(auto, using(crate::proofs::Loops::declarators_turn, crate::proofs::Loops::declarators_end))]
 fn member_declarators(
     alloc: Global,
-    scope: &Scope,
+    scope: &TypedefScope,
     tokens: &mut Tokens<'_>,
     depth: usize,
     base: SpecifierType,
@@ -144,7 +145,7 @@ fn member_declarators(
 #[tactic(auto, unfolding(c_grammar::specs::ParseSpecifiers::member))]
 fn member(
     alloc: Global,
-    scope: &Scope,
+    scope: &TypedefScope,
     tokens: &mut Tokens<'_>,
     depth: usize,
 ) -> Result<Seq<Declaration>, ParseStop>
@@ -161,7 +162,7 @@ fn member(
 #[tactic(auto, using(crate::proofs::Loops::members_turn, crate::proofs::Loops::members_end))]
 fn members(
     alloc: Global,
-    scope: &Scope,
+    scope: &TypedefScope,
     tokens: &mut Tokens<'_>,
     depth: usize,
 ) -> Result<Seq<Declaration>, ParseStop>
@@ -183,7 +184,7 @@ fn members(
 #[tactic(auto, unfolding(c_grammar::specs::ParseSpecifiers::braces))]
 fn braces(
     alloc: Global,
-    scope: &Scope,
+    scope: &TypedefScope,
     tokens: &mut Tokens<'_>,
     depth: usize,
     word: Specifier,
@@ -215,7 +216,7 @@ fn braces(
 #[tactic(auto, unfolding(c_grammar::specs::ParseSpecifiers::tag_or_body))]
 fn tag_or_body(
     alloc: Global,
-    scope: &Scope,
+    scope: &TypedefScope,
     tokens: &mut Tokens<'_>,
     depth: usize,
     word: Specifier,
@@ -247,7 +248,7 @@ fn tag_or_body(
 #[tactic(auto, using(crate::proofs::Deeper::specifier_deeper), unfolding(c_grammar::specs::ParseSpecifiers::specifier))]
 pub fn specifier(
     alloc: Global,
-    scope: &Scope,
+    scope: &TypedefScope,
     tokens: &mut Tokens<'_>,
     depth: usize,
 ) -> Result<SpecifierType, ParseStop>

@@ -11,26 +11,26 @@ ghost use Rattle.c_grammar.specs.ParseStatements as model;
 ghost use Rattle.c_expression_parser.specs.Answers.{Answers};
 
 use crate::braces::declaration;
-use c_expression_parser::{ParseStop, Scope, SpecifierType, Tokens, expr, plain, whole};
+use c_expression_parser::{ParseStop, SpecifierType, Tokens, TypedefScope, expr, plain, whole};
 use c_grammar::{Head, Naming, head_of, levels};
 use c_lexer::{Keyword, Punct};
-use c_tree::{Box, Expr, ForFirst, Label, Local, Section, Seq, Stmt};
+use c_tree::{Box, Expr, ForFirst, Label, LocalDeclarator, Section, Seq, Stmt};
 use std::alloc::{AllocError, Global};
 
 /// Reads a declarator in a block, behind its type, and its initialiser.
 #[tactic(auto, unfolding(c_grammar::specs::ParseStatements::local))]
 fn local(
     alloc: Global,
-    scope: &Scope,
+    scope: &TypedefScope,
     tokens: &mut Tokens<'_>,
     depth: usize,
     base: SpecifierType,
-) -> Result<Local, ParseStop>
+) -> Result<LocalDeclarator, ParseStop>
     ensures { Answers (model.local scope.now depth base tokens.old) result tokens.new }
 {
     let declaration = declaration(alloc, scope, tokens, depth, Naming::Required, base)?;
     if !tokens.sees(Punct::Assign) {
-        return Ok(Local {
+        return Ok(LocalDeclarator {
             declaration,
             init: None,
         });
@@ -41,7 +41,7 @@ fn local(
         alloc,
         expr(alloc, scope, tokens, depth, levels::ASSIGNMENT)?,
     )?;
-    Ok(Local {
+    Ok(LocalDeclarator {
         declaration: Box::into_inner(declaration),
         init: Some(init),
     })
@@ -51,11 +51,11 @@ fn local(
 #[tactic(auto, using(c_expression_parser::proofs::Loops::list_turn, c_expression_parser::proofs::Loops::list_end))]
 fn locals(
     alloc: Global,
-    scope: &Scope,
+    scope: &TypedefScope,
     tokens: &mut Tokens<'_>,
     depth: usize,
     base: &SpecifierType,
-) -> Result<Seq<Local>, ParseStop>
+) -> Result<Seq<LocalDeclarator>, ParseStop>
     requires { bare base.now ≡ base.now }
     ensures { Answers (list_from (model.local scope.now depth base.now) (length tokens.old) [] tokens.old) result
         tokens.new }
@@ -75,10 +75,10 @@ fn locals(
 #[tactic(auto, unfolding(c_grammar::specs::ParseStatements::line))]
 fn line(
     alloc: Global,
-    scope: &Scope,
+    scope: &TypedefScope,
     tokens: &mut Tokens<'_>,
     depth: usize,
-) -> Result<Seq<Local>, ParseStop>
+) -> Result<Seq<LocalDeclarator>, ParseStop>
     ensures { Answers (model.line scope.now depth tokens.old) result tokens.new }
 {
     let base = Box::new(alloc, plain(alloc, scope, tokens)?)?;
@@ -90,7 +90,7 @@ fn line(
 #[tactic(auto, unfolding(c_grammar::specs::ParseStatements::optional))]
 fn optional(
     alloc: Global,
-    scope: &Scope,
+    scope: &TypedefScope,
     tokens: &mut Tokens<'_>,
     depth: usize,
     mark: Punct,
@@ -107,7 +107,7 @@ fn optional(
 #[tactic(auto, unfolding(c_grammar::specs::ParseStatements::condition))]
 fn condition(
     alloc: Global,
-    scope: &Scope,
+    scope: &TypedefScope,
     tokens: &mut Tokens<'_>,
     depth: usize,
 ) -> Result<Box<Expr>, ParseStop>
@@ -122,7 +122,7 @@ fn condition(
 #[tactic(auto, unfolding(c_grammar::specs::ParseStatements::first_value))]
 fn first_value(
     alloc: Global,
-    scope: &Scope,
+    scope: &TypedefScope,
     tokens: &mut Tokens<'_>,
     depth: usize,
 ) -> Result<Box<ForFirst>, ParseStop>
@@ -137,7 +137,7 @@ fn first_value(
 #[tactic(auto, unfolding(c_grammar::specs::ParseStatements::first))]
 fn for_first(
     alloc: Global,
-    scope: &Scope,
+    scope: &TypedefScope,
     tokens: &mut Tokens<'_>,
     depth: usize,
 ) -> Result<Box<ForFirst>, ParseStop>
@@ -158,7 +158,7 @@ fn for_first(
 #[tactic(auto, unfolding(c_grammar::specs::ParseStatements::case_label))]
 fn case_label(
     alloc: Global,
-    scope: &Scope,
+    scope: &TypedefScope,
     tokens: &mut Tokens<'_>,
     depth: usize,
     at: u32,
@@ -173,7 +173,7 @@ fn case_label(
 #[tactic(auto, unfolding(c_grammar::specs::ParseStatements::label))]
 fn label(
     alloc: Global,
-    scope: &Scope,
+    scope: &TypedefScope,
     tokens: &mut Tokens<'_>,
     depth: usize,
 ) -> Result<Label, ParseStop>
@@ -204,7 +204,7 @@ fn end_statement(
 #[tactic(auto, unfolding(crate::proofs::Opens::return_behind))]
 fn return_behind(
     alloc: Global,
-    scope: &Scope,
+    scope: &TypedefScope,
     tokens: &mut Tokens<'_>,
     depth: usize,
     at: u32,
@@ -219,7 +219,7 @@ fn return_behind(
 #[tactic(auto, unfolding(c_grammar::specs::ParseStatements::value))]
 fn expression_statement(
     alloc: Global,
-    scope: &Scope,
+    scope: &TypedefScope,
     tokens: &mut Tokens<'_>,
     depth: usize,
 ) -> Result<Box<Stmt>, ParseStop>
@@ -239,7 +239,11 @@ fn ends_section(tokens: &Tokens<'_>) -> bool
 }
 
 /// Puts declarations behind statements.
-fn push_locals(alloc: Global, found: &mut Seq<Stmt>, locals: Seq<Local>) -> Result<(), AllocError>
+fn push_locals(
+    alloc: Global,
+    found: &mut Seq<Stmt>,
+    locals: Seq<LocalDeclarator>,
+) -> Result<(), AllocError>
     ensures { OnOk result (found.new ≡ found.old ++ locals_of locals) }
 {
     for local in Seq::into_vec(locals) {
@@ -258,7 +262,7 @@ fn push_locals(alloc: Global, found: &mut Seq<Stmt>, locals: Seq<Local>) -> Resu
 #[tactic(auto, using(crate::proofs::Loops::items_turn, crate::proofs::Loops::items_end))]
 pub fn items(
     alloc: Global,
-    scope: &Scope,
+    scope: &TypedefScope,
     tokens: &mut Tokens<'_>,
     depth: usize,
     inner: usize,
@@ -285,7 +289,7 @@ pub fn items(
 #[cycle(stmt)]
 fn block(
     alloc: Global,
-    scope: &Scope,
+    scope: &TypedefScope,
     tokens: &mut Tokens<'_>,
     depth: usize,
     inner: usize,
@@ -302,7 +306,7 @@ fn block(
 #[tactic(auto, using(crate::proofs::Loops::stmts_turn, crate::proofs::Loops::stmts_end))]
 fn stmts(
     alloc: Global,
-    scope: &Scope,
+    scope: &TypedefScope,
     tokens: &mut Tokens<'_>,
     depth: usize,
     inner: usize,
@@ -325,7 +329,7 @@ fn stmts(
 #[tactic(auto, unfolding(c_grammar::specs::ParseStatements::section))]
 fn section(
     alloc: Global,
-    scope: &Scope,
+    scope: &TypedefScope,
     tokens: &mut Tokens<'_>,
     depth: usize,
     inner: usize,
@@ -345,7 +349,7 @@ fn section(
 #[tactic(auto, using(crate::proofs::Loops::sections_turn, crate::proofs::Loops::sections_end))]
 fn sections(
     alloc: Global,
-    scope: &Scope,
+    scope: &TypedefScope,
     tokens: &mut Tokens<'_>,
     depth: usize,
     inner: usize,
@@ -369,7 +373,7 @@ fn sections(
 #[tactic(auto, unfolding(c_grammar::specs::ParseStatements::alternative))]
 fn alternative(
     alloc: Global,
-    scope: &Scope,
+    scope: &TypedefScope,
     tokens: &mut Tokens<'_>,
     depth: usize,
     inner: usize,
@@ -402,7 +406,7 @@ fn alternative(
 #[tactic(auto, unfolding(c_grammar::specs::ParseStatements::if_else))]
 fn if_else(
     alloc: Global,
-    scope: &Scope,
+    scope: &TypedefScope,
     tokens: &mut Tokens<'_>,
     depth: usize,
     inner: usize,
@@ -419,7 +423,7 @@ fn if_else(
 #[tactic(auto, unfolding(crate::proofs::Opens::while_loop))]
 fn while_loop(
     alloc: Global,
-    scope: &Scope,
+    scope: &TypedefScope,
     tokens: &mut Tokens<'_>,
     depth: usize,
     inner: usize,
@@ -436,7 +440,7 @@ fn while_loop(
 #[tactic(auto, unfolding(c_grammar::specs::ParseStatements::do_while))]
 fn do_loop(
     alloc: Global,
-    scope: &Scope,
+    scope: &TypedefScope,
     tokens: &mut Tokens<'_>,
     depth: usize,
     inner: usize,
@@ -454,7 +458,7 @@ fn do_loop(
 #[tactic(auto, unfolding(crate::proofs::Opens::for_loop))]
 fn for_loop(
     alloc: Global,
-    scope: &Scope,
+    scope: &TypedefScope,
     tokens: &mut Tokens<'_>,
     depth: usize,
     inner: usize,
@@ -482,7 +486,7 @@ fn for_loop(
 #[tactic(auto, unfolding(c_grammar::specs::ParseStatements::switch))]
 fn switch(
     alloc: Global,
-    scope: &Scope,
+    scope: &TypedefScope,
     tokens: &mut Tokens<'_>,
     depth: usize,
     inner: usize,
@@ -506,7 +510,7 @@ fn switch(
 #[tactic(auto, using(crate::proofs::Deeper::stmt_deeper), unfolding(crate::proofs::Opens::statement))]
 pub fn stmt(
     alloc: Global,
-    scope: &Scope,
+    scope: &TypedefScope,
     tokens: &mut Tokens<'_>,
     depth: usize,
 ) -> Result<Box<Stmt>, ParseStop>

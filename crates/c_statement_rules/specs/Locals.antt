@@ -14,7 +14,7 @@ use Rattle.c_type_faults.specs.declared.faults.Kind.TheVariants.{BadType, BadIni
 use Rattle.c_type_rules.specs.declared.typed.TypedExpression.{TypedExpression}
 use Rattle.c_operators.specs.Null.{take_value}
 use Rattle.c_checks.specs.declared.env.Env.{Env}
-use Rattle.c_checks.specs.declared.meanings.Meaning.TheVariants as m
+use Rattle.c_checks.specs.declared.meanings.NameMeaning.TheVariants as m
 use Rattle.c_checks.specs.declared.notes.Notes.{Notes}
 use Rattle.c_checks.specs.Checks.{Check, pure, and_then, each, fault, note_fault}
 use Rattle.c_checks.specs.Notes.{with_fault}

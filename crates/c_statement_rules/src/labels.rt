@@ -16,11 +16,11 @@ use std::marker::Model;
 
 /// Values, each once. Contracts see them in the order in which they came.
 #[derive(Drop)]
-pub struct Words {
+pub struct DistinctValues {
     values: IndexSet<u64>,
 }
 
-impl Model for Words {
+impl Model for DistinctValues {
     ghost use Rattle.std.specs.Prelude.{List, ℕ};
 
     ghost Value = { List ℕ };
@@ -28,12 +28,12 @@ impl Model for Words {
     ghost view = { λ w. w.values.keys };
 }
 
-impl Words {
+impl DistinctValues {
     /// No values.
-    pub fn new(alloc: Global) -> Words
+    pub fn new(alloc: Global) -> DistinctValues
         ensures { result ≡ [] }
     {
-        Words {
+        DistinctValues {
             values: IndexSet::new(alloc),
         }
     }
@@ -53,7 +53,7 @@ impl Words {
 #[derive(Drop)]
 pub struct Labels {
     /// The values, as words of the promoted type of the operand.
-    pub words: Words,
+    pub words: DistinctValues,
     pub has_default: bool,
 }
 
@@ -63,7 +63,7 @@ impl Labels {
         ensures { result ≡ spec.no_labels }
     {
         Labels {
-            words: Words::new(alloc),
+            words: DistinctValues::new(alloc),
             has_default: false,
         }
     }

@@ -8,7 +8,7 @@ ghost use Rattle.c_checks.specs.Checks.{Finds, each, both};
 ghost use Rattle.c_statement_rules.specs.Locals as spec;
 
 use crate::objects::{object_type, parameter_type};
-use c_checks::{Env, Meaning, Notes, declare, note, note_fault, stands_here};
+use c_checks::{Env, NameMeaning, Notes, declare, note, note_fault, stands_here};
 use c_declared_types::DeclaredType;
 use c_operators::take_value;
 use c_tree::{Box, Name, Seq};
@@ -40,7 +40,7 @@ fn new_local<'a>(
         Err(_) => Err(AllocError),
         Ok(number) => {
             let own = ty.copy(alloc)?;
-            declare(env, name, Meaning::Local { number, ty: own })?;
+            declare(env, name, NameMeaning::Local { number, ty: own })?;
             let in_memory = !is_scalar(&ty);
             let own = ty.copy(alloc)?;
             locals.push(Local { ty: own, in_memory })?;
@@ -60,7 +60,7 @@ fn local_of_type<'a>(
 {
     match ty {
         None => {
-            declare(env, name, Meaning::Faulty)?;
+            declare(env, name, NameMeaning::Faulty)?;
             Ok(None)
         }
         Some(ty) => new_local(alloc, locals, env, name, ty),

@@ -4,7 +4,7 @@ use Rattle.std.specs.Option.{option_map}
 use Rattle.c_arithmetic.specs.declared.integer_type.IntegerType.{IntegerType}
 use Rattle.c_tree.specs.declared.expressions.Expr.{Expr}
 use Rattle.c_tree.specs.declared.types.TypeNode.{TypeNode}
-use Rattle.c_tree.specs.declared.statements.Local.{Local}
+use Rattle.c_tree.specs.declared.statements.LocalDeclarator.{LocalDeclarator}
 use Rattle.c_tree.specs.declared.statements.ForFirst.{ForFirst}
 use Rattle.c_tree.specs.declared.statements.ForFirst.TheVariants as g
 use Rattle.c_tree.specs.declared.statements.Label.{Label}
@@ -64,7 +64,7 @@ initialiser_of new None s = (option_map without_initialiser new, s)
 initialiser_of new (Some x) s =
     and_then (beside s.0 (judge x s.1)) (λ a u. in_body u (both new a local_with_value u.1.1))
 
-abbrev pub local_of : Local → BodyState → Option TLocal × BodyState
+abbrev pub local_of : LocalDeclarator → BodyState → Option TLocal × BodyState
 local_of d s =
     and_then (beside s.0 (type_of d.declaration.at d.declaration.ty s.1)) (λ ty u.
     and_then (local_declared d.declaration.at d.declaration.name ty u) (λ new. initialiser_of new d.init))

@@ -154,7 +154,7 @@ fn initialiser_of<'a>(
 /// Declares a local, and judges its initialiser.
 pub(crate) fn local_of<'a>(
     alloc: Global,
-    local: &'a c_tree::Local,
+    local: &'a c_tree::LocalDeclarator,
     locals: &mut Seq<c_typed_tree::Local>,
     env: &mut Env<'a>,
     notes: &mut Notes<'a>,
@@ -171,7 +171,7 @@ pub(crate) fn local_of<'a>(
 /// Declares locals in their order.
 fn locals_of<'a>(
     alloc: Global,
-    list: &'a [c_tree::Local],
+    list: &'a [c_tree::LocalDeclarator],
     locals: &mut Seq<c_typed_tree::Local>,
     env: &mut Env<'a>,
     notes: &mut Notes<'a>,

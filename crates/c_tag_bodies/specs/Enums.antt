@@ -5,8 +5,8 @@ use Rattle.c_tree.specs.declared.expressions.Expr.TheBlock as k
 use Rattle.c_type_faults.specs.declared.faults.Kind.TheVariants.{Redeclared}
 use Rattle.c_type_rules.specs.declared.typed.TypedExpression.{TypedExpression}
 use Rattle.c_constant_rules.specs.Values.{given_value, next_value}
-use Rattle.c_checks.specs.declared.meanings.Meaning.{Meaning}
-use Rattle.c_checks.specs.declared.meanings.Meaning.TheVariants as m
+use Rattle.c_checks.specs.declared.meanings.NameMeaning.{NameMeaning}
+use Rattle.c_checks.specs.declared.meanings.NameMeaning.TheVariants as m
 use Rattle.c_checks.specs.Checks.{Check, and_then, each, note_fault}
 use Rattle.c_checks.specs.Notes.{with_fault}
 use Rattle.c_checks.specs.Scopes.{with_name, stands_here}
@@ -29,7 +29,7 @@ value_held at k.Constant-value-None' before s = within s.0 (value_behind at befo
 value_held at (k.Constant-value-Some' x) before s =
     and_then (judge x s) (λ a u. within u.0 (each a explicit_value u.1))
 
-abbrev pub constant_meaning : Option ℕ → Meaning
+abbrev pub constant_meaning : Option ℕ → NameMeaning
 constant_meaning None = m.Faulty
 constant_meaning (Some word) = m.Constant word
 

@@ -5,7 +5,7 @@ ghost use Rattle.c_checks.specs.Checks.{Finds, each};
 ghost use Rattle.c_tag_bodies.specs.Enums as spec;
 ghost use Rattle.c_tag_bodies.specs.model.Parts as model;
 
-use c_checks::{Env, Meaning, Notes, declare, note, note_fault, stands_here};
+use c_checks::{Env, NameMeaning, Notes, declare, note, note_fault, stands_here};
 use c_constant_rules::values::{given_value, next_value};
 use c_expressions::judge;
 use c_tree::{Constant, Expr};
@@ -69,12 +69,12 @@ fn constant_value<'a>(
     }
 }
 
-fn constant_meaning(value: Option<u64>) -> Meaning
+fn constant_meaning(value: Option<u64>) -> NameMeaning
     ensures { result ≡ spec.constant_meaning value }
 {
     match value {
-        None => Meaning::Faulty,
-        Some(word) => Meaning::Constant(word),
+        None => NameMeaning::Faulty,
+        Some(word) => NameMeaning::Constant(word),
     }
 }
 

@@ -7,7 +7,7 @@ ghost use Rattle.c_tag_bodies.specs.Members as spec;
 
 use c_checks::{Notes, note};
 use c_declared_types::{DeclaredType, is_deep_at_most};
-use c_scopes::Table;
+use c_scopes::NameTable;
 use c_struct_layout::Field;
 use c_tree::{Name, Seq};
 use c_type_faults::Kind;
@@ -22,7 +22,7 @@ const MOST_DEPTH: u64 = 256;
 #[derive(Drop)]
 pub struct Members<'a> {
     /// Each name with the number of its member, if that has no fault.
-    pub names: Table<'a, Option<u32>>,
+    pub names: NameTable<'a, Option<u32>>,
     /// The members without a fault, in order.
     pub fields: Seq<Field>,
     /// Whether one has a fault.
@@ -33,7 +33,7 @@ pub(crate) fn no_members<'a>(alloc: Global) -> Members<'a>
     ensures { result ≡ spec.no_members }
 {
     Members {
-        names: Table::new(alloc),
+        names: NameTable::new(alloc),
         fields: Seq::new(alloc),
         faulty: false,
     }

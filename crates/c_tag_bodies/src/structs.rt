@@ -17,7 +17,7 @@ use c_checks::{Notes, UntaggedStruct, add_struct, note};
 use c_declared_types::DeclaredType;
 use c_judgements::leaves::{incomplete, tagged_enum, tagged_struct};
 use c_judgements::members::struct_number;
-use c_scopes::Table;
+use c_scopes::NameTable;
 use c_struct_layout::{Field, lay_out};
 use c_tree::{Name, Seq};
 use c_type_faults::Kind;
@@ -26,7 +26,7 @@ use std::alloc::{AllocError, Global};
 use std::mem::replace;
 
 /// Whether a tag has a body.
-fn is_defined(defined: &Table<'_, ()>, name: &[u8]) -> bool
+fn is_defined(defined: &NameTable<'_, ()>, name: &[u8]) -> bool
     ensures { result ≡ is_some (find name.now defined.now) }
 {
     defined.find(name).is_some()
@@ -34,7 +34,7 @@ fn is_defined(defined: &Table<'_, ()>, name: &[u8]) -> bool
 
 /// A tag has a body from here on.
 pub(crate) fn add_body<'a>(
-    defined: &mut Table<'a, ()>,
+    defined: &mut NameTable<'a, ()>,
     tag: &'a Option<Name>,
 ) -> Result<(), AllocError>
     ensures { OnOk result (defined.new ≡ spec.with_body tag.now defined.old) }
@@ -47,7 +47,7 @@ pub(crate) fn add_body<'a>(
 
 /// The body of an enum with a tag begins.
 fn tagged_body<'a>(
-    defined: &Table<'a, ()>,
+    defined: &NameTable<'a, ()>,
     notes: &mut Notes<'a>,
     at: u32,
     name: &'a [u8],
@@ -63,7 +63,7 @@ fn tagged_body<'a>(
 
 /// The body of an enum begins.
 pub(crate) fn begin_enum<'a>(
-    defined: &Table<'a, ()>,
+    defined: &NameTable<'a, ()>,
     notes: &mut Notes<'a>,
     at: u32,
     tag: &'a Option<Name>,
@@ -120,7 +120,7 @@ fn no_body(notes: &mut Notes<'_>, at: u32) -> Result<Option<u32>, AllocError>
 /// The body of a struct begins: gives the number of the struct, unless this is no body of its tag.
 pub(crate) fn begin_struct<'a>(
     alloc: Global,
-    defined: &Table<'a, ()>,
+    defined: &NameTable<'a, ()>,
     notes: &mut Notes<'a>,
     at: u32,
     tag: &'a Option<Name>,
@@ -197,7 +197,7 @@ fn set_struct<'a>(
 )
     ensures { notes.new ≡ spec.with_struct number structure members.old.names notes.old }
 {
-    let names = replace(&mut members.names, Table::new(alloc));
+    let names = replace(&mut members.names, NameTable::new(alloc));
     set_element(alloc, &mut notes.structs, number as usize, structure);
     set_element(alloc, &mut notes.members, number as usize, names);
 }

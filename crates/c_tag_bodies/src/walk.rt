@@ -12,7 +12,7 @@ use c_checks::{Env, Notes};
 use c_declared_types::DeclaredType;
 use c_expressions::derive;
 use c_judgements::leaves::leaf;
-use c_scopes::Table;
+use c_scopes::NameTable;
 use c_tree::{Constant, Declaration, Name, TypeNode};
 use std::alloc::{AllocError, Global};
 
@@ -20,7 +20,7 @@ use std::alloc::{AllocError, Global};
 fn enum_body<'a>(
     alloc: Global,
     list: &'a [Constant],
-    defined: &mut Table<'a, ()>,
+    defined: &mut NameTable<'a, ()>,
     env: &mut Env<'a>,
     notes: &mut Notes<'a>,
     at: u32,
@@ -40,7 +40,7 @@ fn enum_body<'a>(
 pub fn bodies<'a>(
     alloc: Global,
     node: &'a TypeNode,
-    defined: &mut Table<'a, ()>,
+    defined: &mut NameTable<'a, ()>,
     env: &mut Env<'a>,
     notes: &mut Notes<'a>,
 ) -> Result<(), AllocError>
@@ -69,7 +69,7 @@ pub fn bodies<'a>(
 fn struct_body<'a>(
     alloc: Global,
     list: &'a [Declaration],
-    defined: &mut Table<'a, ()>,
+    defined: &mut NameTable<'a, ()>,
     env: &mut Env<'a>,
     notes: &mut Notes<'a>,
     at: u32,
@@ -90,7 +90,7 @@ fn struct_body<'a>(
 fn members<'a>(
     alloc: Global,
     list: &'a [Declaration],
-    defined: &mut Table<'a, ()>,
+    defined: &mut NameTable<'a, ()>,
     env: &mut Env<'a>,
     notes: &mut Notes<'a>,
     found: &mut Members<'a>,
@@ -109,7 +109,7 @@ fn members<'a>(
 fn member<'a>(
     alloc: Global,
     d: &'a Declaration,
-    defined: &mut Table<'a, ()>,
+    defined: &mut NameTable<'a, ()>,
     env: &mut Env<'a>,
     notes: &mut Notes<'a>,
     found: &mut Members<'a>,
@@ -126,7 +126,7 @@ fn member<'a>(
 pub fn declared_type<'a>(
     alloc: Global,
     node: &'a TypeNode,
-    defined: &mut Table<'a, ()>,
+    defined: &mut NameTable<'a, ()>,
     env: &mut Env<'a>,
     notes: &mut Notes<'a>,
     at: u32,

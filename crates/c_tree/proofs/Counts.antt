@@ -13,7 +13,7 @@ use Rattle.c_tree.specs.declared.types.Declaration.{Declaration}
 use Rattle.c_tree.specs.declared.types.Parameter.{Parameter}
 use Rattle.c_tree.specs.declared.statements.Stmt as s
 use Rattle.c_tree.specs.declared.statements.Section.{Section}
-use Rattle.c_tree.specs.declared.statements.Local.{Local}
+use Rattle.c_tree.specs.declared.statements.LocalDeclarator.{LocalDeclarator}
 use Rattle.c_tree.specs.declared.statements.ForFirst.{ForFirst}
 use Rattle.c_tree.specs.declared.declarations.Init as i
 use Rattle.c_tree.specs.Nodes.{Node, Nodes, node, none, more, nodes_of, node_count, nodes_count, append_nodes, expr_node, type_node, stmt_node, init_node, local_node, first_nodes, part_of_for, optional}
@@ -200,9 +200,9 @@ pub count-Empty : stmt_count s.Empty ≡ 1
 unfolding opens
 count-Empty = refl
 
-pub count-Local : (v : Local) → stmt_count (s.Local v) ≡ node_count (local_node v)
+pub count-LocalDeclarator : (v : LocalDeclarator) → stmt_count (s.Local v) ≡ node_count (local_node v)
 unfolding opens
-count-Local v = refl
+count-LocalDeclarator v = refl
 
 pub count-Value : (v : e.Expr) → init_count (i.Value v) ≡ expr_count v
 unfolding opens

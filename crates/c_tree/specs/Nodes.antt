@@ -7,7 +7,7 @@ use Rattle.c_tree.specs.declared.expressions.Expr.TheBlock as k
 use Rattle.c_tree.specs.declared.types.Declaration.{Declaration}
 use Rattle.c_tree.specs.declared.statements.Stmt as s
 use Rattle.c_tree.specs.declared.statements.Stmt.TheBlock as b
-use Rattle.c_tree.specs.declared.statements.Local.{Local}
+use Rattle.c_tree.specs.declared.statements.LocalDeclarator.{LocalDeclarator}
 use Rattle.c_tree.specs.declared.statements.Label.{Label}
 use Rattle.c_tree.specs.declared.statements.Label.TheVariants as l
 use Rattle.c_tree.specs.declared.statements.ForFirst.{ForFirst}
@@ -130,7 +130,7 @@ part_of_for None = node (codes "none") none
 part_of_for (Some y) = expr_node y
 
 -- Statements.
-abbrev pub local_node : Local → Node
+abbrev pub local_node : LocalDeclarator → Node
 local_node d = node (codes "local " ++ d.declaration.name) (more (type_node d.declaration.ty) (optional d.init))
 
 abbrev pub first_nodes : ForFirst → Nodes

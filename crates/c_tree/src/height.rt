@@ -9,8 +9,8 @@ ghost use Rattle.c_tree.specs.Nodes.{node_height, nodes_height, expr_node, type_
 ghost use Rattle.c_tree.specs.model.Parts.{children_of, constant_node, member_node, parameter_node, section_node, else_nodes};
 
 use crate::{
-    Box, Constant, Declaration, Expr, External, ForFirst, FunctionEnd, Init, Label, Local,
-    Parameter, Section, Stmt, TranslationUnit, TypeNode,
+    Box, Constant, Declaration, Expr, External, ForFirst, FunctionEnd, Init, Label,
+    LocalDeclarator, Parameter, Section, Stmt, TranslationUnit, TypeNode,
 };
 
 /// Whether an expression is at most so high.
@@ -202,7 +202,7 @@ fn are_parameters_within(list: &[Parameter], most: u32) -> bool
 }
 
 /// Whether a declaration in a block is at most so high.
-fn is_local_within(local: &Local, most: u32) -> bool
+fn is_local_within(local: &LocalDeclarator, most: u32) -> bool
     ensures { IsTrue result ↔ (node_height (local_node local.now) ≤ most) }
 {
     match most.checked_sub(1) {
@@ -212,14 +212,14 @@ fn is_local_within(local: &Local, most: u32) -> bool
 }
 
 /// Whether the type and the initialiser of a declaration in a block are at most so high.
-fn are_local_parts_within(local: &Local, most: u32) -> bool
+fn are_local_parts_within(local: &LocalDeclarator, most: u32) -> bool
     ensures { IsTrue result ↔ (nodes_height (children_of (local_node local.now)) ≤ most) }
 {
     is_type_within(&local.declaration.ty, most) && is_boxed_value_within(&local.init, most)
 }
 
 /// Whether declarations in a block are at most so high.
-fn are_locals_within(list: &[Local], most: u32) -> bool
+fn are_locals_within(list: &[LocalDeclarator], most: u32) -> bool
     ensures { IsTrue result ↔ (nodes_height (nodes_of local_node list.now) ≤ most) }
 {
     for local in list {

@@ -23,5 +23,5 @@ pub use height::is_within_height;
 pub use name::Name;
 pub use print_units::tree_text;
 pub use seq::Seq;
-pub use statements::{ForFirst, Label, Local, Section, Stmt};
+pub use statements::{ForFirst, Label, LocalDeclarator, Section, Stmt};
 pub use types::{BasicType, Constant, Declaration, Parameter, TypeName, TypeNode};

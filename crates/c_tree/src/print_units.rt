@@ -7,8 +7,8 @@ ghost use Rattle.c_tree.specs.model.Parts.{line_text, line_of, children_of, sect
 use crate::print::{below, put_expr, put_line, put_line_of_three, put_type};
 use crate::words::storage_text;
 use crate::{
-    Box, Declaration, Expr, External, ForFirst, FunctionEnd, Init, Label, Local, Section, Stmt,
-    TranslationUnit,
+    Box, Declaration, Expr, External, ForFirst, FunctionEnd, Init, Label, LocalDeclarator, Section,
+    Stmt, TranslationUnit,
 };
 use std::alloc::{AllocError, Global};
 
@@ -34,7 +34,7 @@ fn put_local(
     alloc: Global,
     out: &mut Vec<u8>,
     indent: &[u8],
-    local: &Local,
+    local: &LocalDeclarator,
 ) -> Result<(), AllocError>
     ensures { OnOk result (out.new.items ≡ out.old.items ++ node_text indent.now (local_node local.now)) }
 {
@@ -49,7 +49,7 @@ fn put_locals(
     alloc: Global,
     out: &mut Vec<u8>,
     indent: &[u8],
-    list: &[Local],
+    list: &[LocalDeclarator],
 ) -> Result<(), AllocError>
     ensures { OnOk result (out.new.items ≡ out.old.items ++ nodes_text indent.now (nodes_of local_node list.now)) }
 {

@@ -43,7 +43,7 @@ pub enum Stmt {
     },
     Expression(Box<Expr>),
     Empty,
-    Local(Box<Local>),
+    Local(Box<LocalDeclarator>),
 }
 
 /// A label of a `switch` with the statements up to the next label. None stand under a label that
@@ -64,7 +64,7 @@ pub enum Label {
 
 /// A declarator in a block, with its initialiser. A declaration with several gives one for each.
 #[derive(Drop)]
-pub struct Local {
+pub struct LocalDeclarator {
     pub declaration: Declaration,
     pub init: Option<Box<Expr>>,
 }
@@ -74,5 +74,5 @@ pub struct Local {
 pub enum ForFirst {
     Nothing,
     Value(Expr),
-    Locals(Seq<Local>),
+    Locals(Seq<LocalDeclarator>),
 }

@@ -18,8 +18,8 @@ use Rattle.c_typed_tree.specs.model.View.{opens}
 use Rattle.c_typed_tree.specs.Layout.{is_object, size_of}
 use Rattle.c_typed_tree.specs.Constants.{is_integer}
 use Rattle.c_typed_tree.specs.Typing.{Context, is_same_type, is_array, is_struct, is_scalar, is_fit, points_to, points_to_object, is_element, is_member, target_of, has_step_type, has_unary_type, is_place, is_in_memory, is_number, has_rule, is_typed, depth_behind, most_depth}
-use Rattle.c_type_rules.specs.declared.typed.Place.{Place}
-use Rattle.c_type_rules.specs.declared.typed.Place.TheVariants as p
+use Rattle.c_type_rules.specs.declared.typed.PlaceKind.{PlaceKind}
+use Rattle.c_type_rules.specs.declared.typed.PlaceKind.TheVariants as p
 use Rattle.c_type_rules.specs.declared.typed.TypedExpression.{TypedExpression}
 use Rattle.c_type_rules.specs.Types.{points_to_struct}
 use Rattle.c_type_rules.specs.Values.{integer_type}
@@ -65,19 +65,19 @@ Steps op = (ds : List StructDef) (ls : List l.Local) (ty : PlainType) (x : Expr)
 
 -- ---- members
 
-member_somewhere : (stands : Place) → IsTrue (is_somewhere (place_of_member stands)) → IsTrue (is_somewhere stands)
+member_somewhere : (stands : PlaceKind) → IsTrue (is_somewhere (place_of_member stands)) → IsTrue (is_somewhere stands)
 member_somewhere p.Nowhere h = h
 member_somewhere (p.Local n) h = h
 member_somewhere (p.Global n) h = refl
 member_somewhere p.Elsewhere h = h
 
-somewhere_member : (stands : Place) → IsTrue (is_somewhere stands) → IsTrue (is_somewhere (place_of_member stands))
+somewhere_member : (stands : PlaceKind) → IsTrue (is_somewhere stands) → IsTrue (is_somewhere (place_of_member stands))
 somewhere_member p.Nowhere h = h
 somewhere_member (p.Local n) h = h
 somewhere_member (p.Global n) h = refl
 somewhere_member p.Elsewhere h = h
 
-member_memory : (ls : List l.Local) (stands : Place) → IsTrue (is_memory ls (place_of_member stands)) → IsTrue (is_memory ls stands)
+member_memory : (ls : List l.Local) (stands : PlaceKind) → IsTrue (is_memory ls (place_of_member stands)) → IsTrue (is_memory ls stands)
 member_memory ls p.Nowhere h = h
 member_memory ls (p.Local n) h = h
 member_memory ls (p.Global n) h = refl

@@ -15,8 +15,8 @@ use Rattle.c_typed_tree.specs.Expressions.{Expr, type_of}
 use Rattle.c_typed_tree.specs.View.{type_view, expr_view}
 use Rattle.c_typed_tree.specs.Layout.{is_complete, is_object, size_of}
 use Rattle.c_typed_tree.specs.Typing.{Context, callee_signature, is_promoted, is_scalar, is_array, is_fit, is_member, is_place, is_in_memory, is_typed, depth_behind, most_depth}
-use Rattle.c_type_rules.specs.declared.typed.Place.{Place}
-use Rattle.c_type_rules.specs.declared.typed.Place.TheVariants as p
+use Rattle.c_type_rules.specs.declared.typed.PlaceKind.{PlaceKind}
+use Rattle.c_type_rules.specs.declared.typed.PlaceKind.TheVariants as p
 use Rattle.c_type_rules.specs.declared.typed.TypedExpression.{TypedExpression}
 use Rattle.c_type_rules.specs.Values.{integer_type}
 use Rattle.c_primary_rules.specs.declared.switches.SwitchValue.{SwitchValue}
@@ -29,7 +29,7 @@ may_be_memory None = true
 may_be_memory (Some l) = l.in_memory
 
 -- a place that is an object of memory or a part of one, where each local is as the list says
-abbrev pub is_memory : List Local → Place → Bool
+abbrev pub is_memory : List Local → PlaceKind → Bool
 is_memory locals p.Nowhere = false
 is_memory locals (p.Local number) = may_be_memory (slice_get locals number)
 is_memory locals (p.Global number) = true
@@ -37,7 +37,7 @@ is_memory locals p.Elsewhere = true
 
 -- the tree is a place too, of the memory where the expression is; and its type is one of which there may be an
 -- address
-pub record IsPlaced (c : Context) (stands : Place) (x : Expr) : Type 0 where
+pub record IsPlaced (c : Context) (stands : PlaceKind) (x : Expr) : Type 0 where
   pub place : IsTrue (is_place x)
   pub memory : IsTrue (is_memory c.locals stands) → IsTrue (is_in_memory c.locals x)
   pub depth : IsTrue (nat_le (depth_behind (type_of x)) most_depth)
@@ -93,7 +93,7 @@ pub record IsSwitched (c : Context) (s : SwitchValue) : Type 0 where
   pub promoted : IsTrue (is_promoted (type_view (integer_type s.ty)))
 
 -- `&` takes the address of a place that is in memory
-abbrev pub TakesMemory : Context → UnaryOp → Place → Type 0
+abbrev pub TakesMemory : Context → UnaryOp → PlaceKind → Type 0
 TakesMemory c u.Address stands = IsTrue (is_somewhere stands) → IsTrue (is_memory c.locals stands)
 TakesMemory c u.Increment stands = Unit {0}
 TakesMemory c u.Decrement stands = Unit {0}

@@ -9,7 +9,7 @@ use Rattle.c_typed_tree.specs.declared.types.CType as t
 use Rattle.c_typed_tree.specs.declared.expressions.TExpr as x
 use Rattle.c_typed_tree.specs.Layout.{integer_of}
 use Rattle.c_typed_tree.specs.View.{type_view}
-use Rattle.c_type_rules.specs.declared.typed.Place.TheVariants as p
+use Rattle.c_type_rules.specs.declared.typed.PlaceKind.TheVariants as p
 use Rattle.c_type_rules.specs.declared.typed.TypedExpression.{TypedExpression}
 use Rattle.c_typed_tree.specs.Typing.{is_same_type}
 

@@ -13,4 +13,4 @@ mod typed;
 pub mod types;
 
 pub use refusal::{Refusal, refuse};
-pub use typed::{Place, TypedExpression, value};
+pub use typed::{PlaceKind, TypedExpression, value};

@@ -8,7 +8,7 @@ use c_typed_tree::{CType, TExpr};
 
 /// Which place an expression is, if it is one (C99 6.3.2.1).
 #[derive(Clone, Copy, Debug, PartialEq, Eq)]
-pub enum Place {
+pub enum PlaceKind {
     /// A value, and no place.
     Nowhere,
     /// The local with this number, or a member of it.
@@ -25,7 +25,7 @@ pub struct TypedExpression {
     pub at: u32,
     pub tree: Box<TExpr>,
     pub ty: CType,
-    pub place: Place,
+    pub place: PlaceKind,
 }
 
 /// A value.
@@ -36,6 +36,6 @@ pub fn value(at: u32, ty: CType, tree: Box<TExpr>) -> TypedExpression
         at,
         tree,
         ty,
-        place: Place::Nowhere,
+        place: PlaceKind::Nowhere,
     }
 }

@@ -6,7 +6,7 @@ ghost use Rattle.c_typed_tree.specs.Lawful.{IsLawful};
 use crate::copy_statements::copy_stmt;
 use crate::{Local, Member, StructDef, TypedFn, TypedUnit};
 use c_tree::Seq;
-use data_object::{Cell, DataObject};
+use data_object::{DataCell, DataObject};
 use std::alloc::{AllocError, Global};
 
 fn copy_member(alloc: Global, member: &Member) -> Result<Member, AllocError>
@@ -56,7 +56,7 @@ fn copy_structs(alloc: Global, list: &Seq<StructDef>) -> Result<Seq<StructDef>, 
     Ok(copies)
 }
 
-fn copy_cells(alloc: Global, list: &Seq<Cell>) -> Result<Seq<Cell>, AllocError>
+fn copy_cells(alloc: Global, list: &Seq<DataCell>) -> Result<Seq<DataCell>, AllocError>
     ensures { IfOk result (λ r. r ≡ list.now) }
 {
     Ok(Seq::from_vec(Vec::from_slice(alloc, list.as_slice())?))

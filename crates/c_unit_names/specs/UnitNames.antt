@@ -10,8 +10,8 @@ use Rattle.c_typed_tree.specs.declared.expressions.Callee.TheVariants as c
 use Rattle.c_type_faults.specs.declared.faults.Kind.TheVariants.{Redeclared}
 use Rattle.c_type_rules.specs.Values.{is_same}
 use Rattle.std.specs.Prelude.{is_some}
-use Rattle.c_checks.specs.declared.meanings.Meaning.{Meaning}
-use Rattle.c_checks.specs.declared.meanings.Meaning.TheVariants as m
+use Rattle.c_checks.specs.declared.meanings.NameMeaning.{NameMeaning}
+use Rattle.c_checks.specs.declared.meanings.NameMeaning.TheVariants as m
 use Rattle.c_checks.specs.declared.env.Env.{Env}
 use Rattle.c_checks.specs.declared.notes.Notes.{Notes}
 use Rattle.c_checks.specs.Notes.{with_fault}
@@ -53,26 +53,26 @@ abbrev pub with_counts : (functions objects undefined : ℕ) → UnitNames → U
 with_counts functions objects undefined u =
     record { declared = u.declared; functions = functions; objects = objects; undefined = undefined }
 
-abbrev pub undefined_name : UnitNames → Meaning × UnitNames
+abbrev pub undefined_name : UnitNames → NameMeaning × UnitNames
 undefined_name u = (m.Undefined u.undefined, with_counts u.functions u.objects (u.undefined + 1) u)
 
-abbrev pub object_name : (defined : Bool) → CType → UnitNames → Meaning × UnitNames
+abbrev pub object_name : (defined : Bool) → CType → UnitNames → NameMeaning × UnitNames
 object_name false ty u = undefined_name u
 object_name true ty u = (m.Object u.objects ty, with_counts u.functions (u.objects + 1) u.undefined u)
 
-abbrev pub function_name : (defined : Bool) → CType → List CType → UnitNames → Meaning × UnitNames
+abbrev pub function_name : (defined : Bool) → CType → List CType → UnitNames → NameMeaning × UnitNames
 function_name false ty parameters u = undefined_name u
 function_name true ty parameters u =
     (m.Function (c.Function u.functions) ty parameters, with_counts (u.functions + 1) u.objects u.undefined u)
 
 -- an array has a length once it is an object
-abbrev pub value_name : Definitions → List ℕ → DeclaredType → UnitNames → Meaning × UnitNames
+abbrev pub value_name : Definitions → List ℕ → DeclaredType → UnitNames → NameMeaning × UnitNames
 value_name ds name (d.Value ty) u = object_name (is_some (find name ds.objects)) ty u
 value_name ds name (d.Unsized element) u = (m.Faulty, u)
 value_name ds name (d.Function ty parameters) u =
     function_name (is_some (find name ds.functions)) ty parameters u
 
-abbrev pub first_meaning : Definitions → List ℕ → NameDeclaration → UnitNames → Meaning × UnitNames
+abbrev pub first_meaning : Definitions → List ℕ → NameDeclaration → UnitNames → NameMeaning × UnitNames
 first_meaning ds name new u =
     if new.is_typedef then (m.Typedef new.ty, u) else value_name ds name new.ty u
 
@@ -90,7 +90,7 @@ named_first ds name new u env =
 
 -- ---- what stands there already
 
-abbrev pub meaning_before : Option Meaning → PriorMeaning
+abbrev pub meaning_before : Option NameMeaning → PriorMeaning
 meaning_before None = g.Nothing
 meaning_before (Some m.Faulty) = g.Faulty
 meaning_before (Some (m.Undefined number)) = g.Other

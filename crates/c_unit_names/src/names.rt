@@ -6,11 +6,11 @@ ghost use Rattle.c_scopes.specs.Names.{find};
 ghost use Rattle.c_checks.specs.Checks.{Finds};
 ghost use Rattle.c_unit_names.specs.UnitNames as spec;
 
-use c_checks::{Env, Meaning, Notes, declare, meaning_of, note};
+use c_checks::{Env, NameMeaning, Notes, declare, meaning_of, note};
 use c_declared_types::DeclaredType;
 use c_definitions::{Definitions, defines_function, defines_object};
 use c_judgements::leaves::{copy_declared, copy_types};
-use c_scopes::Table;
+use c_scopes::NameTable;
 use c_type_faults::Kind;
 use c_type_rules::types::is_same;
 use c_typed_tree::{CType, Callee};
@@ -28,7 +28,7 @@ pub struct NameDeclaration {
 /// The names that were declared, and how many of them were numbered.
 #[derive(Drop)]
 pub struct UnitNames<'a> {
-    pub declared: Table<'a, NameDeclaration>,
+    pub declared: NameTable<'a, NameDeclaration>,
     /// The functions that the unit defines.
     pub functions: u32,
     /// The objects that it defines.
@@ -97,12 +97,12 @@ fn next(count: u32) -> Result<u32, AllocError>
     }
 }
 
-fn undefined_name(names: &mut UnitNames<'_>) -> Result<Meaning, AllocError>
+fn undefined_name(names: &mut UnitNames<'_>) -> Result<NameMeaning, AllocError>
     ensures { Finds (spec.undefined_name names.old) result names.new }
 {
     let number = names.undefined;
     names.undefined = next(number)?;
-    Ok(Meaning::Undefined(number))
+    Ok(NameMeaning::Undefined(number))
 }
 
 fn object_name(
@@ -110,7 +110,7 @@ fn object_name(
     names: &mut UnitNames<'_>,
     defined: bool,
     ty: &CType,
-) -> Result<Meaning, AllocError>
+) -> Result<NameMeaning, AllocError>
     ensures { Finds (spec.object_name defined ty.now names.old) result names.new }
 {
     if !defined {
@@ -119,7 +119,7 @@ fn object_name(
     let number = names.objects;
     names.objects = next(number)?;
     let ty = ty.copy(alloc)?;
-    Ok(Meaning::Object { number, ty })
+    Ok(NameMeaning::Object { number, ty })
 }
 
 fn function_name(
@@ -128,7 +128,7 @@ fn function_name(
     defined: bool,
     of: &CType,
     parameters: &[CType],
-) -> Result<Meaning, AllocError>
+) -> Result<NameMeaning, AllocError>
     ensures { Finds (spec.function_name defined of.now parameters.now names.old) result names.new }
 {
     if !defined {
@@ -138,7 +138,7 @@ fn function_name(
     names.functions = next(number)?;
     let of = of.copy(alloc)?;
     let parameters = copy_types(alloc, parameters)?;
-    Ok(Meaning::Function {
+    Ok(NameMeaning::Function {
         callee: Callee::Function(number),
         result: of,
         parameters,
@@ -151,7 +151,7 @@ fn value_name(
     names: &mut UnitNames<'_>,
     name: &[u8],
     ty: &DeclaredType,
-) -> Result<Meaning, AllocError>
+) -> Result<NameMeaning, AllocError>
     ensures { Finds (spec.value_name definitions.now name.now ty.now names.old) result names.new }
 {
     match ty {
@@ -159,7 +159,7 @@ fn value_name(
             let defined = defines_object(definitions, name);
             object_name(alloc, names, defined, ty)
         }
-        DeclaredType::Unsized(_) => Ok(Meaning::Faulty),
+        DeclaredType::Unsized(_) => Ok(NameMeaning::Faulty),
         DeclaredType::Function { result, parameters } => {
             let defined = defines_function(definitions, name);
             function_name(alloc, names, defined, result, parameters.as_slice())
@@ -174,11 +174,11 @@ fn first_meaning(
     names: &mut UnitNames<'_>,
     name: &[u8],
     new: &NameDeclaration,
-) -> Result<Meaning, AllocError>
+) -> Result<NameMeaning, AllocError>
     ensures { Finds (spec.first_meaning definitions.now name.now new.now names.old) result names.new }
 {
     if new.is_typedef {
-        return Ok(Meaning::Typedef(copy_declared(alloc, &new.ty)?));
+        return Ok(NameMeaning::Typedef(copy_declared(alloc, &new.ty)?));
     }
     value_name(alloc, definitions, names, name, &new.ty)
 }
@@ -207,19 +207,19 @@ pub(crate) enum PriorMeaning {
     Other,
 }
 
-fn meaning_before(meaning: Option<&Meaning>) -> PriorMeaning
+fn meaning_before(meaning: Option<&NameMeaning>) -> PriorMeaning
     ensures { result ≡ spec.meaning_before (option_copied meaning.entry) }
 {
     match meaning {
         None => PriorMeaning::Nothing,
         Some(meaning) => match meaning {
-            Meaning::Faulty => PriorMeaning::Faulty,
-            Meaning::Undefined(_) => PriorMeaning::Other,
-            Meaning::Local { .. } => PriorMeaning::Other,
-            Meaning::Object { .. } => PriorMeaning::Other,
-            Meaning::Constant(_) => PriorMeaning::Other,
-            Meaning::Function { .. } => PriorMeaning::Other,
-            Meaning::Typedef(_) => PriorMeaning::Other,
+            NameMeaning::Faulty => PriorMeaning::Faulty,
+            NameMeaning::Undefined(_) => PriorMeaning::Other,
+            NameMeaning::Local { .. } => PriorMeaning::Other,
+            NameMeaning::Object { .. } => PriorMeaning::Other,
+            NameMeaning::Constant(_) => PriorMeaning::Other,
+            NameMeaning::Function { .. } => PriorMeaning::Other,
+            NameMeaning::Typedef(_) => PriorMeaning::Other,
         },
     }
 }
@@ -264,7 +264,7 @@ fn declare_faulty<'a>(env: &mut Env<'a>, name: &'a [u8]) -> Result<(), AllocErro
     ensures { OnOk result (env.new ≡ spec.faulty_name name.now env.old) }
 {
     match meaning_before(meaning_of(env, name)) {
-        PriorMeaning::Nothing => declare(env, name, Meaning::Faulty),
+        PriorMeaning::Nothing => declare(env, name, NameMeaning::Faulty),
         PriorMeaning::Faulty => Ok(()),
         PriorMeaning::Other => Ok(()),
     }

@@ -25,13 +25,13 @@ use Rattle.flat_memory.specs.Laws.{MoreExtents, AreNew}
 use Rattle.flat_memory.proofs.Objects.{extents_grow, others_may_change, objects_begin}
 use Rattle.flat_operations.specs.Contents.{ContentIs}
 use Rattle.flat_operations.proofs.Operations.{contents_stay}
-use Rattle.flat_frames.specs.Shapes.{Shape, frame_size, objects_at, object_at, bytes_before, saved_at, slot_at, argument_at, owner_at}
+use Rattle.flat_frames.specs.Shapes.{FrameShape, frame_size, objects_at, object_at, bytes_before, saved_at, slot_at, argument_at, owner_at}
 use Rattle.flat_frames.specs.Frames.{word_in, FrameIs}
 use Rattle.flat_frames.proofs.Shapes.{pieces_of, frames_are_small}
 use Rattle.flat_frames.proofs.Frames.{argument-word}
 use Rattle.frame_accesses.specs.Laws.{IsAt}
 use Rattle.frame_accesses.proofs.Runs.{stands, bytes-same, reached-same, parts-same}
-use Rattle.frame_transfers.specs.Laws.{Call, IsCall, StandsFor}
+use Rattle.frame_transfers.specs.Laws.{Call, FitsTheStack, StandsFor}
 use Rattle.call_parts.specs.Items.{entry_part}
 use Rattle.call_parts.specs.Laws.{IsFrameAt, EntryDone}
 use Rattle.call_parts.proofs.Entries.{entries_are_done}
@@ -44,7 +44,7 @@ use Rattle.call_entries.proofs.Begins.{get-behind, sizes-are, extent-of, size-of
 
 -- ---- the owners of the new frame
 
-module _ (c : Call) (s : Shape) (own bottom : ℕ) (room : bottom + frame_size s ≤ c.sp) (free : (y : ℕ) → bottom ≤ y → y < c.sp → c.owner y ≡ Nobody) where
+module _ (c : Call) (s : FrameShape) (own bottom : ℕ) (room : bottom + frame_size s ≤ c.sp) (free : (y : ℕ) → bottom ≤ y → y < c.sp → c.owner y ≡ Nobody) where
   sp-is : called_sp c s + frame_size s ≡ c.sp
   sp-is = omega (arith, room)
 
@@ -73,7 +73,7 @@ module _ (c : Call) (s : Shape) (own bottom : ℕ) (room : bottom + frame_size s
 
 -- ---- the stack
 
-below-top : (p : Program) (there : Labels) (start : Start) (xs : Extents) (owner : Owners) (m : Bytes) (gs : List Waiting) (view : ℕ → ℕ) (sp : ℕ) (s : Shape) → CallersAre p there start xs owner m view sp s gs → sp + frame_size s ≤ start.top
+below-top : (p : Program) (there : Labels) (start : Start) (xs : Extents) (owner : Owners) (m : Bytes) (gs : List Waiting) (view : ℕ → ℕ) (sp : ℕ) (s : FrameShape) → CallersAre p there start xs owner m view sp s gs → sp + frame_size s ≤ start.top
 below-top p there start xs owner m [] view sp s a = let e = a.0 in omega (arith, e)
 below-top p there start xs owner m (g ∷ gs) view sp s a =
     let h = below-top p there start xs owner m gs (view_above m (sp + frame_size s) g.shape view) (sp + frame_size s) g.shape a.3 in
@@ -96,7 +96,7 @@ held-argument c k (Bundle cells) m h = h
 unset-content : (xs : Extents) (content : Content) (w : ℕ) → content ≡ unset → ContentIs xs content w
 unset-content xs content w e = subst (λ z. ContentIs xs z w) (sym e) tt
 
-module _ (p : Program) (there : Labels) (start : Start) (c : Call) (gs : List Waiting) (o : Outer) (held : Places) (rest : List AsmItem) (end : ℕ) (s : State) (call : IsCall c) (stack : StackIs p there start c gs held s) (outer : HasOuter o s) (l function arguments : ℕ) (shape : Shape) (body : List AsmItem) (last : ℕ) (at : ItemsAt p there (there l) (entry_part shape shape.saves body) last) (room : HasRoom p c shape) (few : arguments ≤ c.shape.outgoing + 6) (h : StandsFor p there (Branch Bsr 26 l ∷ rest) end c o.memory usable held s) where
+module _ (p : Program) (there : Labels) (start : Start) (c : Call) (gs : List Waiting) (o : Outer) (held : Places) (rest : List AsmItem) (end : ℕ) (s : State) (call : FitsTheStack c) (stack : StackIs p there start c gs held s) (outer : HasOuter o s) (l function arguments : ℕ) (shape : FrameShape) (body : List AsmItem) (last : ℕ) (at : ItemsAt p there (there l) (entry_part shape shape.saves body) last) (room : HasRoom p c shape) (few : arguments ≤ c.shape.outgoing + 6) (h : StandsFor p there (Branch Bsr 26 l ∷ rest) end c o.memory usable held s) where
   abbrev sp : ℕ
   sp = called_sp c shape
 
@@ -404,7 +404,7 @@ module _ (p : Program) (there : Labels) (start : Start) (c : Call) (gs : List Wa
           };
         }
 
-pub calls_are_entered : (p : Program) (there : Labels) (start : Start) (c : Call) (gs : List Waiting) (o : Outer) (held : Places) (rest : List AsmItem) (end : ℕ) (s : State) → IsCall c → StackIs p there start c gs held s → HasOuter o s → (l function arguments : ℕ) (shape : Shape) (body : List AsmItem) (last : ℕ) → ItemsAt p there (there l) (entry_part shape shape.saves body) last → HasRoom p c shape → arguments ≤ c.shape.outgoing + 6 → StandsFor p there (Branch Bsr 26 l ∷ rest) end c o.memory usable held s → EntryIs p there start body last c (called c shape (length o.memory)) gs o held (entry_places (passed function arguments held)) rest end s
+pub calls_are_entered : (p : Program) (there : Labels) (start : Start) (c : Call) (gs : List Waiting) (o : Outer) (held : Places) (rest : List AsmItem) (end : ℕ) (s : State) → FitsTheStack c → StackIs p there start c gs held s → HasOuter o s → (l function arguments : ℕ) (shape : FrameShape) (body : List AsmItem) (last : ℕ) → ItemsAt p there (there l) (entry_part shape shape.saves body) last → HasRoom p c shape → arguments ≤ c.shape.outgoing + 6 → StandsFor p there (Branch Bsr 26 l ∷ rest) end c o.memory usable held s → EntryIs p there start body last c (called c shape (length o.memory)) gs o held (entry_places (passed function arguments held)) rest end s
 calls_are_entered p there start c gs o held rest end s call stack outer l function arguments shape body last at room few h =
     let b = branched p there start c gs o held rest end s call stack outer l function arguments shape body last at room few h in
     entry-is p there start c gs o held rest end s call stack outer l function arguments shape body last at room few h b (entered p there start c gs o held rest end s call stack outer l function arguments shape body last at room few h b)

@@ -16,8 +16,8 @@ use Rattle.alloc_model.specs.Stores.{empty, put_all}
 use Rattle.alloc_model.specs.Effect.{entry_holders}
 use Rattle.alloc_model.specs.Places.{Places, place_eq, home_of, places_read_at}
 use Rattle.flat_memory.specs.Relation.{Extents, Owners}
-use Rattle.flat_frames.specs.Shapes.{Shape, objects_at, frame_size, owner_at}
-use Rattle.frame_transfers.specs.Laws.{Call, IsCall, StandsFor}
+use Rattle.flat_frames.specs.Shapes.{FrameShape, objects_at, frame_size, owner_at}
+use Rattle.frame_transfers.specs.Laws.{Call, FitsTheStack, StandsFor}
 use Rattle.call_parts.specs.Items.{entry_part}
 use Rattle.instruction_items.specs.Laws.{usable, HasOuter}
 use Rattle.call_stacks.specs.Stacks.{Waiting, Start, StackIs}
@@ -35,15 +35,15 @@ extents_from base [] = []
 extents_from base (n ∷ sizes) = record { base = base; size = n } ∷ extents_from (base + place_after n) sizes
 
 -- the frame of the called function is below that of the caller
-abbrev pub called_sp : Call → Shape → ℕ
+abbrev pub called_sp : Call → FrameShape → ℕ
 called_sp c s = c.sp - frame_size s
 
-abbrev pub called_owner : Call → Shape → (own : ℕ) → Owners
+abbrev pub called_owner : Call → FrameShape → (own : ℕ) → Owners
 called_owner c s own y =
     if nat_lt y (called_sp c s) then c.owner y
     else if nat_lt y c.sp then owner_at s (suc c.depth) own (y - called_sp c s) else c.owner y
 
-abbrev pub called : Call → Shape → (own : ℕ) → Call
+abbrev pub called : Call → FrameShape → (own : ℕ) → Call
 called c s own = record {
   extents = c.extents ++ extents_from (called_sp c s + objects_at s) s.sizes;
   owner = called_owner c s own;
@@ -58,7 +58,7 @@ abbrev pub waits : Call → (held : Places) → (behind : List AsmItem) → (end
 waits c held behind end = record { shape = c.shape; own = c.own; held = held; behind = behind; end = end }
 
 -- the stack has room for the frame, and an argument place of the caller is near from it
-pub record HasRoom (p : Program) (c : Call) (s : Shape) : Type 0 where
+pub record HasRoom (p : Program) (c : Call) (s : FrameShape) : Type 0 where
   pub room : stack_start p + frame_size s ≤ c.sp
   pub near : frame_size s + frame_size c.shape < 2147450880
 
@@ -68,7 +68,7 @@ pub record EntryIs (p : Program) (there : Labels) (start : Start) (body : List A
   pub to : State
   pub comes : Comes p s to
   pub some : 1 ≤ comes.steps
-  pub is_call : IsCall d
+  pub is_call : FitsTheStack d
   pub stands : StandsFor p there body last d (begin_locals o d.shape.sizes).memory usable entry to
   pub stack : StackIs p there start d (waits c held rest end ∷ gs) entry to
   pub outer : HasOuter (begin_locals o d.shape.sizes) to
@@ -76,8 +76,8 @@ pub record EntryIs (p : Program) (there : Labels) (start : Start) (body : List A
 abbrev pub CallsAreEntered : Type 0
 CallsAreEntered =
     (p : Program) (there : Labels) (start : Start) (c : Call) (gs : List Waiting) (o : Outer) (held : Places)
-    (rest : List AsmItem) (end : ℕ) (s : State) → IsCall c → StackIs p there start c gs held s → HasOuter o s →
-    (l function arguments : ℕ) (shape : Shape) (body : List AsmItem) (last : ℕ) →
+    (rest : List AsmItem) (end : ℕ) (s : State) → FitsTheStack c → StackIs p there start c gs held s → HasOuter o s →
+    (l function arguments : ℕ) (shape : FrameShape) (body : List AsmItem) (last : ℕ) →
     ItemsAt p there (there l) (entry_part shape shape.saves body) last → HasRoom p c shape →
     arguments ≤ c.shape.outgoing + 6 → StandsFor p there (Branch Bsr 26 l ∷ rest) end c o.memory usable held s →
     EntryIs p there start body last c (called c shape (length o.memory)) gs o held

@@ -7,8 +7,8 @@ use Rattle.mem_model.specs.Memory.{Memory, Object, object_at, no_object, end_obj
 use Rattle.mem_model.specs.Laws.{EndsChange}
 use Rattle.mem_model.proofs.Objects.{ends_change}
 use Rattle.temp_ir.specs.Fixed.{ended_by_calls, has_number}
-use Rattle.flat_memory.specs.Relation.{Owner, OfObject, OfFrame, Nobody, Piece, SlotPiece, ReturnPiece, SavedPiece, ArgumentPiece, NoPiece}
-use Rattle.flat_frames.specs.Shapes.{Shape, frame_size, objects_at, object_owner, owner_at}
+use Rattle.flat_memory.specs.Relation.{Owner, OfObject, OfFrame, Nobody, FramePiece, SlotPiece, ReturnPiece, SavedPiece, ArgumentPiece, NoPiece}
+use Rattle.flat_frames.specs.Shapes.{FrameShape, frame_size, objects_at, object_owner, owner_at}
 use Rattle.frame_transfers.specs.Laws.{Call}
 use Rattle.call_exits.specs.Leaving.{left_owner}
 
@@ -18,7 +18,7 @@ if-object : (b : Bool) (x y : Owner) (k : ℕ) → (if b then x else y) ≡ OfOb
 if-object true x y k e = inl e
 if-object false x y k e = inr e
 
-frame-or : {A : Type 0} (depth : ℕ) (piece : Piece) (k : ℕ) → OfFrame depth piece ≡ OfObject k → A
+frame-or : {A : Type 0} (depth : ℕ) (piece : FramePiece) (k : ℕ) → OfFrame depth piece ≡ OfObject k → A
 frame-or depth piece k e = absurd (cc)
 
 -- an object of a frame is one of its call
@@ -36,7 +36,7 @@ object-own depth number (n ∷ sizes) i k e = ⊎_elim
     (if-object (nat_lt i (place_after n)) (OfFrame depth NoPiece) (object_owner depth (suc number) sizes (i - place_after n)) k other))
     (if-object (nat_lt i n) (OfObject number) (if nat_lt i (place_after n) then OfFrame depth NoPiece else object_owner depth (suc number) sizes (i - place_after n)) k e)
 
-pub frame-own : (s : Shape) (depth own i k : ℕ) → owner_at s depth own i ≡ OfObject k → IsOwn own (length s.sizes) k
+pub frame-own : (s : FrameShape) (depth own i k : ℕ) → owner_at s depth own i ≡ OfObject k → IsOwn own (length s.sizes) k
 frame-own s depth own i k e = ⊎_elim
     (λ f. frame-or depth (ArgumentPiece (i / 8)) k f)
     (λ e. ⊎_elim

@@ -19,7 +19,7 @@ use Rattle.alloc_model.specs.Temporaries.{status_of}
 use Rattle.alloc_model.specs.Places.{Places, places_read_at}
 use Rattle.flat_memory.specs.Relation.{Owners, Nobody}
 use Rattle.flat_frames.specs.Shapes.{frame_size}
-use Rattle.frame_transfers.specs.Laws.{Call, IsCall, StandsFor}
+use Rattle.frame_transfers.specs.Laws.{Call, FitsTheStack, StandsFor}
 use Rattle.call_parts.specs.Items.{exit_part}
 use Rattle.instruction_items.specs.Laws.{usable, HasOuter, IsOver, store_behind}
 use Rattle.call_stacks.specs.Stacks.{Waiting, call_of, Start, StackIs}
@@ -52,7 +52,7 @@ pub record ExitIs (p : Program) (there : Labels) (start : Start) (g : Waiting) (
 abbrev pub CallsAreLeft : Type 0
 CallsAreLeft =
     (p : Program) (there : Labels) (start : Start) (c : Call) (g : Waiting) (gs : List Waiting) (o : Outer)
-    (held : Places) (rest : List AsmItem) (end : ℕ) (s : State) → IsCall c → StackIs p there start c (g ∷ gs) held s →
+    (held : Places) (rest : List AsmItem) (end : ℕ) (s : State) → FitsTheStack c → StackIs p there start c (g ∷ gs) held s →
     HasOuter o s → (function arguments : ℕ) (with_value : Bool) →
     StandsFor p there (exit_part c.shape c.shape.saves rest) end c o.memory usable held s →
     ExitIs p there start g gs (caller_of c (length gs) g) (end_locals o c.own (length c.shape.sizes))
@@ -66,7 +66,7 @@ ending_items =
 abbrev pub RunsAreEnded : Type 0
 RunsAreEnded =
     (p : Program) (there : Labels) (start : Start) (c : Call) (o : Outer) (held : Places) (rest : List AsmItem) (end : ℕ)
-    (s : State) → IsCall c → StackIs p there start c [] held s → HasOuter o s → start.behind ≡ ending_items →
+    (s : State) → FitsTheStack c → StackIs p there start c [] held s → HasOuter o s → start.behind ≡ ending_items →
     (with_value : Bool) (status : ℕ) → status_of (returned with_value held) ≡ Some status →
     StandsFor p there (exit_part c.shape c.shape.saves rest) end c o.memory usable held s →
     IsOver p (end_locals o c.own (length c.shape.sizes)) (Done status) s

@@ -7,7 +7,7 @@ use Rattle.alpha_items.specs.declared.item.AsmItem.{AsmItem}
 use Rattle.item_steps.specs.Standing.{Labels}
 use Rattle.flat_memory.specs.Bytes.{Bytes}
 use Rattle.flat_memory.specs.Machine.{memory_bytes, is_reached, IsReached}
-use Rattle.flat_frames.specs.Shapes.{Shape, frame_size, return_at, saved_at}
+use Rattle.flat_frames.specs.Shapes.{FrameShape, frame_size, return_at, saved_at}
 use Rattle.flat_frames.specs.Frames.{word_in, put_word}
 use Rattle.flat_frames.proofs.Shapes.{pieces_of}
 use Rattle.frame_accesses.specs.Items.{frame_store}
@@ -19,13 +19,13 @@ use Rattle.call_parts.proofs.Words.{put-beside, word-beside, word-there}
 use Rattle.call_parts.proofs.Stacks.{come-through, stack-lowered}
 
 -- the pieces lie in the frame
-pub saved-within : (shape : Shape) (r : ℕ) → 9 ≤ r → r < 16 → saved_at shape r + 8 ≤ frame_size shape
+pub saved-within : (shape : FrameShape) (r : ℕ) → 9 ≤ r → r < 16 → saved_at shape r + 8 ≤ frame_size shape
 saved-within shape r from to = ((pieces_of shape 0 0).saved r from to).within
 
-pub return-within : (shape : Shape) → return_at shape + 8 ≤ frame_size shape
+pub return-within : (shape : FrameShape) → return_at shape + 8 ≤ frame_size shape
 return-within shape = ((pieces_of shape 0 0).returns).within
 
-module _ (p : Program) (there : Labels) (shape : Shape) (saves : ℕ → Bool) (sp : ℕ) (s : State) (frame : IsFrameAt p s shape sp) where
+module _ (p : Program) (there : Labels) (shape : FrameShape) (saves : ℕ → Bool) (sp : ℕ) (s : State) (frame : IsFrameAt p s shape sp) where
   -- a word of the frame may be accessed
   pub word-reached : (t : State) (k : ℕ) → k % 8 ≡ 0 → k + 8 ≤ frame_size shape → register t 30 ≡ sp → ((y : ℕ) → is_reached p t y ≡ is_reached p s y) → IsReached p t (register t 30 + k) 8
   word-reached t k even within stack reach =
@@ -157,5 +157,5 @@ module _ (p : Program) (there : Labels) (shape : Shape) (saves : ℕ → Bool) (
         bytes = y.is.bytes;
       }
 
-pub entries_are_done : (p : Program) (there : Labels) (w : ℕ) (rest : List AsmItem) (end : ℕ) (shape : Shape) (saves : ℕ → Bool) (sp : ℕ) (s : State) → IsAt p there w (entry_part shape saves rest) end s → register s 30 ≡ sp + frame_size shape → IsFrameAt p s shape sp → EntryDone p there rest end shape saves sp s
+pub entries_are_done : (p : Program) (there : Labels) (w : ℕ) (rest : List AsmItem) (end : ℕ) (shape : FrameShape) (saves : ℕ → Bool) (sp : ℕ) (s : State) → IsAt p there w (entry_part shape saves rest) end s → register s 30 ≡ sp + frame_size shape → IsFrameAt p s shape sp → EntryDone p there rest end shape saves sp s
 entries_are_done p there w rest end shape saves sp s h e frame = entered p there shape saves sp s frame w rest end h e

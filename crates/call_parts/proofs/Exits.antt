@@ -15,7 +15,7 @@ use Rattle.item_steps.specs.Steps.{Comes, SameElse}
 use Rattle.item_steps.proofs.Steps.{steps_add_up, second-some, same-at}
 use Rattle.flat_memory.specs.Machine.{memory_bytes, is_reached}
 use Rattle.flat_memory.specs.Bytes.{Bytes}
-use Rattle.flat_frames.specs.Shapes.{Shape, frame_size, return_at, saved_at}
+use Rattle.flat_frames.specs.Shapes.{FrameShape, frame_size, return_at, saved_at}
 use Rattle.flat_frames.specs.Frames.{word_in}
 use Rattle.frame_accesses.specs.Items.{frame_load}
 use Rattle.frame_accesses.specs.Laws.{IsAt, HasCome}
@@ -70,7 +70,7 @@ gone p there w rest end s h =
       same = same;
     }
 
-module _ (p : Program) (there : Labels) (shape : Shape) (saves : ℕ → Bool) (sp : ℕ) (s : State) (frame : IsFrameAt p s shape sp) where
+module _ (p : Program) (there : Labels) (shape : FrameShape) (saves : ℕ → Bool) (sp : ℕ) (s : State) (frame : IsFrameAt p s shape sp) where
   -- a register is loaded from the frame
   record Loaded (r k : ℕ) (rest : List AsmItem) (end : ℕ) (t : State) : Type 0 where
     to : State
@@ -180,5 +180,5 @@ module _ (p : Program) (there : Labels) (shape : Shape) (saves : ℕ → Bool) (
         output = z.same.output ∙ through.output;
       }
 
-pub exits_are_done : (p : Program) (there : Labels) (w : ℕ) (rest : List AsmItem) (end : ℕ) (shape : Shape) (saves : ℕ → Bool) (sp : ℕ) (s : State) → IsAt p there w (exit_part shape saves rest) end s → register s 30 ≡ sp → IsFrameAt p s shape sp → ExitDone p there shape saves sp s
+pub exits_are_done : (p : Program) (there : Labels) (w : ℕ) (rest : List AsmItem) (end : ℕ) (shape : FrameShape) (saves : ℕ → Bool) (sp : ℕ) (s : State) → IsAt p there w (exit_part shape saves rest) end s → register s 30 ≡ sp → IsFrameAt p s shape sp → ExitDone p there shape saves sp s
 exits_are_done p there w rest end shape saves sp s h stack frame = left p there shape saves sp s frame w rest end h stack

@@ -8,7 +8,7 @@ use Rattle.alpha_isa.specs.declared.insn.JumpOp.TheVariants.{Ret}
 use Rattle.alpha_items.specs.declared.item.AsmItem.{AsmItem}
 use Rattle.alpha_items.specs.declared.item.AsmItem.TheVariants.{Plain}
 use Rattle.alpha_items.specs.Words.{high_of}
-use Rattle.flat_frames.specs.Shapes.{Shape, frame_size, return_at, saved_at}
+use Rattle.flat_frames.specs.Shapes.{FrameShape, frame_size, return_at, saved_at}
 use Rattle.frame_accesses.specs.Items.{near_size, frame_load, frame_store}
 
 -- the multiple of 65,536 from which a signed displacement leads down to a size
@@ -29,29 +29,29 @@ raise_stack size rest =
     ∷ Plain (Memory Lda 30 30 (pos size -ℤ pos (high_of size * 65536))) ∷ rest
 
 -- those that a function saves of so many registers from one on are stored in its frame
-abbrev pub save_if : Shape → (saves : Bool) → (register : ℕ) → (rest : List AsmItem) → List AsmItem
+abbrev pub save_if : FrameShape → (saves : Bool) → (register : ℕ) → (rest : List AsmItem) → List AsmItem
 save_if s true r rest = frame_store r (saved_at s r) ++ rest
 save_if s false r rest = rest
 
-abbrev pub save_registers : Shape → (saves : ℕ → Bool) → (first count : ℕ) → (rest : List AsmItem) → List AsmItem
+abbrev pub save_registers : FrameShape → (saves : ℕ → Bool) → (first count : ℕ) → (rest : List AsmItem) → List AsmItem
 save_registers s saves r zero rest = rest
 save_registers s saves r (suc count) rest = save_if s (saves r) r (save_registers s saves (suc r) count rest)
 
 -- and loaded again
-abbrev pub restore_if : Shape → (saves : Bool) → (register : ℕ) → (rest : List AsmItem) → List AsmItem
+abbrev pub restore_if : FrameShape → (saves : Bool) → (register : ℕ) → (rest : List AsmItem) → List AsmItem
 restore_if s true r rest = frame_load r (saved_at s r) ++ rest
 restore_if s false r rest = rest
 
-abbrev pub restore_registers : Shape → (saves : ℕ → Bool) → (first count : ℕ) → (rest : List AsmItem) → List AsmItem
+abbrev pub restore_registers : FrameShape → (saves : ℕ → Bool) → (first count : ℕ) → (rest : List AsmItem) → List AsmItem
 restore_registers s saves r zero rest = rest
 restore_registers s saves r (suc count) rest = restore_if s (saves r) r (restore_registers s saves (suc r) count rest)
 
 -- the entry part, in front of other items, and the exit part
-abbrev pub entry_part : Shape → (saves : ℕ → Bool) → (rest : List AsmItem) → List AsmItem
+abbrev pub entry_part : FrameShape → (saves : ℕ → Bool) → (rest : List AsmItem) → List AsmItem
 entry_part s saves rest =
     lower_stack (frame_size s) (frame_store 26 (return_at s) ++ save_registers s saves 9 7 rest)
 
-abbrev pub exit_part : Shape → (saves : ℕ → Bool) → (rest : List AsmItem) → List AsmItem
+abbrev pub exit_part : FrameShape → (saves : ℕ → Bool) → (rest : List AsmItem) → List AsmItem
 exit_part s saves rest =
     restore_registers s saves 9 7
     (frame_load 26 (return_at s) ++ raise_stack (frame_size s) (Plain (Jump Ret 31 26) ∷ rest))

@@ -6,13 +6,13 @@ use Rattle.alpha_items.specs.declared.item.AsmItem.{AsmItem}
 use Rattle.item_steps.specs.Standing.{Labels, ItemsAt}
 use Rattle.item_steps.specs.Steps.{Comes}
 use Rattle.flat_memory.specs.Machine.{memory_bytes, is_reached}
-use Rattle.flat_frames.specs.Shapes.{Shape, frame_size, return_at, saved_at}
+use Rattle.flat_frames.specs.Shapes.{FrameShape, frame_size, return_at, saved_at}
 use Rattle.flat_frames.specs.Frames.{word_in}
 use Rattle.frame_accesses.specs.Laws.{IsAt, HasCome}
 use Rattle.call_parts.specs.Items.{entry_part, exit_part}
 
 -- a frame that may be accessed from an address on
-pub record IsFrameAt (p : Program) (s : State) (shape : Shape) (sp : ℕ) : Type 0 where
+pub record IsFrameAt (p : Program) (s : State) (shape : FrameShape) (sp : ℕ) : Type 0 where
   pub aligned : sp % 16 ≡ 0
   pub small : sp + frame_size shape < 2 ^ 64
   pub near : frame_size shape < 2147450880
@@ -20,7 +20,7 @@ pub record IsFrameAt (p : Program) (s : State) (shape : Shape) (sp : ℕ) : Type
 
 -- the function is entered: its frame has the return address and the registers that it saves, and no byte beside the
 -- frame has changed
-pub record EntryDone (p : Program) (there : Labels) (rest : List AsmItem) (end : ℕ) (shape : Shape) (saves : ℕ → Bool)
+pub record EntryDone (p : Program) (there : Labels) (rest : List AsmItem) (end : ℕ) (shape : FrameShape) (saves : ℕ → Bool)
     (sp : ℕ) (s : State) : Type 0 where
   pub to : State
   pub come : HasCome p there rest end s to
@@ -33,17 +33,17 @@ pub record EntryDone (p : Program) (there : Labels) (rest : List AsmItem) (end :
 
 abbrev pub EntriesAreDone : Type 0
 EntriesAreDone =
-    (p : Program) (there : Labels) (w : ℕ) (rest : List AsmItem) (end : ℕ) (shape : Shape) (saves : ℕ → Bool) (sp : ℕ)
+    (p : Program) (there : Labels) (w : ℕ) (rest : List AsmItem) (end : ℕ) (shape : FrameShape) (saves : ℕ → Bool) (sp : ℕ)
     (s : State) → IsAt p there w (entry_part shape saves rest) end s → register s 30 ≡ sp + frame_size shape →
     IsFrameAt p s shape sp → EntryDone p there rest end shape saves sp s
 
 -- the word that a register of the caller is given back
-abbrev pub given_back : Shape → (saves : ℕ → Bool) → (sp : ℕ) → Program → State → (register : ℕ) → ℕ
+abbrev pub given_back : FrameShape → (saves : ℕ → Bool) → (sp : ℕ) → Program → State → (register : ℕ) → ℕ
 given_back shape saves sp p s r = if saves r then word_in (memory_bytes p s) (sp + saved_at shape r) else register s r
 
 -- the function is left: the machine goes to the return address, the registers that were saved are as they were, and no
 -- byte has changed
-pub record ExitDone (p : Program) (there : Labels) (shape : Shape) (saves : ℕ → Bool) (sp : ℕ) (s : State) : Type 0
+pub record ExitDone (p : Program) (there : Labels) (shape : FrameShape) (saves : ℕ → Bool) (sp : ℕ) (s : State) : Type 0
   where
     pub to : State
     pub comes : Comes p s to
@@ -61,6 +61,6 @@ pub record ExitDone (p : Program) (there : Labels) (shape : Shape) (saves : ℕ 
 
 abbrev pub ExitsAreDone : Type 0
 ExitsAreDone =
-    (p : Program) (there : Labels) (w : ℕ) (rest : List AsmItem) (end : ℕ) (shape : Shape) (saves : ℕ → Bool) (sp : ℕ)
+    (p : Program) (there : Labels) (w : ℕ) (rest : List AsmItem) (end : ℕ) (shape : FrameShape) (saves : ℕ → Bool) (sp : ℕ)
     (s : State) → IsAt p there w (exit_part shape saves rest) end s → register s 30 ≡ sp →
     IsFrameAt p s shape sp → ExitDone p there shape saves sp s

@@ -11,13 +11,13 @@ use Rattle.alloc_model.specs.Contents.{Content, Bundle}
 use Rattle.alloc_model.specs.Places.{Places, Reg, In, Slot, Out}
 use Rattle.data_object.specs.Layout.{place_after}
 use Rattle.flat_memory.specs.Bytes.{Bytes, number_from}
-use Rattle.flat_memory.specs.Relation.{Extents, Owner, Owners, OfObject, OfFrame, Nobody, Piece, SlotPiece, ReturnPiece, SavedPiece, ArgumentPiece, NoPiece}
+use Rattle.flat_memory.specs.Relation.{Extents, Owner, Owners, OfObject, OfFrame, Nobody, FramePiece, SlotPiece, ReturnPiece, SavedPiece, ArgumentPiece, NoPiece}
 use Rattle.flat_memory.specs.Machine.{memory_bytes}
 use Rattle.flat_memory.specs.Laws.{MoreExtents}
 use Rattle.flat_memory.proofs.Numbers.{bytes_from-same}
 use Rattle.flat_operations.specs.Contents.{ContentIs}
 use Rattle.flat_operations.proofs.Operations.{contents_stay}
-use Rattle.flat_frames.specs.Shapes.{Shape, frame_size, return_at, saved_at, slot_at, argument_at, objects_at, object_at, object_owner, owner_at, IsPiece}
+use Rattle.flat_frames.specs.Shapes.{FrameShape, frame_size, return_at, saved_at, slot_at, argument_at, objects_at, object_at, object_owner, owner_at, IsPiece}
 use Rattle.flat_frames.specs.Frames.{word_in, FrameIs, is_written_piece, is_written}
 use Rattle.flat_frames.proofs.Shapes.{pieces_of}
 use Rattle.frame_transfers.specs.Laws.{Call, IsKept}
@@ -26,14 +26,14 @@ use Rattle.call_stacks.specs.Stacks.{Waiting, call_of, view_above, Start, Caller
 
 -- ---- owners
 
-frame-somebody : (depth : ℕ) (piece : Piece) → OfFrame depth piece ≢ Nobody
+frame-somebody : (depth : ℕ) (piece : FramePiece) → OfFrame depth piece ≢ Nobody
 frame-somebody depth piece e = cc
 
 object-somebody : (o : ℕ) → OfObject o ≢ Nobody
 object-somebody o e = cc
 
 -- pieces of frames that are farther up are not written
-above-unwritten : (depth other : ℕ) (piece : Piece) → other < depth → is_written depth (OfFrame other piece) ≡ false
+above-unwritten : (depth other : ℕ) (piece : FramePiece) → other < depth → is_written depth (OfFrame other piece) ≡ false
 above-unwritten depth other piece lt = ap (λ b. b && is_written_piece piece) (ne_eqb other depth (λ e. omega (arith, e, lt)))
 
 -- the return address and the saved registers of no frame are written
@@ -52,7 +52,7 @@ object-owned depth number (n ∷ sizes) i =
     either (nat_lt i n) (OfObject number) (if nat_lt i (place_after n) then OfFrame depth NoPiece else object_owner depth (suc number) sizes (i - place_after n)) (object-somebody number)
     (either (nat_lt i (place_after n)) (OfFrame depth NoPiece) (object_owner depth (suc number) sizes (i - place_after n)) (frame-somebody depth NoPiece) (object-owned depth (suc number) sizes (i - place_after n)))
 
-pub frame-owned : (s : Shape) (depth own i : ℕ) → owner_at s depth own i ≢ Nobody
+pub frame-owned : (s : FrameShape) (depth own i : ℕ) → owner_at s depth own i ≢ Nobody
 frame-owned s depth own i =
     either (nat_lt i (8 * s.outgoing)) (OfFrame depth (ArgumentPiece (i / 8))) _ (frame-somebody depth (ArgumentPiece (i / 8)))
     (either (nat_lt i (8 * s.outgoing + 8)) (OfFrame depth ReturnPiece) _ (frame-somebody depth ReturnPiece)
@@ -69,19 +69,19 @@ module _ (xs ys : Extents) (owner new : Owners) (m k : Bytes) (depth bound : ℕ
       keeps.bytes y (omega (arith, le, from)) (λ f. ne (sym is ∙ f)) (ap (is_written depth) is ∙ unwritten)))
 
   -- a piece of a frame
-  piece-stays : (sp d own : ℕ) (s : Shape) (store : Places) → bound ≤ sp → FrameIs xs owner m sp d own s store → (at : ℕ) (piece : Piece) → IsPiece s d own at 8 (OfFrame d piece) → is_written depth (OfFrame d piece) ≡ false → word_in k (sp + at) ≡ word_in m (sp + at)
+  piece-stays : (sp d own : ℕ) (s : FrameShape) (store : Places) → bound ≤ sp → FrameIs xs owner m sp d own s store → (at : ℕ) (piece : FramePiece) → IsPiece s d own at 8 (OfFrame d piece) → is_written depth (OfFrame d piece) ≡ false → word_in k (sp + at) ≡ word_in m (sp + at)
   piece-stays sp d own s store le f at piece is unwritten = word-stays (sp + at) (OfFrame d piece) (omega (arith, le)) (frame-somebody d piece) unwritten (λ i lt.
       let e : sp + at + i ≡ sp + (at + i) = omega arith in
       let w = is.within in
       ap owner e ∙ f.owned (at + i) (omega (arith, lt, w)) ∙ is.owned i lt)
 
-  return-stays : (sp d own : ℕ) (s : Shape) (store : Places) → bound ≤ sp → FrameIs xs owner m sp d own s store → word_in k (sp + return_at s) ≡ word_in m (sp + return_at s)
+  return-stays : (sp d own : ℕ) (s : FrameShape) (store : Places) → bound ≤ sp → FrameIs xs owner m sp d own s store → word_in k (sp + return_at s) ≡ word_in m (sp + return_at s)
   return-stays sp d own s store le f = piece-stays sp d own s store le f (return_at s) ReturnPiece (pieces_of s d own).returns (never-written (d == depth))
 
-  pub saved-stays : (sp d own : ℕ) (s : Shape) (store : Places) → bound ≤ sp → FrameIs xs owner m sp d own s store → (r : ℕ) → 9 ≤ r → r < 16 → word_in k (sp + saved_at s r) ≡ word_in m (sp + saved_at s r)
+  pub saved-stays : (sp d own : ℕ) (s : FrameShape) (store : Places) → bound ≤ sp → FrameIs xs owner m sp d own s store → (r : ℕ) → 9 ≤ r → r < 16 → word_in k (sp + saved_at s r) ≡ word_in m (sp + saved_at s r)
   saved-stays sp d own s store le f r from to = piece-stays sp d own s store le f (saved_at s r) (SavedPiece r) ((pieces_of s d own).saved r from to) (never-written (d == depth))
 
-  pub frame-stays : (sp d own : ℕ) (s : Shape) (store : Places) → d < depth → bound ≤ sp → FrameIs xs owner m sp d own s store → FrameIs ys new k sp d own s store
+  pub frame-stays : (sp d own : ℕ) (s : FrameShape) (store : Places) → d < depth → bound ≤ sp → FrameIs xs owner m sp d own s store → FrameIs ys new k sp d own s store
   frame-stays sp d own s store lt le f = record {
     aligned = f.aligned;
     slots = λ t tl. contents_stay xs ys (store (Slot t)) (word_in k (sp + slot_at s t)) more
@@ -113,7 +113,7 @@ module _ (xs ys : Extents) (owner new : Owners) (m k : Bytes) (depth bound : ℕ
   argument-stays c j (contents.Plain Unset) le low h = tt
   argument-stays c j (Bundle cells) le low h = held-stays c j (Bundle cells) le low h
 
-pub callers_stay : (p : Program) (there : Labels) (start : Start) (xs ys : Extents) (owner new : Owners) (m k : Bytes) (depth bound : ℕ) → MoreExtents xs ys → KeepsCallers depth bound owner new m k → (gs : List Waiting) (u v : ℕ → ℕ) (sp own : ℕ) (s : Shape) (store : Places) → length gs ≤ depth → bound ≤ sp → FrameIs xs owner m sp (length gs) own s store → ((r : ℕ) → 9 ≤ r → r < 16 → v r ≡ u r) → CallersAre p there start xs owner m u sp s gs → CallersAre p there start ys new k v sp s gs
+pub callers_stay : (p : Program) (there : Labels) (start : Start) (xs ys : Extents) (owner new : Owners) (m k : Bytes) (depth bound : ℕ) → MoreExtents xs ys → KeepsCallers depth bound owner new m k → (gs : List Waiting) (u v : ℕ → ℕ) (sp own : ℕ) (s : FrameShape) (store : Places) → length gs ≤ depth → bound ≤ sp → FrameIs xs owner m sp (length gs) own s store → ((r : ℕ) → 9 ≤ r → r < 16 → v r ≡ u r) → CallersAre p there start xs owner m u sp s gs → CallersAre p there start ys new k v sp s gs
 callers_stay p there start xs ys owner new m k depth bound more keeps [] u v sp own s store le low f same a =
     let back = return-stays xs ys owner new m k depth bound more keeps sp 0 own s store low f in
     (a.0, record { place = a.1.place; is = back ∙ a.1.is; items_at = a.1.items_at })

@@ -8,7 +8,7 @@ use Rattle.flat_memory.specs.Bytes.{Bytes}
 use Rattle.flat_memory.specs.Relation.{Extents, Owners}
 use Rattle.flat_memory.specs.Machine.{memory_bytes}
 use Rattle.flat_memory.specs.Laws.{MoreExtents}
-use Rattle.flat_frames.specs.Shapes.{Shape}
+use Rattle.flat_frames.specs.Shapes.{FrameShape}
 use Rattle.flat_frames.specs.Frames.{FrameIs}
 use Rattle.frame_transfers.specs.Laws.{Call, IsKept}
 use Rattle.call_stacks.specs.Stacks.{Waiting, Start, CallersAre, StackIs, KeepsCallers}
@@ -18,7 +18,7 @@ abbrev pub CallersStay : Type 0
 CallersStay =
     (p : Program) (there : Labels) (start : Start) (xs ys : Extents) (owner new : Owners) (m k : Bytes)
     (depth bound : ℕ) → MoreExtents xs ys → KeepsCallers depth bound owner new m k →
-    (gs : List Waiting) (u v : ℕ → ℕ) (sp own : ℕ) (s : Shape) (store : Places) → length gs ≤ depth → bound ≤ sp →
+    (gs : List Waiting) (u v : ℕ → ℕ) (sp own : ℕ) (s : FrameShape) (store : Places) → length gs ≤ depth → bound ≤ sp →
     FrameIs xs owner m sp (length gs) own s store → ((r : ℕ) → 9 ≤ r → r < 16 → v r ≡ u r) →
     CallersAre p there start xs owner m u sp s gs → CallersAre p there start ys new k v sp s gs
 

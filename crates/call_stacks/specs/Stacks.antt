@@ -10,7 +10,7 @@ use Rattle.flat_memory.specs.Bytes.{Bytes}
 use Rattle.flat_memory.specs.Relation.{Extents, Owners, Nobody}
 use Rattle.flat_memory.specs.Machine.{memory_bytes, is_reached}
 use Rattle.flat_operations.specs.Contents.{ContentIs}
-use Rattle.flat_frames.specs.Shapes.{Shape, frame_size, return_at, saved_at}
+use Rattle.flat_frames.specs.Shapes.{FrameShape, frame_size, return_at, saved_at}
 use Rattle.flat_frames.specs.Frames.{word_in, FrameIs, is_written}
 use Rattle.frame_transfers.specs.Laws.{Call}
 use Rattle.instruction_items.specs.Laws.{ArgumentsAre}
@@ -18,7 +18,7 @@ use Rattle.instruction_items.specs.Laws.{ArgumentsAre}
 -- a call that waits: the shape of its frame, the number of its first object, what it holds once the transfers before its
 -- call are done, and the items behind its call
 pub record Waiting : Type 0 where
-  pub shape : Shape
+  pub shape : FrameShape
   pub own : ℕ
   pub held : Places
   pub behind : List AsmItem
@@ -37,7 +37,7 @@ pub record IsReturn (p : Program) (there : Labels) (word : ℕ) (items : List As
 
 -- what the registers 9 to 15 were before a function was called: where it saves them its frame has them, else they are
 -- what they are behind it
-abbrev pub view_above : Bytes → (sp : ℕ) → Shape → (view : ℕ → ℕ) → (register : ℕ) → ℕ
+abbrev pub view_above : Bytes → (sp : ℕ) → FrameShape → (view : ℕ → ℕ) → (register : ℕ) → ℕ
 view_above m sp s view r = if s.saves r then word_in m (sp + saved_at s r) else view r
 
 -- they stand for what the call holds in them
@@ -57,7 +57,7 @@ pub record Start : Type 0 where
 
 -- calls wait above the frame of another one, the last one first; the view is that of the registers before that one was
 -- called
-abbrev pub CallersAre : Program → Labels → Start → Extents → Owners → Bytes → (view : ℕ → ℕ) → (sp : ℕ) → Shape →
+abbrev pub CallersAre : Program → Labels → Start → Extents → Owners → Bytes → (view : ℕ → ℕ) → (sp : ℕ) → FrameShape →
     List Waiting → Type 0
 CallersAre p there start xs owner m view sp s [] =
     (sp + frame_size s ≡ start.top) × IsReturn p there (word_in m (sp + return_at s)) start.behind start.end

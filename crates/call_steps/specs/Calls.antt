@@ -13,8 +13,8 @@ use Rattle.alloc_model.specs.declared.allocation.Transfer.{Transfer}
 use Rattle.alloc_model.specs.Temporaries.{status_of}
 use Rattle.alloc_model.specs.Places.{Places, Plan, placed_site, do_all}
 use Rattle.frame_transfers.specs.Items.{items_of_transfers}
-use Rattle.frame_transfers.specs.Laws.{Call, IsCall, StandsFor}
-use Rattle.instruction_items.specs.Items.{Setting, insn_items}
+use Rattle.frame_transfers.specs.Laws.{Call, FitsTheStack, StandsFor}
+use Rattle.instruction_items.specs.Items.{ItemSetting, insn_items}
 use Rattle.instruction_items.specs.Laws.{usable, HasOuter, IsOver}
 use Rattle.call_stacks.specs.Stacks.{Waiting, Start, StackIs}
 use Rattle.call_entries.specs.Entering.{entry_places, called, HasRoom, EntryIs}
@@ -24,7 +24,7 @@ use Rattle.function_items.specs.Items.{top_transfers, insns_items, end_transfers
 use Rattle.function_items.specs.Laws.{FunctionStands}
 
 -- the items of the first block of a function from its first instruction on, where nothing stands at its top
-abbrev pub first_items : Plan → Setting → List TempInsn → (behind : List AsmItem) → List AsmItem
+abbrev pub first_items : Plan → ItemSetting → List TempInsn → (behind : List AsmItem) → List AsmItem
 first_items a g insns behind =
     insns_items a g 0 0 insns (items_of_transfers g.shape (end_transfers a 0 insns)
     (blocks_items a g 1 (drop 1 a.function.blocks) (exit_items g behind)))
@@ -32,11 +32,11 @@ first_items a g insns behind =
 -- a call of a function: the machine comes to the first instruction of that
 abbrev pub CallsAreDone : Type 0
 CallsAreDone =
-    (p : Program) (there : Labels) (start : Start) (g : Setting) (rest : List AsmItem) (end : ℕ) (c : Call)
-    (gs : List Waiting) (o : Outer) (store : Places) (s : State) → IsCall c → StackIs p there start c gs store s →
+    (p : Program) (there : Labels) (start : Start) (g : ItemSetting) (rest : List AsmItem) (end : ℕ) (c : Call)
+    (gs : List Waiting) (o : Outer) (store : Places) (s : State) → FitsTheStack c → StackIs p there start c gs store s →
     HasOuter o s → (transfers : List Transfer) → AllMayTransfer c.shape transfers →
     (widest function arguments : ℕ) (registers : List ℕ) → registers ≡ [] → arguments ≤ c.shape.outgoing + 6 →
-    (a : Plan) (f : Setting) (behind : List AsmItem) (last : ℕ) → FunctionStands p there a f function behind last →
+    (a : Plan) (f : ItemSetting) (behind : List AsmItem) (last : ℕ) → FunctionStands p there a f function behind last →
     (insns : List TempInsn) → slice_get a.function.blocks 0 ≡ Some insns → top_transfers a 0 ≡ [] → HasRoom p c f.shape →
     StandsFor p there
     (items_of_transfers c.shape transfers (insn_items g registers (i.Call function arguments) ++ rest)) end c o.memory
@@ -48,8 +48,8 @@ CallsAreDone =
 -- a return to a call that waits
 abbrev pub ReturnsAreDone : Type 0
 ReturnsAreDone =
-    (p : Program) (there : Labels) (start : Start) (g : Setting) (rest : List AsmItem) (end : ℕ) (c : Call)
-    (w : Waiting) (gs : List Waiting) (o : Outer) (store : Places) (s : State) → IsCall c → g.shape ≡ c.shape →
+    (p : Program) (there : Labels) (start : Start) (g : ItemSetting) (rest : List AsmItem) (end : ℕ) (c : Call)
+    (w : Waiting) (gs : List Waiting) (o : Outer) (store : Places) (s : State) → FitsTheStack c → g.shape ≡ c.shape →
     StackIs p there start c (w ∷ gs) store s → HasOuter o s →
     (transfers : List Transfer) → AllMayTransfer c.shape transfers →
     (widest function arguments number : ℕ) (with_value : Bool) (registers : List ℕ) → registers ≡ [] →
@@ -63,8 +63,8 @@ ReturnsAreDone =
 -- the return of the first function ends the run
 abbrev pub LastReturnsAreDone : Type 0
 LastReturnsAreDone =
-    (p : Program) (there : Labels) (start : Start) (g : Setting) (rest : List AsmItem) (end : ℕ) (c : Call)
-    (o : Outer) (store : Places) (s : State) → IsCall c → g.shape ≡ c.shape →
+    (p : Program) (there : Labels) (start : Start) (g : ItemSetting) (rest : List AsmItem) (end : ℕ) (c : Call)
+    (o : Outer) (store : Places) (s : State) → FitsTheStack c → g.shape ≡ c.shape →
     StackIs p there start c [] store s → HasOuter o s → start.behind ≡ ending_items →
     (transfers : List Transfer) → AllMayTransfer c.shape transfers →
     (widest number status : ℕ) (with_value : Bool) (registers : List ℕ) → registers ≡ [] →

@@ -10,7 +10,7 @@ use std::alloc::{AllocError, Global};
 use std::test::Fail;
 use suifvm_ir::block::Block;
 use suifvm_ir::function::Func;
-use suifvm_ir::insn::{BranchOp, VmInsn};
+use suifvm_ir::insn::{VmBranchOp, VmInsn};
 use suifvm_ir::types::VmType;
 
 /// A block of one instruction.
@@ -28,7 +28,7 @@ fn branch_over(alloc: Global) -> Result<Func<VmInsn>, AllocError>
 {
     let mut blocks = Seq::new(alloc);
     let branch = VmInsn::Branch {
-        op: BranchOp::IfTrue,
+        op: VmBranchOp::IfTrue,
         ty: VmType::S32,
         source: 0,
         block: 2,

@@ -6,7 +6,7 @@ use Rattle.mem_model.specs.Ending.{Ending, Done, Trap, Undefined, More}
 use Rattle.machine_model.specs.Code.{Stop, Exits, Traps, HasNoMeaning, Act, Writes, Jumps, Calls, Returns, Stops, Code}
 use Rattle.machine_model.specs.Machine.{Frame, Config, Next, Goes, Over, world_of, begin_locals, end_locals, turn_if, stop_ending, jump_to, resume, status_ending, return_to, act_on, step_with, step_at, step, go_on, exec, start}
 use Rattle.machine_model.proofs.Runs.{steps_add_up}
-use Rattle.suifvm_ir.specs.declared.insn.BranchOp.{BranchOp}
+use Rattle.suifvm_ir.specs.declared.insn.VmBranchOp.{VmBranchOp}
 use Rattle.suifvm_ir.specs.declared.types.VmType.{VmType}
 use Rattle.suifvm_ir.specs.declared.insn.VmInsn.{VmInsn}
 use Rattle.suifvm_ir.specs.declared.insn.VmInsn.TheVariants.{Branch, Jump}
@@ -119,15 +119,15 @@ module _ (rooms : Rooms) (fs gs : List FunctionCode) (same : (n : ℕ) → SameA
         (plain_with i (turn_if (takes_turn i) w.meter) none here site next))
 
     -- a branch
-    taken_same : (op : BranchOp) (ty : VmType) (s t u : ℕ) (taken : Bool) → Stands f.blocks g.blocks b (suc at) c (suc to) → Stands f.blocks g.blocks t 0 u 0 → SameNext (act_on Value Registers rooms first_code k w.meter (insn_site (Branch op ty s t)) (if taken then Jumps 0 w.outer else Writes [] w.outer)) (act_on Value Registers rooms other_code l w.meter (insn_site (Branch op ty s u)) (if taken then Jumps 0 w.outer else Writes [] w.outer))
+    taken_same : (op : VmBranchOp) (ty : VmType) (s t u : ℕ) (taken : Bool) → Stands f.blocks g.blocks b (suc at) c (suc to) → Stands f.blocks g.blocks t 0 u 0 → SameNext (act_on Value Registers rooms first_code k w.meter (insn_site (Branch op ty s t)) (if taken then Jumps 0 w.outer else Writes [] w.outer)) (act_on Value Registers rooms other_code l w.meter (insn_site (Branch op ty s u)) (if taken then Jumps 0 w.outer else Writes [] w.outer))
     taken_same op ty s t u true next goes = BothGo _ _ (Same _ _ us ws (world_of w.outer w.meter) (Inside n own rs f g t 0 u 0 is there valid goes) waiting)
     taken_same op ty s t u false next goes = BothGo _ _ (Same _ _ us ws (world_of w.outer w.meter) (Inside n own rs f g b (suc at) c (suc to) is there valid next) waiting)
 
-    branch_same : (op : BranchOp) (ty : VmType) (s t u : ℕ) (test : Option Bool) → Stands f.blocks g.blocks b (suc at) c (suc to) → Stands f.blocks g.blocks t 0 u 0 → SameNext (act_on Value Registers rooms first_code k w.meter (insn_site (Branch op ty s t)) (branches op test w.outer)) (act_on Value Registers rooms other_code l w.meter (insn_site (Branch op ty s u)) (branches op test w.outer))
+    branch_same : (op : VmBranchOp) (ty : VmType) (s t u : ℕ) (test : Option Bool) → Stands f.blocks g.blocks b (suc at) c (suc to) → Stands f.blocks g.blocks t 0 u 0 → SameNext (act_on Value Registers rooms first_code k w.meter (insn_site (Branch op ty s t)) (branches op test w.outer)) (act_on Value Registers rooms other_code l w.meter (insn_site (Branch op ty s u)) (branches op test w.outer))
     branch_same op ty s t u None next goes = stop_same HasNoMeaning (first_code.number k.here.point) (other_code.number l.here.point) (world_of w.outer w.meter)
     branch_same op ty s t u (Some test) next goes = taken_same op ty s t u (is_taken op test) next goes
 
-    branch_step : (op : BranchOp) (ty : VmType) (s t u : ℕ) → site_in_function b at (slice_get fs n) ≡ Some (insn_site (Branch op ty s t)) → site_in_function c to (slice_get gs n) ≡ Some (insn_site (Branch op ty s u)) → Stands f.blocks g.blocks b (suc at) c (suc to) → Stands f.blocks g.blocks t 0 u 0 → SameNext (step Value Registers rooms first_code k) (step Value Registers rooms other_code l)
+    branch_step : (op : VmBranchOp) (ty : VmType) (s t u : ℕ) → site_in_function b at (slice_get fs n) ≡ Some (insn_site (Branch op ty s t)) → site_in_function c to (slice_get gs n) ≡ Some (insn_site (Branch op ty s u)) → Stands f.blocks g.blocks b (suc at) c (suc to) → Stands f.blocks g.blocks t 0 u 0 → SameNext (step Value Registers rooms first_code k) (step Value Registers rooms other_code l)
     branch_step op ty s t u here site next goes =
         subst (λ o. SameNext (step_at Value Registers rooms first_code k o) (step Value Registers rooms other_code l)) (sym here)
         (subst (λ o. SameNext (step_at Value Registers rooms first_code k (Some (insn_site (Branch op ty s t)))) (step_at Value Registers rooms other_code l o)) (sym site)

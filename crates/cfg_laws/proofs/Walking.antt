@@ -2,7 +2,7 @@
 use Rattle.std.proofs.Common.{◌≡◌, ℕ, zero, suc, Bool, true, false, List, [], ◌∷◌, length, Some, None, slice_get, refl, sym, ap, subst, ◌∙◌, arith}
 use Rattle.std.specs.Prelude.{◌↔◌}
 use Rattle.std.proofs.lemmas.Option.{same_Some, none-some}
-use Rattle.suifvm_ir.specs.declared.insn.BranchOp.{BranchOp}
+use Rattle.suifvm_ir.specs.declared.insn.VmBranchOp.{VmBranchOp}
 use Rattle.suifvm_ir.specs.declared.types.VmType.{VmType}
 use Rattle.suifvm_ir.specs.declared.insn.VmInsn.{VmInsn}
 use Rattle.suifvm_ir.specs.declared.insn.VmInsn.TheVariants.{LoadConstant, LoadAddress, Load, Store, Copy, Unary, Binary, Shift, Convert, Compare, Branch, Jump, Call, Return, Mark, Nop}
@@ -18,7 +18,7 @@ strip i = bare targets_of with_block i
 -- the instructions with a target, and all others
 pub data Sort : VmInsn → Type 0 where
   IsJump : (t : ℕ) → Sort (Jump t)
-  IsBranch : (op : BranchOp) (ty : VmType) (s t : ℕ) → Sort (Branch op ty s t)
+  IsBranch : (op : VmBranchOp) (ty : VmType) (s t : ℕ) → Sort (Branch op ty s t)
   IsPlain : (i : VmInsn) → targets_of i ≡ [] → strip i ≡ i → Sort i
 
 pub sort : (i : VmInsn) → Sort i
@@ -61,7 +61,7 @@ Loud i = flows_on_of i ≡ false → targets_of i ≡ []
 -- two instructions that are the same, but that branches may have other targets
 pub data Pair : VmInsn → VmInsn → Type 0 where
   SameInsn : (i : VmInsn) → targets_of i ≡ [] → Pair i i
-  TwoBranches : (op : BranchOp) (ty : VmType) (s t u : ℕ) → Pair (Branch op ty s t) (Branch op ty s u)
+  TwoBranches : (op : VmBranchOp) (ty : VmType) (s t u : ℕ) → Pair (Branch op ty s t) (Branch op ty s u)
 
 pair_by : (i j : VmInsn) → Sort i → Sort j → strip i ≡ strip j → Loud i → Loud j → Pair i j
 pair_by _ j (IsJump t) b same li lj = absurd (no_one t (li refl))
@@ -233,13 +233,13 @@ module _ (f g : List (List VmInsn)) where
     (λ walk. inv_goes ((alike (Done (strip i) ∷ steps)).1 (silent_up silent (Goes i (ap length none) flows walk))) i rest (strip i) steps refl refl none),
   )
 
-  pub after_passed : (b c d : ℕ) (op : BranchOp) (ty : VmType) (s t u : ℕ) (rest ys ks : List VmInsn) → Silent g c ys d (Branch op ty s u ∷ ks) → Alike f g b (Branch op ty s t ∷ rest) c ys → Alike f g b rest d ks
+  pub after_passed : (b c d : ℕ) (op : VmBranchOp) (ty : VmType) (s t u : ℕ) (rest ys ks : List VmInsn) → Silent g c ys d (Branch op ty s u ∷ ks) → Alike f g b (Branch op ty s t ∷ rest) c ys → Alike f g b rest d ks
   after_passed b c d op ty s t u rest ys ks silent alike steps = (
     (λ walk. inv_passes (silent_down silent ((alike (NotTaken (Branch op ty s 0) ∷ steps)).0 (Passes (Branch op ty s t) (omega arith) refl walk))) (Branch op ty s u) ks (Branch op ty s 0) steps refl refl refl),
     (λ walk. inv_passes ((alike (NotTaken (Branch op ty s 0) ∷ steps)).1 (silent_up silent (Passes (Branch op ty s u) (omega arith) refl walk))) (Branch op ty s t) rest (Branch op ty s 0) steps refl refl refl),
   )
 
-  pub after_taken : (b c d : ℕ) (op : BranchOp) (ty : VmType) (s t u : ℕ) (rest ys ks : List VmInsn) → Silent g c ys d (Branch op ty s u ∷ ks) → Alike f g b (Branch op ty s t ∷ rest) c ys → Alike f g t (block_at f t) u (block_at g u)
+  pub after_taken : (b c d : ℕ) (op : VmBranchOp) (ty : VmType) (s t u : ℕ) (rest ys ks : List VmInsn) → Silent g c ys d (Branch op ty s u ∷ ks) → Alike f g b (Branch op ty s t ∷ rest) c ys → Alike f g t (block_at f t) u (block_at g u)
   after_taken b c d op ty s t u rest ys ks silent alike steps = (
     (λ walk. inv_takes (silent_down silent ((alike (Taken (Branch op ty s 0) 0 ∷ steps)).0 (Takes (Branch op ty s t) 0 t refl refl walk))) (Branch op ty s u) ks (Branch op ty s 0) 0 u steps refl refl refl refl),
     (λ walk. inv_takes ((alike (Taken (Branch op ty s 0) 0 ∷ steps)).1 (silent_up silent (Takes (Branch op ty s u) 0 u refl refl walk))) (Branch op ty s t) rest (Branch op ty s 0) 0 t steps refl refl refl refl),

@@ -1,8 +1,8 @@
 -- What a lawful list of objects of static storage is.
 use Rattle.std.specs.Prelude.{◌≡◌, ℕ, ◌+◌, ◌*◌, ◌/◌, ◌^◌, ◌<◌, ◌≤◌, true, List, All, length, slice_get, Option, Some, None}
 use Rattle.data_object.specs.declared.DataObject.{DataObject}
-use Rattle.data_object.specs.declared.Cell.{Cell}
-use Rattle.data_object.specs.declared.Cell.TheVariants.{Byte, AddressPart}
+use Rattle.data_object.specs.declared.DataCell.{DataCell}
+use Rattle.data_object.specs.declared.DataCell.TheVariants.{Byte, AddressPart}
 use Rattle.data_object.specs.declared.TheConstants.{MOST_DATA}
 use Rattle.data_object.specs.Layout.{LieFrom}
 
@@ -12,13 +12,13 @@ Reaches plus None = ⊥
 Reaches plus (Some o) = plus ≤ o.size
 
 -- the eight parts of an address stand in order, from a place on
-abbrev pub StandsWhole : List Cell → (first global plus : ℕ) → Type 0
+abbrev pub StandsWhole : List DataCell → (first global plus : ℕ) → Type 0
 StandsWhole cells first global plus =
     (part : ℕ) → part < 8 → slice_get cells (first + part) ≡ Some (AddressPart global plus part)
 
 -- what a cell at a place of an object must be: a byte is one; a part of an address belongs to a whole one, at a
 -- multiple of 8 in a writable object, with a number from 0 to the size of an object that is there
-abbrev pub IsLawfulCell : List DataObject → DataObject → (at : ℕ) → Cell → Type 0
+abbrev pub IsLawfulCell : List DataObject → DataObject → (at : ℕ) → DataCell → Type 0
 IsLawfulCell globals o at (Byte b) = b < 256
 IsLawfulCell globals o at (AddressPart global plus part) =
     (o.writable ≡ true) × StandsWhole o.cells (at / 8 * 8) global plus × Reaches plus (slice_get globals global)
@@ -27,7 +27,7 @@ IsLawfulCell globals o at (AddressPart global plus part) =
 pub record IsLawfulObject (globals : List DataObject) (o : DataObject) : Type 0 where
   pub size : o.size ≤ MOST_DATA
   pub cells : length o.cells ≤ o.size
-  pub lawful : (at : ℕ) (c : Cell) → slice_get o.cells at ≡ Some c → IsLawfulCell globals o at c
+  pub lawful : (at : ℕ) (c : DataCell) → slice_get o.cells at ≡ Some c → IsLawfulCell globals o at c
 
 -- the objects lie in order, there are fewer than 2 ^ 32 of them, and each is lawful
 pub record AreLawful (globals : List DataObject) : Type 0 where

@@ -5,15 +5,15 @@ use Rattle.mem_model.specs.declared.value.Cell as c
 use Rattle.mem_model.specs.declared.value.Cell.TheVariants as m
 use Rattle.mem_model.specs.Memory.{Object, Memory}
 use Rattle.data_object.specs.declared.DataObject.{DataObject}
-use Rattle.data_object.specs.declared.Cell.{Cell}
-use Rattle.data_object.specs.declared.Cell.TheVariants.{Byte, AddressPart}
+use Rattle.data_object.specs.declared.DataCell.{DataCell}
+use Rattle.data_object.specs.declared.DataCell.TheVariants.{Byte, AddressPart}
 
 -- the address of an object of static storage, moved by so many bytes
 abbrev pub address_of : (global plus : ℕ) → Ptr
 address_of global plus = record { object = global; offset = pos plus }
 
 -- a cell as memory holds it
-abbrev pub memory_cell : Cell → c.Cell
+abbrev pub memory_cell : DataCell → c.Cell
 memory_cell (Byte b) = m.Byte b
 memory_cell (AddressPart global plus part) = m.Part (address_of global plus) part
 

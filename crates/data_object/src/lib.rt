@@ -14,7 +14,7 @@ pub const MOST_DATA: u64 = 67_108_864;
 /// What a byte of an object holds at the start: a byte, or a part of the address of an object of static storage
 /// with a number of bytes added to it.
 #[derive(Clone, Copy, Debug, PartialEq, Eq)]
-pub enum Cell {
+pub enum DataCell {
     /// A byte of a number or a character.
     Byte(u8),
     /// A byte of an address, the least first: that of the object numbered `global`, moved by `plus` bytes. `part`
@@ -36,7 +36,7 @@ pub struct DataObject {
     /// Whether a program may write it.
     pub writable: bool,
     /// What its first bytes hold. All bytes past these are zero.
-    pub cells: Seq<Cell>,
+    pub cells: Seq<DataCell>,
 }
 
 /// The place at which the next object lies where the one before it ends at `end`: the next multiple of 8.

@@ -24,8 +24,8 @@ use Rattle.alpha_rt.proofs.Signed.{divq_divides, remq_divides, divl_divides, rem
 use Rattle.alpha_rt.proofs.Long.{divlu_divides, remlu_divides}
 use Rattle.mem_model.specs.declared.value.Value.TheVariants.{Word, Address, Unset}
 use Rattle.mem_model.specs.World.{Outer}
-use Rattle.temp_ir.specs.declared.operation.Routine.{Routine}
-use Rattle.temp_ir.specs.declared.operation.Routine.TheVariants.{Divq, Remq, Divqu, Remqu, Divl, Reml, Divlu, Remlu}
+use Rattle.temp_ir.specs.declared.operation.DivisionRoutine.{DivisionRoutine}
+use Rattle.temp_ir.specs.declared.operation.DivisionRoutine.TheVariants.{Divq, Remq, Divqu, Remqu, Divl, Reml, Divlu, Remlu}
 use Rattle.temp_ir.specs.declared.insn.TempInsn.TheVariants as i
 use Rattle.temp_ir.specs.Fixed.{ended_by_divisions, has_number}
 use Rattle.alloc_model.specs.Contents as contents
@@ -41,9 +41,9 @@ use Rattle.flat_memory.proofs.Objects.{others_may_change}
 use Rattle.flat_operations.specs.Contents.{ContentIs}
 use Rattle.flat_frames.specs.Frames.{FrameIs, is_written}
 use Rattle.frame_accesses.proofs.Runs.{stands, bytes-same, reached-same}
-use Rattle.frame_transfers.specs.Laws.{Call, IsCall, StandsFor}
-use Rattle.instruction_items.specs.Items.{Setting}
-use Rattle.instruction_items.specs.Laws.{usable, HasOuter, IsBehind, ActIsDone, store_behind}
+use Rattle.frame_transfers.specs.Laws.{Call, FitsTheStack, StandsFor}
+use Rattle.instruction_items.specs.Items.{ItemSetting}
+use Rattle.instruction_items.specs.Laws.{usable, HasOuter, ComesToItems, ActIsDone, store_behind}
 use Rattle.instruction_items.proofs.Runs.{usable-low}
 use Rattle.call_stacks.specs.Stacks.{KeepsCallers}
 use Rattle.call_stacks.proofs.Stays.{frame-stays}
@@ -54,7 +54,7 @@ use Rattle.division_calls.proofs.Scratch.{IsScratched, scratched-reach, scratche
 
 -- ---- the routines
 
-routines-divide : (r : Routine) → Divides (routine_of r)
+routines-divide : (r : DivisionRoutine) → Divides (routine_of r)
 routines-divide Divq = divq_divides
 routines-divide Remq = remq_divides
 routines-divide Divqu = divqu_divides
@@ -65,7 +65,7 @@ routines-divide Divlu = divlu_divides
 routines-divide Remlu = remlu_divides
 
 -- a word that a division takes is an operand of its routine
-takes-operand : (r : Routine) (n : ℕ) → takes r n ≡ true → rt.IsOperand (routine_of r) n
+takes-operand : (r : DivisionRoutine) (n : ℕ) → takes r n ≡ true → rt.IsOperand (routine_of r) n
 takes-operand Divq n e = refl
 takes-operand Remq n e = refl
 takes-operand Divqu n e = refl
@@ -75,7 +75,7 @@ takes-operand Reml n e = eqb-true (sign_extension w32 n) n e
 takes-operand Divlu n e = eqb-true (sign_extension w32 n) n e
 takes-operand Remlu n e = eqb-true (sign_extension w32 n) n e
 
-module _ (p : Program) (there : Labels) (g : Setting) (rest : List AsmItem) (end : ℕ) (c : Call) (o : Outer) (held : Places) (s : State) (call : IsCall c) (outer : HasOuter o s) (routines : RoutinesStand p there) (scratch : HasScratch p c s) (r : Routine) (h : StandsFor p there (Branch Bsr 23 (entry_label (routine_of r)) ∷ rest) end c o.memory usable held s) where
+module _ (p : Program) (there : Labels) (g : ItemSetting) (rest : List AsmItem) (end : ℕ) (c : Call) (o : Outer) (held : Places) (s : State) (call : FitsTheStack c) (outer : HasOuter o s) (routines : RoutinesStand p there) (scratch : HasScratch p c s) (r : DivisionRoutine) (h : StandsFor p there (Branch Bsr 23 (entry_label (routine_of r)) ∷ rest) end c o.memory usable held s) where
   -- ---- the branch
 
   record Branched : Type 0 where
@@ -254,7 +254,7 @@ module _ (p : Program) (there : Labels) (g : Setting) (rest : List AsmItem) (end
     pc-is : t.pc ≡ word_address b.next
     pc-is = let e : word_address b.next / 4 * 4 ≡ word_address b.next = omega arith in ap (λ k. k / 4 * 4) b.link ∙ e
 
-    is-behind : IsBehind p there rest end c o after s
+    is-behind : ComesToItems p there rest end c o after s
     is-behind = record {
       to = t;
       comes = steps_add_up p s b.to t b.comes (record { steps = x.steps; run = x.run });
@@ -318,6 +318,6 @@ module _ (p : Program) (there : Labels) (g : Setting) (rest : List AsmItem) (end
   contents-done (contents.Plain Unset) v e f = tt
   contents-done (Bundle cells) v e f = tt
 
-pub divisions_are_done : (p : Program) (there : Labels) (g : Setting) (rest : List AsmItem) (end : ℕ) (c : Call) (o : Outer) (held : Places) (s : State) → IsCall c → HasOuter o s → RoutinesStand p there → HasScratch p c s → (r : Routine) → StandsFor p there (Branch Bsr 23 (entry_label (routine_of r)) ∷ rest) end c o.memory usable held s → ActIsDone p there g rest end c (store_behind [] (i.Divide r) held) (i.Divide r) s (writes (division_answer r (held (Reg 24)) (held (Reg 25))) o)
+pub divisions_are_done : (p : Program) (there : Labels) (g : ItemSetting) (rest : List AsmItem) (end : ℕ) (c : Call) (o : Outer) (held : Places) (s : State) → FitsTheStack c → HasOuter o s → RoutinesStand p there → HasScratch p c s → (r : DivisionRoutine) → StandsFor p there (Branch Bsr 23 (entry_label (routine_of r)) ∷ rest) end c o.memory usable held s → ActIsDone p there g rest end c (store_behind [] (i.Divide r) held) (i.Divide r) s (writes (division_answer r (held (Reg 24)) (held (Reg 25))) o)
 divisions_are_done p there g rest end c o held s call outer routines scratch r h =
     contents-done p there g rest end c o held s call outer routines scratch r h (held (Reg 24)) (held (Reg 25)) refl refl

@@ -11,14 +11,14 @@ use Rattle.alpha_rt.specs.Code.{entry}
 use Rattle.alpha_rt.specs.Calls.{StandsAt, scratch_size}
 use Rattle.alpha_rt.specs.Items.{entry_label}
 use Rattle.mem_model.specs.World.{Outer}
-use Rattle.temp_ir.specs.declared.operation.Routine.{Routine}
+use Rattle.temp_ir.specs.declared.operation.DivisionRoutine.{DivisionRoutine}
 use Rattle.temp_ir.specs.declared.insn.TempInsn.TheVariants as i
 use Rattle.alloc_model.specs.Effect.{routine_of, writes, division_answer}
 use Rattle.alloc_model.specs.Places.{Places, Reg}
 use Rattle.flat_memory.specs.Relation.{Nobody}
 use Rattle.flat_memory.specs.Machine.{is_reached}
-use Rattle.frame_transfers.specs.Laws.{Call, IsCall, StandsFor}
-use Rattle.instruction_items.specs.Items.{Setting}
+use Rattle.frame_transfers.specs.Laws.{Call, FitsTheStack, StandsFor}
+use Rattle.instruction_items.specs.Items.{ItemSetting}
 use Rattle.instruction_items.specs.Laws.{usable, HasOuter, ActIsDone, store_behind}
 
 -- the routines stand in the text, and their labels at their entries
@@ -36,8 +36,8 @@ pub record HasScratch (p : Program) (c : Call) (s : State) : Type 0 where
 -- at the call of a routine the machine does what the division does with the contents of registers 24 and 25
 abbrev pub DivisionsAreDone : Type 0
 DivisionsAreDone =
-    (p : Program) (there : Labels) (g : Setting) (rest : List AsmItem) (end : ℕ) (c : Call) (o : Outer) (held : Places)
-    (s : State) → IsCall c → HasOuter o s → RoutinesStand p there → HasScratch p c s → (r : Routine) →
+    (p : Program) (there : Labels) (g : ItemSetting) (rest : List AsmItem) (end : ℕ) (c : Call) (o : Outer) (held : Places)
+    (s : State) → FitsTheStack c → HasOuter o s → RoutinesStand p there → HasScratch p c s → (r : DivisionRoutine) →
     StandsFor p there (Branch Bsr 23 (entry_label (routine_of r)) ∷ rest) end c o.memory usable held s →
     ActIsDone p there g rest end c (store_behind [] (i.Divide r) held) (i.Divide r) s
     (writes (division_answer r (held (Reg 24)) (held (Reg 25))) o)

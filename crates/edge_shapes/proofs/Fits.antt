@@ -14,7 +14,7 @@ use Rattle.alloc_model.specs.Effect.{Temp}
 use Rattle.alloc_model.specs.Temporaries.{flows_out}
 use Rattle.alloc_model.specs.Places.{Place, Reg, Slot, In, Out, Plan, edge_transfers, code_in}
 use Rattle.alloc_model.specs.Faithful.{Held, stands, MovesAsk, before, given_registers, named_registers, IsTransfer, IsGivenOrScratch, HasLists, Faithful}
-use Rattle.flat_frames.specs.Shapes.{Shape}
+use Rattle.flat_frames.specs.Shapes.{FrameShape}
 use Rattle.flat_frames.specs.Frames.{with_known}
 use Rattle.frame_transfers.specs.Laws.{IsWritable, CanTransferAll}
 use Rattle.instruction_items.specs.Laws.{usable}
@@ -39,7 +39,7 @@ number-here r rs = or-left (r == r) (has_number rs r) (eq-eqb r r refl)
 all-below : All (λ r. r < 29) (28 ∷ given_registers)
 all-below = All-from_recursion (λ r. r < 29) (28 ∷ given_registers) (omega arith, (omega arith, (omega arith, (omega arith, (omega arith, (omega arith, (omega arith, (omega arith, (omega arith, (omega arith, (omega arith, (omega arith, (omega arith, (omega arith, (omega arith, (omega arith, (omega arith, (omega arith, (omega arith, (omega arith, (omega arith, (omega arith, (omega arith, (omega arith, (omega arith, (omega arith, (omega arith, tt)))))))))))))))))))))))))))
 
-writable : (s : Shape) (r : ℕ) → IsGivenOrScratch r → s.saves r ≡ true → IsWritable s r
+writable : (s : FrameShape) (r : ℕ) → IsGivenOrScratch r → s.saves r ≡ true → IsWritable s r
 writable s r given saved = record {
   value = All-contains (λ q. q < 29) (28 ∷ given_registers) r all-below given;
   saved = λ from to. saved;
@@ -58,7 +58,7 @@ knows-put known t r h knows = knows-stands (with_known known r) (Temp t) (Reg r)
 
 -- ---- transfers that ask for what stands in known registers
 
-can-transfer : (s : Shape) (xs : List Transfer) (known : ℕ → Bool) (h : Held) → ((r : ℕ) → names_in xs r ≡ true → s.saves r ≡ true) → All (IsTransfer s.temps IsGivenOrScratch) xs → Knows known h → MovesAsk xs h → CanTransferAll s known xs
+can-transfer : (s : FrameShape) (xs : List Transfer) (known : ℕ → Bool) (h : Held) → ((r : ℕ) → names_in xs r ≡ true → s.saves r ≡ true) → All (IsTransfer s.temps IsGivenOrScratch) xs → Knows known h → MovesAsk xs h → CanTransferAll s known xs
 can-transfer s [] known h cover all knows asks = tt
 can-transfer s (Store t r ∷ xs) known h cover all knows asks =
     let head = All-head (IsTransfer s.temps IsGivenOrScratch) (Store t r) xs all in (
@@ -116,7 +116,7 @@ targets_fit a f block at x there k to leads =
     let keeps = f.jumps block at x there k to leads in
     found_fits a f.lists (λ e. (e.from == block) && (e.to == to)) block (suc at) keeps.moves
 
-if-both : (s : Shape) (b c : Bool) (xs : List Transfer) → (b ≡ true → CanTransferAll s usable xs) → CanTransferAll s usable (if b && c then xs else [])
+if-both : (s : FrameShape) (b c : Bool) (xs : List Transfer) → (b ≡ true → CanTransferAll s usable xs) → CanTransferAll s usable (if b && c then xs else [])
 if-both s true true xs h = h refl
 if-both s true false xs h = tt
 if-both s false c xs h = tt

@@ -12,8 +12,8 @@ use Rattle.temp_ir.specs.declared.insn.TempInsn.TheVariants as i
 use Rattle.alloc_model.specs.declared.allocation.Transfer.{Transfer}
 use Rattle.alloc_model.specs.Places.{Places, Plan, placed_site, do_all}
 use Rattle.frame_transfers.specs.Items.{items_of_transfers}
-use Rattle.frame_transfers.specs.Laws.{Call, IsCall, StandsFor, CanTransferAll}
-use Rattle.instruction_items.specs.Items.{Setting}
+use Rattle.frame_transfers.specs.Laws.{Call, FitsTheStack, StandsFor, CanTransferAll}
+use Rattle.instruction_items.specs.Items.{ItemSetting}
 use Rattle.instruction_items.specs.Laws.{usable, HasOuter}
 use Rattle.call_stacks.specs.Stacks.{Waiting, Start, StackIs}
 use Rattle.placed_steps.specs.Points.{AllMayTransfer, PointIsPassed, PointIsLeft}
@@ -24,7 +24,7 @@ use Rattle.function_items.specs.Laws.{FunctionStands}
 abbrev pub EdgesAreDone : Type 0
 EdgesAreDone =
     (p : Program) (there : Labels) (start : Start) (rest : List AsmItem) (end : ℕ) (c : Call) (gs : List Waiting)
-    (o : Outer) (store : Places) (s : State) → IsCall c → StackIs p there start c gs store s → HasOuter o s →
+    (o : Outer) (store : Places) (s : State) → FitsTheStack c → StackIs p there start c gs store s → HasOuter o s →
     (xs : List Transfer) → CanTransferAll c.shape usable xs →
     StandsFor p there (items_of_transfers c.shape xs rest) end c o.memory usable store s →
     PointIsPassed p there start rest end c gs o (do_all xs store) s
@@ -33,7 +33,7 @@ EdgesAreDone =
 abbrev pub JumpsAreDone : Type 0
 JumpsAreDone =
     (p : Program) (there : Labels) (start : Start) (rest : List AsmItem) (end : ℕ) (c : Call) (gs : List Waiting)
-    (o : Outer) (store : Places) (s : State) → IsCall c → StackIs p there start c gs store s → HasOuter o s →
+    (o : Outer) (store : Places) (s : State) → FitsTheStack c → StackIs p there start c gs store s → HasOuter o s →
     (transfers edge : List Transfer) → AllMayTransfer c.shape transfers → CanTransferAll c.shape usable edge →
     (l widest block : ℕ) (registers : List ℕ) → registers ≡ [] →
     StandsFor p there
@@ -46,7 +46,7 @@ JumpsAreDone =
 abbrev pub EndsAreDone : Type 0
 EndsAreDone =
     (p : Program) (there : Labels) (start : Start) (items : List AsmItem) (end : ℕ) (c : Call) (gs : List Waiting)
-    (o : Outer) (store : Places) (s : State) → IsCall c → StackIs p there start c gs store s → HasOuter o s →
+    (o : Outer) (store : Places) (s : State) → FitsTheStack c → StackIs p there start c gs store s → HasOuter o s →
     (xs : List Transfer) (l : ℕ) → CanTransferAll c.shape usable xs →
     StandsFor p there (items_of_transfers c.shape xs (Label l ∷ items)) end c o.memory usable store s →
     PointIsPassed p there start items end c gs o (do_all xs store) s
@@ -54,8 +54,8 @@ EndsAreDone =
 -- from the label of a block the machine comes to its first instruction, with the transfers at its top done
 abbrev pub BlocksAreEntered : Type 0
 BlocksAreEntered =
-    (p : Program) (there : Labels) (start : Start) (a : Plan) (g : Setting) (number : ℕ) (behind : List AsmItem)
-    (end : ℕ) (c : Call) (gs : List Waiting) (o : Outer) (held : Places) (s : State) → IsCall c → g.shape ≡ c.shape →
+    (p : Program) (there : Labels) (start : Start) (a : Plan) (g : ItemSetting) (number : ℕ) (behind : List AsmItem)
+    (end : ℕ) (c : Call) (gs : List Waiting) (o : Outer) (held : Places) (s : State) → FitsTheStack c → g.shape ≡ c.shape →
     FunctionStands p there a g number behind end → (block : ℕ) (insns : List TempInsn) →
     slice_get a.function.blocks block ≡ Some insns → CanTransferAll c.shape usable (top_transfers a block) →
     PointIsLeft p there start (g.block_label block) c gs o held s →

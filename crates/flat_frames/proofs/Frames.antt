@@ -8,11 +8,11 @@ use Rattle.alloc_model.specs.Contents.{Content}
 use Rattle.alloc_model.specs.Stores.{put}
 use Rattle.alloc_model.specs.Places.{Places, Reg, Slot, Out, place_eq}
 use Rattle.flat_memory.specs.Bytes.{Bytes, bytes_from, put_bytes, low_bytes, number_from}
-use Rattle.flat_memory.specs.Relation.{Extents, Owner, Owners, OfObject, OfFrame, Piece, SlotPiece, ArgumentPiece, MemoryIs}
+use Rattle.flat_memory.specs.Relation.{Extents, Owner, Owners, OfObject, OfFrame, FramePiece, SlotPiece, ArgumentPiece, MemoryIs}
 use Rattle.flat_memory.proofs.Numbers.{numbers_come_back, low_bytes-length, low_bytes-are, put-out, put-small, bytes_from-same, bytes_from-put}
 use Rattle.flat_memory.proofs.Objects.{others_may_change}
 use Rattle.flat_operations.specs.Contents.{ContentIs}
-use Rattle.flat_frames.specs.Shapes.{Shape, argument_at, slot_at, IsPiece}
+use Rattle.flat_frames.specs.Shapes.{FrameShape, argument_at, slot_at, IsPiece}
 use Rattle.flat_frames.specs.Frames.{word_in, put_word, FrameIs, KeepsFrames, IsWordOf, FrameAndMemory, RegistersAre, with_known, is_written_piece, is_written, KeepsUnwritten}
 use Rattle.flat_frames.proofs.Shapes.{pieces_of}
 
@@ -57,12 +57,12 @@ unwritten-objects owner depth m k keeps y e = keeps.same y (λ o f. clash (ap (i
     clash f = cc
 
 -- pieces of its own frame are written
-pub own-written : (depth : ℕ) (piece : Piece) → is_written_piece piece ≡ true → is_written depth (OfFrame depth piece) ≡ true
+pub own-written : (depth : ℕ) (piece : FramePiece) → is_written_piece piece ≡ true → is_written depth (OfFrame depth piece) ≡ true
 own-written depth piece e = ap (λ b. b && is_written_piece piece) (eq-eqb depth depth refl) ∙ e
 
 -- ---- a frame
 
-module _ (xs : Extents) (owner : Owners) (m : Bytes) (sp depth own : ℕ) (s : Shape) (store : Places) (f : FrameIs xs owner m sp depth own s store) where
+module _ (xs : Extents) (owner : Owners) (m : Bytes) (sp depth own : ℕ) (s : FrameShape) (store : Places) (f : FrameIs xs owner m sp depth own s store) where
   -- a piece of the frame is a word of its owner
   piece-word : (at : ℕ) (whose : Owner) → IsPiece s depth own at 8 whose → IsWordOf owner (sp + at) whose
   piece-word at whose p = record {
@@ -79,7 +79,7 @@ module _ (xs : Extents) (owner : Owners) (m : Bytes) (sp depth own : ℕ) (s : S
   argument-word k lt = piece-word (argument_at k) (OfFrame depth (ArgumentPiece k)) ((pieces_of s depth own).arguments k lt)
 
   -- a word of the frame where bytes of objects alone change
-  frame-word : (k : Bytes) (a : ℕ) (q : Piece) → KeepsFrames owner m k → IsWordOf owner a (OfFrame depth q) → word_in k a ≡ word_in m a
+  frame-word : (k : Bytes) (a : ℕ) (q : FramePiece) → KeepsFrames owner m k → IsWordOf owner a (OfFrame depth q) → word_in k a ≡ word_in m a
   frame-word k a q keeps is = word-same m k a (λ y from to.
       let e : a + (y - a) ≡ y = omega arith in
       keeps.same y (λ o g. no_object o (sym (ap owner (sym e) ∙ is.owned (y - a) (omega arith)) ∙ g)))
@@ -98,9 +98,9 @@ module _ (xs : Extents) (owner : Owners) (m : Bytes) (sp depth own : ℕ) (s : S
 
 -- ---- a word in the frame
 
-module _ (xs : Extents) (memory : Memory) (owner : Owners) (m : Bytes) (sp depth own : ℕ) (s : Shape) (store : Places) (h : FrameAndMemory xs memory owner m sp depth own s store) where
+module _ (xs : Extents) (memory : Memory) (owner : Owners) (m : Bytes) (sp depth own : ℕ) (s : FrameShape) (store : Places) (h : FrameAndMemory xs memory owner m sp depth own s store) where
   -- objects do not change by a word that a frame owns
-  memory-kept : (a w : ℕ) (q : Piece) → IsWordOf owner a (OfFrame depth q) → MemoryIs xs memory owner (put_word m a w)
+  memory-kept : (a w : ℕ) (q : FramePiece) → IsWordOf owner a (OfFrame depth q) → MemoryIs xs memory owner (put_word m a w)
   memory-kept a w q is = others_may_change xs memory owner owner m (put_word m a w) h.memory_is (record {
     owners = λ y o live e. e;
     same = λ y o live e. put-word-other owner m a w y (OfFrame depth q) is (λ g. no_object o (sym g ∙ e));

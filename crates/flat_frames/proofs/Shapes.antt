@@ -4,7 +4,7 @@ use Rattle.std.specs.Prelude.{nat_lt, slice_get, if◌then◌else◌}
 use Rattle.std.proofs.lemmas.Bool.{lt-ltb, le-ltb, cond-true, cond-false}
 use Rattle.data_object.specs.Layout.{place_after}
 use Rattle.flat_memory.specs.Relation.{OfObject, OfFrame, SlotPiece, ReturnPiece, SavedPiece, ArgumentPiece}
-use Rattle.flat_frames.specs.Shapes.{Shape, argument_at, return_at, saved_at, slot_at, objects_at, bytes_before, object_at, objects_size, object_owner, owner_at, IsPiece, PiecesOf, IsSmall}
+use Rattle.flat_frames.specs.Shapes.{FrameShape, argument_at, return_at, saved_at, slot_at, objects_at, bytes_before, object_at, objects_size, object_owner, owner_at, IsPiece, PiecesOf, IsSmallFrame}
 
 -- ---- objects
 
@@ -29,7 +29,7 @@ object-owned (m ∷ sizes) depth number (suc k) n i e lt =
     ∙ object-owned sizes depth (suc number) k n i e lt
     ∙ ap OfObject same
 
-module _ (s : Shape) (depth own : ℕ) where
+module _ (s : FrameShape) (depth own : ℕ) where
   -- an offset behind the first pieces of a frame
   behind_arguments : (i : ℕ) → 8 * s.outgoing ≤ i → owner_at s depth own i ≡ (if nat_lt i (8 * s.outgoing + 8) then OfFrame depth ReturnPiece
       else if nat_lt i (8 * s.outgoing + 64) then OfFrame depth (SavedPiece (9 + (i - (8 * s.outgoing + 8)) / 8))
@@ -104,7 +104,7 @@ module _ (s : Shape) (depth own : ℕ) where
     objects = object-piece;
   }
 
-pub frames_are_small : (s : Shape) → IsSmall s
+pub frames_are_small : (s : FrameShape) → IsSmallFrame s
 frames_are_small s = record {
   whole = omega arith;
   least = omega arith;

@@ -6,9 +6,9 @@ use Rattle.alloc_model.specs.Contents.{Content}
 use Rattle.alloc_model.specs.Stores.{put}
 use Rattle.alloc_model.specs.Places.{Places, Reg, Slot, Out, place_eq}
 use Rattle.flat_memory.specs.Bytes.{Bytes, bytes_from, put_bytes, low_bytes, number_from}
-use Rattle.flat_memory.specs.Relation.{Extents, Owner, Owners, OfObject, OfFrame, Nobody, Piece, SlotPiece, ArgumentPiece, MemoryIs}
+use Rattle.flat_memory.specs.Relation.{Extents, Owner, Owners, OfObject, OfFrame, Nobody, FramePiece, SlotPiece, ArgumentPiece, MemoryIs}
 use Rattle.flat_operations.specs.Contents.{ContentIs}
-use Rattle.flat_frames.specs.Shapes.{Shape, argument_at, slot_at, object_at, frame_size, owner_at}
+use Rattle.flat_frames.specs.Shapes.{FrameShape, argument_at, slot_at, object_at, frame_size, owner_at}
 
 -- the word at an address, and the bytes with a word there
 abbrev pub word_in : Bytes → (address : ℕ) → ℕ
@@ -18,7 +18,7 @@ abbrev pub put_word : Bytes → (address word : ℕ) → Bytes
 put_word m a w = put_bytes m a (low_bytes 8 w)
 
 -- the frame of a call at a depth, from an address on
-pub record FrameIs (xs : Extents) (owner : Owners) (m : Bytes) (sp depth own : ℕ) (s : Shape) (store : Places) :
+pub record FrameIs (xs : Extents) (owner : Owners) (m : Bytes) (sp depth own : ℕ) (s : FrameShape) (store : Places) :
     Type 0 where
   pub aligned : sp % 16 ≡ 0
   pub slots : (t : ℕ) → t < s.temps → ContentIs xs (store (Slot t)) (word_in m (sp + slot_at s t))
@@ -33,7 +33,7 @@ pub record KeepsFrames (owner : Owners) (m k : Bytes) : Type 0 where
 
 -- the instructions of a call write bytes of objects, of its slots and of its argument places, and what is nobody's may
 -- change
-abbrev pub is_written_piece : Piece → Bool
+abbrev pub is_written_piece : FramePiece → Bool
 is_written_piece (SlotPiece t) = true
 is_written_piece (ArgumentPiece k) = true
 is_written_piece _ = false
@@ -50,7 +50,7 @@ KeepsUnwritten owner depth m k = (y : ℕ) → is_written depth (owner y) ≡ fa
 -- so frames stay
 abbrev pub FramesStay : Type 0
 FramesStay =
-    (xs : Extents) (owner : Owners) (m k : Bytes) (sp depth own : ℕ) (s : Shape) (store : Places) →
+    (xs : Extents) (owner : Owners) (m k : Bytes) (sp depth own : ℕ) (s : FrameShape) (store : Places) →
     FrameIs xs owner m sp depth own s store → KeepsFrames owner m k → FrameIs xs owner k sp depth own s store
 
 -- a word that is put where all bytes have one owner keeps the words that others own,
@@ -63,21 +63,21 @@ WordsAreKept =
     mine ≢ other → word_in (put_word m a w) b ≡ word_in m b
 
 -- and a frame with a word in a slot or an argument place stands for the call that holds its content there
-pub record FrameAndMemory (xs : Extents) (memory : Memory) (owner : Owners) (m : Bytes) (sp depth own : ℕ) (s : Shape)
+pub record FrameAndMemory (xs : Extents) (memory : Memory) (owner : Owners) (m : Bytes) (sp depth own : ℕ) (s : FrameShape)
     (store : Places) : Type 0 where
   pub frame : FrameIs xs owner m sp depth own s store
   pub memory_is : MemoryIs xs memory owner m
 
 abbrev pub SlotsArePut : Type 0
 SlotsArePut =
-    (xs : Extents) (memory : Memory) (owner : Owners) (m : Bytes) (sp depth own : ℕ) (s : Shape) (store : Places) →
+    (xs : Extents) (memory : Memory) (owner : Owners) (m : Bytes) (sp depth own : ℕ) (s : FrameShape) (store : Places) →
     FrameAndMemory xs memory owner m sp depth own s store → (t : ℕ) (c : Content) (w : ℕ) → t < s.temps →
     w < 2 ^ 64 → ContentIs xs c w →
     FrameAndMemory xs memory owner (put_word m (sp + slot_at s t) w) sp depth own s (put place_eq (Slot t) c store)
 
 abbrev pub ArgumentsArePut : Type 0
 ArgumentsArePut =
-    (xs : Extents) (memory : Memory) (owner : Owners) (m : Bytes) (sp depth own : ℕ) (s : Shape) (store : Places) →
+    (xs : Extents) (memory : Memory) (owner : Owners) (m : Bytes) (sp depth own : ℕ) (s : FrameShape) (store : Places) →
     FrameAndMemory xs memory owner m sp depth own s store → (k : ℕ) (c : Content) (w : ℕ) → k < s.outgoing →
     w < 2 ^ 64 → ContentIs xs c w →
     FrameAndMemory xs memory owner (put_word m (sp + argument_at k) w) sp depth own s (put place_eq (Out k) c store)

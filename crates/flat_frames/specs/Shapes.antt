@@ -6,7 +6,7 @@ use Rattle.flat_memory.specs.Relation.{Owner, OfObject, OfFrame, SlotPiece, Retu
 
 -- how many argument places and temporaries a function has, the sizes of its objects, and which registers it saves of 9
 -- to 15
-pub record Shape : Type 0 where
+pub record FrameShape : Type 0 where
   pub outgoing : ℕ
   pub temps : ℕ
   pub sizes : List ℕ
@@ -17,16 +17,16 @@ pub record Shape : Type 0 where
 abbrev pub argument_at : (number : ℕ) → ℕ
 argument_at k = 8 * k
 
-abbrev pub return_at : Shape → ℕ
+abbrev pub return_at : FrameShape → ℕ
 return_at s = 8 * s.outgoing
 
-abbrev pub saved_at : Shape → (register : ℕ) → ℕ
+abbrev pub saved_at : FrameShape → (register : ℕ) → ℕ
 saved_at s r = 8 * s.outgoing + 8 + 8 * (r - 9)
 
-abbrev pub slot_at : Shape → (temporary : ℕ) → ℕ
+abbrev pub slot_at : FrameShape → (temporary : ℕ) → ℕ
 slot_at s t = 8 * s.outgoing + 64 + 8 * t
 
-abbrev pub objects_at : Shape → ℕ
+abbrev pub objects_at : FrameShape → ℕ
 objects_at s = 8 * s.outgoing + 64 + 8 * s.temps
 
 -- the bytes of so many objects, each up to a multiple of 8
@@ -35,14 +35,14 @@ bytes_before sizes zero = 0
 bytes_before [] (suc k) = 0
 bytes_before (n ∷ sizes) (suc k) = place_after n + bytes_before sizes k
 
-abbrev pub object_at : Shape → (number : ℕ) → ℕ
+abbrev pub object_at : FrameShape → (number : ℕ) → ℕ
 object_at s k = objects_at s + bytes_before s.sizes k
 
 abbrev pub objects_size : (sizes : List ℕ) → ℕ
 objects_size sizes = bytes_before sizes (length sizes)
 
 -- the size of a frame, a multiple of 16
-abbrev pub frame_size : Shape → ℕ
+abbrev pub frame_size : FrameShape → ℕ
 frame_size s = (objects_at s + objects_size s.sizes + 15) / 16 * 16
 
 -- ---- owners
@@ -56,7 +56,7 @@ object_owner depth number (n ∷ sizes) i =
     else object_owner depth (suc number) sizes (i - place_after n)
 
 -- whose byte stands at an offset in the frame of a call at a depth, whose first object has a number
-abbrev pub owner_at : Shape → (depth own : ℕ) → (offset : ℕ) → Owner
+abbrev pub owner_at : FrameShape → (depth own : ℕ) → (offset : ℕ) → Owner
 owner_at s depth own i =
     if nat_lt i (8 * s.outgoing) then OfFrame depth (ArgumentPiece (i / 8))
     else if nat_lt i (8 * s.outgoing + 8) then OfFrame depth ReturnPiece
@@ -65,12 +65,12 @@ owner_at s depth own i =
     else object_owner depth own s.sizes (i - objects_at s)
 
 -- bytes of a frame from an offset on have one owner
-pub record IsPiece (s : Shape) (depth own at size : ℕ) (whose : Owner) : Type 0 where
+pub record IsPiece (s : FrameShape) (depth own at size : ℕ) (whose : Owner) : Type 0 where
   pub within : at + size ≤ frame_size s
   pub owned : (i : ℕ) → i < size → owner_at s depth own (at + i) ≡ whose
 
 -- the pieces of a frame lie apart, since each byte has one owner
-pub record PiecesOf (s : Shape) (depth own : ℕ) : Type 0 where
+pub record PiecesOf (s : FrameShape) (depth own : ℕ) : Type 0 where
   pub arguments : (k : ℕ) → k < s.outgoing → IsPiece s depth own (argument_at k) 8 (OfFrame depth (ArgumentPiece k))
   pub returns : IsPiece s depth own (return_at s) 8 (OfFrame depth ReturnPiece)
   pub saved : (r : ℕ) → 9 ≤ r → r < 16 → IsPiece s depth own (saved_at s r) 8 (OfFrame depth (SavedPiece r))
@@ -78,13 +78,13 @@ pub record PiecesOf (s : Shape) (depth own : ℕ) : Type 0 where
   pub objects : (k n : ℕ) → slice_get s.sizes k ≡ Some n → IsPiece s depth own (object_at s k) n (OfObject (own + k))
 
 abbrev pub PiecesLieApart : Type 0
-PiecesLieApart = (s : Shape) (depth own : ℕ) → PiecesOf s depth own
+PiecesLieApart = (s : FrameShape) (depth own : ℕ) → PiecesOf s depth own
 
 -- a frame has at most the bytes of its slots, argument places and objects and 64 more, up to a multiple of 16
-pub record IsSmall (s : Shape) : Type 0 where
+pub record IsSmallFrame (s : FrameShape) : Type 0 where
   pub whole : frame_size s % 16 ≡ 0
   pub least : 64 ≤ frame_size s
   pub most : frame_size s ≤ (8 * s.temps + 8 * s.outgoing + objects_size s.sizes + 64 + 15) / 16 * 16
 
 abbrev pub FramesAreSmall : Type 0
-FramesAreSmall = (s : Shape) → IsSmall s
+FramesAreSmall = (s : FrameShape) → IsSmallFrame s

@@ -6,7 +6,7 @@ use native.Mathlib.Bridge.{le_prop}
 use native.Mathlib.Nat.{ℕ_set}
 use Rattle.std.specs.Prelude.{slice_get}
 use Rattle.data_object.specs.declared.DataObject.{DataObject}
-use Rattle.data_object.specs.declared.Cell.TheVariants.{AddressPart}
+use Rattle.data_object.specs.declared.DataCell.TheVariants.{AddressPart}
 use Rattle.data_object.specs.Layout.{place_after, LieFrom}
 use Rattle.data_object.specs.Globals.{Reaches, IsLawfulObject, AreLawful}
 use Rattle.flat_globals.specs.Globals.{AreLaidOut}

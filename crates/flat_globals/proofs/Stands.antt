@@ -8,8 +8,8 @@ use Rattle.mem_model.specs.declared.value.Cell as c
 use Rattle.mem_model.specs.declared.value.Cell.TheVariants as m
 use Rattle.mem_model.specs.Memory.{Object, object_at, no_object}
 use Rattle.data_object.specs.declared.DataObject.{DataObject}
-use Rattle.data_object.specs.declared.Cell.{Cell}
-use Rattle.data_object.specs.declared.Cell.TheVariants.{Byte, AddressPart}
+use Rattle.data_object.specs.declared.DataCell.{DataCell}
+use Rattle.data_object.specs.declared.DataCell.TheVariants.{Byte, AddressPart}
 use Rattle.data_object.specs.Layout.{LieFrom}
 use Rattle.data_object.specs.Globals.{Reaches}
 use Rattle.data_object.specs.Start.{memory_cell, start_object, start_memory}
@@ -161,7 +161,7 @@ module _ (globals : List DataObject) (p : Program) (s : State) (lawful : AreLaid
         is ∙ ap (λ z. slice_index (low_bytes 8 (start + offset_of z + plus)) part) e,
       )
 
-  cell-is : (k : ℕ) (o : DataObject) → slice_get globals k ≡ Some o → (at : ℕ) (x : Cell) (n : ℕ) → slice_get o.cells at ≡ Some x → n ≡ cell_byte globals start x → CellIs xs (memory_cell x) n
+  cell-is : (k : ℕ) (o : DataObject) → slice_get globals k ≡ Some o → (at : ℕ) (x : DataCell) (n : ℕ) → slice_get o.cells at ≡ Some x → n ≡ cell_byte globals start x → CellIs xs (memory_cell x) n
   cell-is k o e at (Byte b) n h is = is
   cell-is k o e at (AddressPart global plus part) n h is = address global plus part n (lawful.reaches k o e at global plus part h) is
 

@@ -4,8 +4,8 @@ use Rattle.std.specs.Prelude.{◌≡◌, ◌≢◌, ℕ, suc, ◌+◌, ◌^◌, 
 use Rattle.alpha_isa.specs.Program.{Program, data_start}
 use Rattle.alpha_isa.specs.State.{State}
 use Rattle.data_object.specs.declared.DataObject.{DataObject}
-use Rattle.data_object.specs.declared.Cell.{Cell}
-use Rattle.data_object.specs.declared.Cell.TheVariants.{Byte, AddressPart}
+use Rattle.data_object.specs.declared.DataCell.{DataCell}
+use Rattle.data_object.specs.declared.DataCell.TheVariants.{Byte, AddressPart}
 use Rattle.data_object.specs.Layout.{LieFrom}
 use Rattle.data_object.specs.Globals.{Reaches, AreLawful}
 use Rattle.data_object.specs.Start.{start_memory}
@@ -19,7 +19,7 @@ offset_of None = 0
 offset_of (Some o) = o.offset
 
 -- the byte of a cell, where the data begins at an address
-abbrev pub cell_byte : List DataObject → (start : ℕ) → Cell → ℕ
+abbrev pub cell_byte : List DataObject → (start : ℕ) → DataCell → ℕ
 cell_byte globals start (Byte b) = b
 cell_byte globals start (AddressPart global plus part) =
     slice_index (low_bytes 8 (start + offset_of (slice_get globals global) + plus)) part
@@ -40,7 +40,7 @@ pub record DataIs (globals : List DataObject) (start : ℕ) (data_bytes : List �
   pub bytes : AreBytes data_bytes
   pub small : start + length data_bytes < 2 ^ 64
   pub within : (k : ℕ) (o : DataObject) → slice_get globals k ≡ Some o → o.offset + o.size ≤ length data_bytes
-  pub cells : (k : ℕ) (o : DataObject) → slice_get globals k ≡ Some o → (at : ℕ) (c : Cell) →
+  pub cells : (k : ℕ) (o : DataObject) → slice_get globals k ≡ Some o → (at : ℕ) (c : DataCell) →
       slice_get o.cells at ≡ Some c → slice_index data_bytes (o.offset + at) ≡ cell_byte globals start c
   pub zeros : (k : ℕ) (o : DataObject) → slice_get globals k ≡ Some o → (at : ℕ) → length o.cells ≤ at → at < o.size →
       slice_index data_bytes (o.offset + at) ≡ 0

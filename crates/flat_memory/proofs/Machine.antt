@@ -7,7 +7,7 @@ use Rattle.alpha_isa.specs.Program.{Program, data_start, stack_start, data_size}
 use Rattle.alpha_isa.specs.State.{State, lies_in, part_of, with_part, bytes_at, with_bytes}
 use Rattle.mem_model.specs.Memory.{IsWidth}
 use Rattle.flat_memory.specs.Bytes.{Bytes, bytes_from, put_bytes, low_bytes, number_from}
-use Rattle.flat_memory.specs.Machine.{is_in_data, is_in_stack, is_reached, memory_bytes, HasParts, IsReached, IsStored, NumbersOfAccesses}
+use Rattle.flat_memory.specs.Machine.{is_in_data, is_in_stack, is_reached, memory_bytes, HasParts, IsReached, IsAfterStore, NumbersOfAccesses}
 use Rattle.flat_memory.proofs.Numbers.{put-out, put-step, put-here}
 
 -- ---- lists of bytes
@@ -208,7 +208,7 @@ module _ (p : Program) (s : State) (parts : HasParts p s) (a : ℕ) (bs : List �
   unfolding memory_bytes
   rest_of t y h = cond-false (is_in_data p t y) _ _ (in_part-not (data_start p) y (length t.data_bytes) h)
 
-  data_stored : LiesIn (data_start p) a (length bs) s.data_bytes → (t : State) × (with_bytes p s a bs ≡ Some t) × IsStored p s t a bs
+  data_stored : LiesIn (data_start p) a (length bs) s.data_bytes → (t : State) × (with_bytes p s a bs ≡ Some t) × IsAfterStore p s t a bs
   unfolding in_data_now in_stack_now
   data_stored l =
       let f = l.from in let to = l.to in
@@ -241,7 +241,7 @@ module _ (p : Program) (s : State) (parts : HasParts p s) (a : ℕ) (bs : List �
           apart (inl lt) = let f = l.from in inl (omega (arith, lt, f))
           apart (inr ge) = let t = l.to in inr (omega (arith, ge, t))
 
-  stack_stored : LiesIn (stack_start p) a (length bs) s.stack_bytes → (t : State) × (with_bytes p s a bs ≡ Some t) × IsStored p s t a bs
+  stack_stored : LiesIn (stack_start p) a (length bs) s.stack_bytes → (t : State) × (with_bytes p s a bs ≡ Some t) × IsAfterStore p s t a bs
   unfolding in_data_now in_stack_now
   stack_stored l =
       let f = l.from in let to = l.to in
@@ -289,7 +289,7 @@ module _ (p : Program) (s : State) (parts : HasParts p s) (a : ℕ) (bs : List �
               apart (inl lt) = let f = l.from in inl (omega (arith, lt, f))
               apart (inr ge) = let t = l.to in inr (omega (arith, ge, t))
 
-  pub stores_put_bytes : (t : State) × (with_bytes p s a bs ≡ Some t) × IsStored p s t a bs
+  pub stores_put_bytes : (t : State) × (with_bytes p s a bs ≡ Some t) × IsAfterStore p s t a bs
   stores_put_bytes = ⊎_elim data_stored stack_stored (one_part p s parts a (length bs) wide r)
 
 -- ---- numbers

@@ -38,7 +38,7 @@ LoadsReadBytes =
     bytes_at p s a width ≡ Some (bytes_from (memory_bytes p s) a width)
 
 -- what a store leaves: all but bytes of the memory is as it was
-pub record IsStored (p : Program) (s t : State) (a : ℕ) (bs : List ℕ) : Type 0 where
+pub record IsAfterStore (p : Program) (s t : State) (a : ℕ) (bs : List ℕ) : Type 0 where
   pub bytes : memory_bytes p t ≡ put_bytes (memory_bytes p s) a bs
   pub reached : (y : ℕ) → is_reached p t y ≡ is_reached p s y
   pub parts : HasParts p t
@@ -52,7 +52,7 @@ pub record IsStored (p : Program) (s t : State) (a : ℕ) (bs : List ℕ) : Type
 abbrev pub StoresPutBytes : Type 0
 StoresPutBytes =
     (p : Program) (s : State) (a : ℕ) (bs : List ℕ) → HasParts p s → IsWidth (length bs) →
-    IsReached p s a (length bs) → (t : State) × (with_bytes p s a bs ≡ Some t) × IsStored p s t a bs
+    IsReached p s a (length bs) → (t : State) × (with_bytes p s a bs ≡ Some t) × IsAfterStore p s t a bs
 
 -- the numbers of the loads' bytes, and the bytes of the stores' numbers
 pub record NumbersOfAccesses : Type 0 where

@@ -66,17 +66,17 @@ CellsAreAt xs m a (c ∷ cs) = CellIs xs c (m a) × CellsAreAt xs m (suc a) cs
 
 -- what a byte of a call's frame is part of: the slot of a temporary, the return address, a saved register, an argument
 -- of the next call from the seventh on, or nothing
-pub data Piece : Type 0 where
-  SlotPiece : (temporary : ℕ) → Piece
-  ReturnPiece : Piece
-  SavedPiece : (register : ℕ) → Piece
-  ArgumentPiece : (number : ℕ) → Piece
-  NoPiece : Piece
+pub data FramePiece : Type 0 where
+  SlotPiece : (temporary : ℕ) → FramePiece
+  ReturnPiece : FramePiece
+  SavedPiece : (register : ℕ) → FramePiece
+  ArgumentPiece : (number : ℕ) → FramePiece
+  NoPiece : FramePiece
 
 -- whose byte stands at an address: an object's, that of the frame of the call at a depth, or nobody's
 pub data Owner : Type 0 where
   OfObject : (object : ℕ) → Owner
-  OfFrame : (depth : ℕ) → Piece → Owner
+  OfFrame : (depth : ℕ) → FramePiece → Owner
   Nobody : Owner
 
 abbrev pub Owners : Type 0

@@ -15,8 +15,8 @@ use Rattle.mem_model.specs.declared.value.Value.TheVariants.{Word, Address, Unse
 use Rattle.mem_model.specs.Memory.{Memory}
 use Rattle.mem_model.specs.Pointers.{pointer_plus, pointer_minus, pointer_lt, pointer_le, pointer_eq, is_null, share_object}
 use Rattle.mem_model.proofs.Pointers.{when-some}
-use Rattle.temp_ir.specs.declared.operation.BranchOp.{BranchOp}
-use Rattle.temp_ir.specs.declared.operation.BranchOp.TheVariants.{Blbc, Beq, Blt, Ble, Blbs, Bne, Bge, Bgt}
+use Rattle.temp_ir.specs.declared.operation.TempBranchOp.{TempBranchOp}
+use Rattle.temp_ir.specs.declared.operation.TempBranchOp.TheVariants.{Blbc, Beq, Blt, Ble, Blbs, Bne, Bge, Bgt}
 use Rattle.temp_ir.specs.declared.operation.Operation.{Operation}
 use Rattle.temp_ir.specs.declared.operation.Operation.TheVariants.{Addl, Subl, Cmpult, Addq, S4addq, Subq, Cmpeq, S8addq, Cmpule, AddlV, SublV, Cmplt, AddqV, SubqV, Cmple, And, Bic, Bis, Ornot, Xor, Eqv, Zapnot, Srl, Sll, Sra, Mull, Mulq, Umulh, MullV, MulqV}
 use Rattle.temp_ir.specs.declared.operation.ExtendOp.{ExtendOp}
@@ -230,7 +230,7 @@ module _ (xs : Extents) (memory : Memory) (owner : Owners) (m : Bytes) (mem : Me
   is-null : (v : Value) (x : ℕ) (b : Bool) → ValueIs xs v x → is_null memory v ≡ Some b → (x == 0) ≡ b
   is-null v x b h e = (pointers_answer xs memory owner m mem v v x x h h).null b e
 
-  pointer-tests : (op : BranchOp) (v : Value) (x : ℕ) (b : Bool) → ValueIs xs v x → pointer_test op (is_null memory v) ≡ Some b → is_taken (branch_op op) x ≡ b
+  pointer-tests : (op : TempBranchOp) (v : Value) (x : ℕ) (b : Bool) → ValueIs xs v x → pointer_test op (is_null memory v) ≡ Some b → is_taken (branch_op op) x ≡ b
   pointer-tests Beq v x b h e = is-null v x b h e
   pointer-tests Bne v x b h e = let a = map-some not (is_null memory v) b e in ap not (is-null v x a.0 h a.1) ∙ a.2
   pointer-tests Blbc v x b h e = absurd (cc)
@@ -240,7 +240,7 @@ module _ (xs : Extents) (memory : Memory) (owner : Owners) (m : Bytes) (mem : Me
   pointer-tests Bge v x b h e = absurd (cc)
   pointer-tests Bgt v x b h e = absurd (cc)
 
-  pub tests_correspond : (op : BranchOp) (c : Content) (x : ℕ) (b : Bool) → ContentIs xs c x → test_of op memory c ≡ Some b → is_taken (branch_op op) x ≡ b
+  pub tests_correspond : (op : TempBranchOp) (c : Content) (x : ℕ) (b : Bool) → ContentIs xs c x → test_of op memory c ≡ Some b → is_taken (branch_op op) x ≡ b
   tests_correspond op (Plain (Word n)) x b h e = let is : is_taken (branch_op op) n ≡ b = cc in ap (is_taken (branch_op op)) h ∙ is
   tests_correspond op (Plain (Address p)) x b h e = pointer-tests op (Address p) x b h e
   tests_correspond op (Plain Unset) x b h e = absurd (cc)

@@ -2,7 +2,7 @@
 use Rattle.std.specs.Prelude.{◌≡◌, ℕ, length}
 use Rattle.alpha_isa.specs.Arithmetic as isa
 use Rattle.alpha_isa.specs.Arithmetic.{OperationEffect, Overflows}
-use Rattle.alloc_model.specs.Contents.{Content, Plain, Bundle, Answer, Gives, TrapsWith, Fails}
+use Rattle.alloc_model.specs.Contents.{Content, Plain, Bundle, ContentAnswer, Gives, TrapsWith, Fails}
 use Rattle.flat_memory.specs.Bytes.{low_bytes}
 use Rattle.flat_memory.specs.Relation.{Extents, ValueIs, CellsAre}
 
@@ -11,7 +11,7 @@ ContentIs xs (Plain v) w = ValueIs xs v w
 ContentIs xs (Bundle cells) w = CellsAre xs cells (low_bytes (length cells) w)
 
 -- what an operation does with words is its answer on contents, where it has one
-abbrev pub EffectIs : Extents → Answer → OperationEffect → Type 0
+abbrev pub EffectIs : Extents → ContentAnswer → OperationEffect → Type 0
 EffectIs xs (Gives c) (isa.Gives n) = ContentIs xs c n
 EffectIs xs (TrapsWith code) Overflows = code ≡ 3
 EffectIs xs Fails e = Unit {0}

@@ -8,7 +8,7 @@ use Rattle.mem_model.specs.Memory.{Memory}
 use Rattle.temp_ir.specs.declared.operation.LoadOp.{LoadOp}
 use Rattle.temp_ir.specs.declared.operation.LoadOp.TheVariants.{Ldl}
 use Rattle.temp_ir.specs.declared.operation.StoreOp.{StoreOp}
-use Rattle.temp_ir.specs.declared.operation.BranchOp.{BranchOp}
+use Rattle.temp_ir.specs.declared.operation.TempBranchOp.{TempBranchOp}
 use Rattle.temp_ir.specs.declared.operation.Operation.{Operation}
 use Rattle.temp_ir.specs.declared.operation.ExtendOp.{ExtendOp}
 use Rattle.temp_ir.specs.Operations.{branch_op, operate_op, extend_op}
@@ -42,7 +42,7 @@ MovesCorrespond =
 abbrev pub TestsCorrespond : Type 0
 TestsCorrespond =
     (xs : Extents) (memory : Memory) (owner : Owners) (m : Bytes) → MemoryIs xs memory owner m →
-    (op : BranchOp) (c : Content) (x : ℕ) (b : Bool) → ContentIs xs c x → test_of op memory c ≡ Some b →
+    (op : TempBranchOp) (c : Content) (x : ℕ) (b : Bool) → ContentIs xs c x → test_of op memory c ≡ Some b →
     is_taken (branch_op op) x ≡ b
 
 -- more extents keep what stands for a content

@@ -3,7 +3,7 @@ use Rattle.std.proofs.Common.{◌≡◌, ℕ, ◌+◌, ◌-◌, ◌<◌, ◌≤�
 use Rattle.std.proofs.lemmas.Bool.{cases_lt}
 use Rattle.alpha_isa.specs.Program.{Program}
 use Rattle.alpha_isa.specs.State.{State}
-use Rattle.alpha_isa.specs.Step.{Halt, Next, Goes, Over, exec, go_on}
+use Rattle.alpha_isa.specs.Step.{Halt, MachineNext, Goes, Over, exec, go_on}
 use Rattle.alpha_isa.specs.Laws.{output_at}
 use Rattle.alpha_isa.proofs.Runs.{exec_split, exec_more}
 use Rattle.machine_model.specs.Laws.{IsPrefix}
@@ -41,7 +41,7 @@ pub over-behind : (p : Program) (j m : ℕ) (s t l : State) (h : Halt) → exec 
 over-behind p j m s t l h f e = goes-before p m j s t l h e f
 
 -- the output of more steps begins with that of fewer
-pub front-of : (p : Program) (m j : ℕ) (s : State) (x y : Next) → m ≤ j → exec p m s ≡ x → exec p j s ≡ y → IsPrefix (output_at x) (output_at y)
+pub front-of : (p : Program) (m j : ℕ) (s : State) (x y : MachineNext) → m ≤ j → exec p m s ≡ x → exec p j s ≡ y → IsPrefix (output_at x) (output_at y)
 front-of p m j s x y le e f =
     subst (λ z. IsPrefix (output_at z) (output_at y)) e
     (subst (λ z. IsPrefix (output_at (exec p m s)) (output_at z)) f (exec_more p m j s le))

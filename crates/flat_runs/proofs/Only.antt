@@ -63,7 +63,7 @@ module _ (b : Build) (ok : IsBuilt b) (keeps : KeepsOutput Content Places (place
   Enough m k = m * suc (longest_of b.plans) + longest_of b.plans < k.world.meter.turns + place_of b k.here.point
 
   -- the machine ends, and so it belongs to that end
-  at-end : (s : State) (e : Ending) (o : Outer) (h : step.Halt) (m : ℕ) → IsOver b.program o h s → ((last : State) → last.output ≡ o.output → IsEndOf h last e) → ((t : State) → IsPrefix t.output o.output → IsFrontOf t e) → (x : step.Next) → step.exec b.program m s ≡ x → BelongsTo x e
+  at-end : (s : State) (e : Ending) (o : Outer) (h : step.Halt) (m : ℕ) → IsOver b.program o h s → ((last : State) → last.output ≡ o.output → IsEndOf h last e) → ((t : State) → IsPrefix t.output o.output → IsFrontOf t e) → (x : step.MachineNext) → step.exec b.program m s ≡ x → BelongsTo x e
   at-end s e o h m d ends fronts (step.Goes t) is =
       let before = goes-before b.program d.steps m s t d.last h is d.run in
       fronts t (subst (λ l. IsPrefix t.output l) d.output (front-of b.program m d.steps s (step.Goes t) (step.Over h d.last) (omega (arith, before)) is d.run))
@@ -73,7 +73,7 @@ module _ (b : Build) (ok : IsBuilt b) (keeps : KeepsOutput Content Places (place
   -- what belongs to the rest of the run
   module _ (n : ℕ) (e : Ending) (ih : (d : Config Places) (t : State) → Matches b d t → run_of b n d ≡ Over e → (m : ℕ) → Enough m d → BelongsTo (step.exec b.program m t) e) where
     -- the machine has not yet come so far
-    early : (d : Config Places) (s : State) (k : Config Places) (h : IsFollowed b k d s) → run_of b n d ≡ Over e → (m : ℕ) → m < h.comes.steps → (x : step.Next) → step.exec b.program m s ≡ x → BelongsTo x e
+    early : (d : Config Places) (s : State) (k : Config Places) (h : IsFollowed b k d s) → run_of b n d ≡ Over e → (m : ℕ) → m < h.comes.steps → (x : step.MachineNext) → step.exec b.program m s ≡ x → BelongsTo x e
     early d s k h over m lt (step.Goes t) is =
         let first = front-of b.program m h.comes.steps s (step.Goes t) (step.Goes h.to) (omega (arith, lt)) is h.comes.run in
         let then = output_grows Content Places b.rooms (placed_code b.plans) keeps n d in
@@ -113,7 +113,7 @@ module _ (b : Build) (ok : IsBuilt b) (keeps : KeepsOutput Content Places (place
         let is : Undefined w at ≡ e = cc in
         subst (λ z. BelongsTo (step.exec b.program m s) z) is (undefined (step.exec b.program m s))
       where
-        undefined : (x : step.Next) → BelongsTo x (Undefined w at)
+        undefined : (x : step.MachineNext) → BelongsTo x (Undefined w at)
         undefined (step.Goes t) = tt
         undefined (step.Over g t) = tt
     belongs k s was m enough (Over (More w)) h one over =

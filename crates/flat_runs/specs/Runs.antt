@@ -66,7 +66,7 @@ IsFrontOf t (Done w status) = IsPrefix t.output w.outer.output
 IsFrontOf t (Trap w code) = IsPrefix t.output w.outer.output
 IsFrontOf t (More w) = IsPrefix t.output w.outer.output
 
-abbrev pub BelongsTo : step.Next → Ending → Type 0
+abbrev pub BelongsTo : step.MachineNext → Ending → Type 0
 BelongsTo (step.Goes t) e = IsFrontOf t e
 BelongsTo (step.Over h last) e = IsEndOf h last e
 

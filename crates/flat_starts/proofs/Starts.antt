@@ -25,7 +25,7 @@ use Rattle.flat_memory.specs.Relation.{Extent, IsExtent, Owner, Owners, OfObject
 use Rattle.flat_memory.specs.Machine.{is_in_data, is_in_stack, memory_bytes, is_reached, HasParts}
 use Rattle.flat_memory.specs.Laws.{AreNew}
 use Rattle.flat_memory.proofs.Objects.{extents_grow, others_may_change, objects_begin}
-use Rattle.flat_frames.specs.Shapes.{Shape, frame_size, objects_at, object_at, bytes_before, owner_at}
+use Rattle.flat_frames.specs.Shapes.{FrameShape, frame_size, objects_at, object_at, bytes_before, owner_at}
 use Rattle.flat_frames.specs.Frames.{FrameIs}
 use Rattle.flat_frames.proofs.Shapes.{pieces_of, frames_are_small}
 use Rattle.frame_accesses.specs.Laws.{IsAt}
@@ -103,7 +103,7 @@ module _ (b : Build) (main stack : ℕ) (globals : List DataObject) (ok : IsBuil
   abbrev memory : Memory
   memory = start_memory globals
 
-  abbrev shape : Shape
+  abbrev shape : FrameShape
   shape = (b.setting main).shape
 
   abbrev sp : ℕ
@@ -368,7 +368,7 @@ module _ (b : Build) (main stack : ℕ) (globals : List DataObject) (ok : IsBuil
     }
 
     sizes-same : shape.sizes ≡ sizes_in (slice_get (functions_of b.plans) main)
-    sizes-same = ap (λ (z : Shape). z.sizes) built.shape ∙ ap sizes_in (sym (get-map (λ (z : Plan). z.function) b.plans main a is))
+    sizes-same = ap (λ (z : FrameShape). z.sizes) built.shape ∙ ap sizes_in (sym (get-map (λ (z : Plan). z.function) b.plans main a is))
 
     stands-first : (insns : List TempInsn) → slice_get a.function.blocks 0 ≡ Some insns → StandsFor p b.there (items_from b a (entry_point main) insns) b.end D (begin_objects memory shape.sizes) usable empty x.to
     stands-first insns first =

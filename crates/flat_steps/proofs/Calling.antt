@@ -13,9 +13,9 @@ use Rattle.alloc_model.specs.Effect.{widest_call}
 use Rattle.alloc_model.specs.Temporaries.{sizes_in, status_of, is_left_at, site_or_next}
 use Rattle.alloc_model.specs.Places.{Places, Plan, transfers_at, registers_at, functions_of, do_all, placed_site, placed_code}
 use Rattle.flat_memory.proofs.Objects.{extents_grow}
-use Rattle.flat_frames.specs.Shapes.{Shape, frame_size, objects_at}
+use Rattle.flat_frames.specs.Shapes.{FrameShape, frame_size, objects_at}
 use Rattle.frame_transfers.specs.Laws.{StandsFor}
-use Rattle.instruction_items.specs.Items.{Setting}
+use Rattle.instruction_items.specs.Items.{ItemSetting}
 use Rattle.instruction_items.specs.Laws.{usable, HasOuter, store_behind}
 use Rattle.instruction_items.proofs.Runs.{no-registers}
 use Rattle.call_stacks.specs.Stacks.{Waiting, StackIs}
@@ -34,7 +34,7 @@ use Rattle.flat_steps.proofs.Meters.{IsMetered, rooms-hold, small-frame}
 use Rattle.flat_steps.proofs.Matched.{built, same-shape, few, is-insn, may, stated, rest, stands-plain}
 
 -- the frames of calls hold that of the first one
-frames-hold : (s : Shape) (gs : List Waiting) → frame_size s ≤ frames_size s gs
+frames-hold : (s : FrameShape) (gs : List Waiting) → frame_size s ≤ frames_size s gs
 frames-hold s [] = omega arith
 frames-hold s (g ∷ gs) = omega arith
 
@@ -49,7 +49,7 @@ module _ (b : Build) (ok : IsBuilt b) (k : Config Places) (s : State) (m : Match
   -- ---- a call
 
   module _ (function arguments : ℕ) (there : slice_get m.insns k.here.point.at ≡ Some (i.Call function arguments)) (a : Plan) (is : slice_get b.plans function ≡ Some a) (t : Meter) (metered : IsMetered k.world.meter t) where
-    abbrev f : Setting
+    abbrev f : ItemSetting
     f = b.setting function
 
     abbrev contents : List Content
@@ -64,7 +64,7 @@ module _ (b : Build) (ok : IsBuilt b) (k : Config Places) (s : State) (m : Match
     }
 
     sizes-are : f.shape.sizes ≡ sizes_in (slice_get (functions_of b.plans) function)
-    sizes-are = ap (λ (z : Shape). z.sizes) (ok.functions function a is).shape ∙ ap sizes_in (sym (get-map (λ (z : Plan). z.function) b.plans function a is))
+    sizes-are = ap (λ (z : FrameShape). z.sizes) (ok.functions function a is).shape ∙ ap sizes_in (sym (get-map (λ (z : Plan). z.function) b.plans function a is))
 
     room : FitsStack b (Goes inside) → HasRoom b.program m.call f.shape
     room fits =
@@ -150,7 +150,7 @@ module _ (b : Build) (ok : IsBuilt b) (k : Config Places) (s : State) (m : Match
     meter-behind = leave_call b.rooms k.here.point.function t
 
     sizes-there : m.call.shape.sizes ≡ (placed_code b.plans).locals k.here.point.function
-    sizes-there = ap (λ (z : Shape). z.sizes) m.shape ∙ ap sizes_in (sym (get-map (λ (z : Plan). z.function) b.plans k.here.point.function m.plan m.is_in.plan))
+    sizes-there = ap (λ (z : FrameShape). z.sizes) m.shape ∙ ap sizes_in (sym (get-map (λ (z : Plan). z.function) b.plans k.here.point.function m.plan m.is_in.plan))
 
     -- what the law of returns says of the outer part
     same-outer : end_locals k.world.outer m.call.own (length m.call.shape.sizes) ≡ outer-behind

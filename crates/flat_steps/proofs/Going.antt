@@ -18,7 +18,7 @@ use Rattle.alloc_model.specs.Temporaries.{flows_out, is_left_at, next_if}
 use Rattle.alloc_model.specs.Places.{Places, Plan, edge_transfers, edge_in, transfers_at, registers_at, do_all, placed_site, placed_code}
 use Rattle.frame_transfers.specs.Items.{items_of_transfers}
 use Rattle.frame_transfers.specs.Laws.{StandsFor, CanTransferAll}
-use Rattle.instruction_items.specs.Items.{Setting, insn_items}
+use Rattle.instruction_items.specs.Items.{ItemSetting, insn_items}
 use Rattle.instruction_items.specs.Laws.{usable}
 use Rattle.instruction_items.proofs.Runs.{no-registers}
 use Rattle.edge_steps.proofs.Edges.{edges_are_done, ends_are_done, jumps_are_done_here}
@@ -43,7 +43,7 @@ both true false e = absurd (cc)
 both false q e = absurd (cc)
 
 -- the blocks from one on begin with it
-blocks-begin : (a : Plan) (g : Setting) (n block : ℕ) (insns : List TempInsn) (rest : List AsmItem) → slice_get a.function.blocks block ≡ Some insns → blocks_items a g n (drop block a.function.blocks) rest ≡ Label (g.block_label n) ∷ block_items a g n insns (blocks_items a g (suc n) (drop (suc block) a.function.blocks) rest)
+blocks-begin : (a : Plan) (g : ItemSetting) (n block : ℕ) (insns : List TempInsn) (rest : List AsmItem) → slice_get a.function.blocks block ≡ Some insns → blocks_items a g n (drop block a.function.blocks) rest ≡ Label (g.block_label n) ∷ block_items a g n insns (blocks_items a g (suc n) (drop (suc block) a.function.blocks) rest)
 blocks-begin a g n block insns rest is = ap (λ l. blocks_items a g n l rest) (drop-some a.function.blocks block insns is)
 
 module _ (b : Build) (ok : IsBuilt b) (k : Config Places) (s : State) (m : Matches b k s) where

@@ -11,7 +11,7 @@ use Rattle.machine_model.proofs.Peaks.{peak_rises}
 use Rattle.temp_ir.specs.declared.insn.TempInsn.{TempInsn}
 use Rattle.alloc_model.specs.Contents.{Content}
 use Rattle.alloc_model.specs.Places.{Places, Plan, placed_code}
-use Rattle.flat_frames.specs.Shapes.{Shape, frame_size}
+use Rattle.flat_frames.specs.Shapes.{FrameShape, frame_size}
 use Rattle.call_stacks.specs.Stacks.{Waiting}
 use Rattle.stack_rooms.specs.Rooms.{rooms_size}
 use Rattle.function_shapes.specs.Shapes.{shape_of}
@@ -57,10 +57,10 @@ step-peak b k =
 -- ---- rooms hold frames and scratch bytes
 
 module _ (b : Build) (ok : IsBuilt b) where
-  frame-fits : (p : Point) (a : Plan) (insns : List TempInsn) (s : Shape) → IsIn b p a insns → s ≡ shape_of a → frame_size s + scratch_size ≤ room_of b.rooms p.function
+  frame-fits : (p : Point) (a : Plan) (insns : List TempInsn) (s : FrameShape) → IsIn b p a insns → s ≡ shape_of a → frame_size s + scratch_size ≤ room_of b.rooms p.function
   frame-fits p a insns s h e = subst (λ z. frame_size z + scratch_size ≤ room_of b.rooms p.function) (sym e) (ok.functions p.function a h.plan).room
 
-  pub rooms-hold : (here : Frame Places) (a : Plan) (insns : List TempInsn) (s : Shape) (fs : List (Frame Places)) (gs : List Waiting) → IsIn b here.point a insns → s ≡ shape_of a → AreWaiting b fs gs → rooms_size s gs ≤ rooms_of b.rooms (here ∷ fs)
+  pub rooms-hold : (here : Frame Places) (a : Plan) (insns : List TempInsn) (s : FrameShape) (fs : List (Frame Places)) (gs : List Waiting) → IsIn b here.point a insns → s ≡ shape_of a → AreWaiting b fs gs → rooms_size s gs ≤ rooms_of b.rooms (here ∷ fs)
   rooms-hold here a insns s [] [] h e w = let fits = frame-fits here.point a insns s h e in omega (arith, fits)
   rooms-hold here a insns s (f ∷ fs) (g ∷ gs) h e w =
       let fits = frame-fits here.point a insns s h e in
@@ -78,5 +78,5 @@ module _ (b : Build) (ok : IsBuilt b) where
       let peak = m.peak in
       omega (arith, hold, rises, room, peak, fits)
 
-  pub small-frame : (p : Point) (a : Plan) (insns : List TempInsn) (s : Shape) → IsIn b p a insns → s ≡ shape_of a → frame_size s < 2 ^ 29
+  pub small-frame : (p : Point) (a : Plan) (insns : List TempInsn) (s : FrameShape) → IsIn b p a insns → s ≡ shape_of a → frame_size s < 2 ^ 29
   small-frame p a insns s h e = subst (λ z. frame_size z < 2 ^ 29) (sym e) (ok.functions p.function a h.plan).small

@@ -10,7 +10,7 @@ use Rattle.temp_ir.specs.declared.operation.Service.TheVariants.{End, PutByte, G
 use Rattle.temp_ir.specs.declared.insn.TempInsn.{TempInsn}
 use Rattle.temp_ir.specs.declared.insn.TempInsn.TheVariants as i
 use Rattle.alpha_isa.specs.Step.{input_word}
-use Rattle.alloc_model.specs.Contents.{Content, Plain, Bundle, word, Answer, Gives, TrapsWith, Fails, content_answer, operate_answer, extend_answer, moved_by, moved_content, loaded_content, stored_memory, test_of}
+use Rattle.alloc_model.specs.Contents.{Content, Plain, Bundle, word, ContentAnswer, Gives, TrapsWith, Fails, content_answer, operate_answer, extend_answer, moved_by, moved_content, loaded_content, stored_memory, test_of}
 use Rattle.alloc_model.specs.Effect.{widest_call, content_at, left_of, right_of, operand_of, behind, fails, writes, changes, branches, is_number, service_number, end_act, put_act, trap_act, serve_act, argument_answer, division_answer, does}
 use Rattle.alloc_model.specs.Temporaries.{is_left_at, site_or_next, site_in}
 use Rattle.alloc_model.specs.Places.{Plan, linear_number, transfers_at, registers_at, placed_site, placed_site_in, placed_code}
@@ -35,7 +35,7 @@ IsNoCall (Calls function cs o) = ⊥
 IsNoCall (Returns cs o) = ⊥
 IsNoCall (Stops e o) = Unit {0}
 
-writes-none : (a : Answer) (o : Outer) → IsNoCall (writes a o)
+writes-none : (a : ContentAnswer) (o : Outer) → IsNoCall (writes a o)
 writes-none (Gives c) o = tt
 writes-none (TrapsWith code) o = tt
 writes-none Fails o = tt

@@ -7,7 +7,7 @@ use Rattle.item_steps.specs.Standing.{Labels}
 use Rattle.alpha_rt.specs.Calls.{scratch_size}
 use Rattle.mem_model.specs.World.{Rooms, room_of}
 use Rattle.suifvm_ir.specs.Functions.{insn_at}
-use Rattle.temp_ir.specs.declared.operation.BranchOp.{BranchOp}
+use Rattle.temp_ir.specs.declared.operation.TempBranchOp.{TempBranchOp}
 use Rattle.temp_ir.specs.declared.insn.TempInsn.{TempInsn}
 use Rattle.temp_ir.specs.declared.insn.TempInsn.TheVariants as i
 use Rattle.temp_ir.specs.Insns.{targets_of}
@@ -17,7 +17,7 @@ use Rattle.alloc_model.specs.Faithful.{Faithful}
 use Rattle.flat_memory.specs.Relation.{Extents, Nobody}
 use Rattle.flat_frames.specs.Shapes.{frame_size}
 use Rattle.frame_transfers.specs.Laws.{Call}
-use Rattle.instruction_items.specs.Items.{Setting}
+use Rattle.instruction_items.specs.Items.{ItemSetting}
 use Rattle.instruction_items.specs.Laws.{IsThere}
 use Rattle.call_stacks.specs.Stacks.{Start}
 use Rattle.call_exits.specs.Leaving.{ending_items}
@@ -36,7 +36,7 @@ pub record EdgesLead (a : Plan) : Type 0 where
   pub targets : (block at : ℕ) (x : TempInsn) → insn_at a.function.blocks block at ≡ Some x → (k to : ℕ) →
       slice_get (targets_of x) k ≡ Some to → to < length a.function.blocks
   pub jumps : (block at to : ℕ) → insn_at a.function.blocks block at ≡ Some (i.Jump to) → top_transfers a to ≡ []
-  pub branches : (block at : ℕ) (op : BranchOp) (source to : ℕ) →
+  pub branches : (block at : ℕ) (op : TempBranchOp) (source to : ℕ) →
       insn_at a.function.blocks block at ≡ Some (i.Branch op source to) →
       top_transfers a to ≡ edge_transfers a block to
   pub follows : (block : ℕ) (insns : List TempInsn) → slice_get a.function.blocks block ≡ Some insns →
@@ -56,7 +56,7 @@ pub record Build : Type 0 where
   pub start : Start
   pub plans : List Plan
   pub rooms : Rooms
-  pub setting : (function : ℕ) → Setting
+  pub setting : (function : ℕ) → ItemSetting
   pub behind : (function : ℕ) → List AsmItem
   pub end : ℕ
   pub globals : Extents

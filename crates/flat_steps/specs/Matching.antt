@@ -17,7 +17,7 @@ use Rattle.alloc_model.specs.Contents.{Content}
 use Rattle.alloc_model.specs.Places.{Places, Plan, linear_number, transfers_at, do_all, placed_code}
 use Rattle.flat_memory.specs.Laws.{MoreExtents}
 use Rattle.frame_transfers.specs.Items.{items_of_transfers}
-use Rattle.frame_transfers.specs.Laws.{Call, IsCall, StandsFor}
+use Rattle.frame_transfers.specs.Laws.{Call, FitsTheStack, StandsFor}
 use Rattle.instruction_items.specs.Laws.{usable, HasOuter, IsOver}
 use Rattle.call_stacks.specs.Stacks.{Waiting, StackIs}
 use Rattle.function_items.specs.Items.{insns_items, end_transfers, blocks_items, exit_items}
@@ -76,7 +76,7 @@ pub record Matches (b : Build) (k : Config Places) (s : State) : Type 0 where
   pub is_in : IsIn b k.here.point plan insns
   pub shape : call.shape ≡ shape_of plan
   pub own : call.own ≡ k.here.own
-  pub is_call : IsCall call
+  pub is_call : FitsTheStack call
   pub globals : MoreExtents b.globals call.extents
   pub stands : StandsFor b.program b.there (items_from b plan k.here.point insns) b.end call k.world.outer.memory usable
       k.here.store s

@@ -2,10 +2,10 @@
 use Rattle.std.specs.Prelude.{◌≡◌, ℕ, List, [], ◌++◌}
 use Rattle.alpha_items.specs.declared.item.AsmItem.{AsmItem}
 use Rattle.alloc_model.specs.Places.{Plan}
-use Rattle.instruction_items.specs.Items.{Setting}
+use Rattle.instruction_items.specs.Items.{ItemSetting}
 use Rattle.function_items.specs.Items.{function_items}
 
 abbrev pub ItemsStandInFront : Type 0
 ItemsStandInFront =
-    (a : Plan) (g : Setting) (number : ℕ) (rest : List AsmItem) →
+    (a : Plan) (g : ItemSetting) (number : ℕ) (rest : List AsmItem) →
     function_items a g number [] ++ rest ≡ function_items a g number rest

@@ -8,8 +8,8 @@ ghost use Rattle.frame_checks.specs.model.Asked.{IsAsked};
 
 use data_object::DataObject;
 use suifvm_ir::block::Block;
-use suifvm_ir::function::Object;
-use suifvm_ir::insn::Place;
+use suifvm_ir::function::MemoryLocal;
+use suifvm_ir::insn::VmObject;
 use temp_ir::insn::TempInsn;
 
 /// No call has more arguments.
@@ -26,7 +26,7 @@ fn global_reaches(globals: &[DataObject], global: usize, plus: u64) -> bool
 }
 
 /// Whether a memory local is there and has so many bytes.
-fn local_reaches(objects: &[Object], local: usize, plus: u64) -> bool
+fn local_reaches(objects: &[MemoryLocal], local: usize, plus: u64) -> bool
     ensures { result ≡ programs.local_reaches plus (slice_get objects.now local) }
 {
     match objects.get(local) {
@@ -36,17 +36,27 @@ fn local_reaches(objects: &[Object], local: usize, plus: u64) -> bool
 }
 
 /// Whether a place is there and has so many bytes.
-fn place_reaches(globals: &[DataObject], objects: &[Object], plus: u64, place: Place) -> bool
+fn place_reaches(
+    globals: &[DataObject],
+    objects: &[MemoryLocal],
+    plus: u64,
+    place: VmObject,
+) -> bool
     ensures { result ≡ programs.place_reaches globals.now objects.now plus place }
 {
     match place {
-        Place::Global(global) => global_reaches(globals, global as usize, plus),
-        Place::Local(local) => local_reaches(objects, local as usize, plus),
+        VmObject::Global(global) => global_reaches(globals, global as usize, plus),
+        VmObject::Local(local) => local_reaches(objects, local as usize, plus),
     }
 }
 
 /// Whether an instruction is as is asked.
-fn insn_asks(globals: &[DataObject], objects: &[Object], first_label: u32, insn: &TempInsn) -> bool
+fn insn_asks(
+    globals: &[DataObject],
+    objects: &[MemoryLocal],
+    first_label: u32,
+    insn: &TempInsn,
+) -> bool
     ensures { OnTrue result (IsAsked globals.now objects.now first_label insn.now) }
 {
     match insn {
@@ -69,7 +79,7 @@ fn insn_asks(globals: &[DataObject], objects: &[Object], first_label: u32, insn:
 /// Whether each instruction of a block is.
 fn block_asks(
     globals: &[DataObject],
-    objects: &[Object],
+    objects: &[MemoryLocal],
     first_label: u32,
     block: &Block<TempInsn>,
 ) -> bool
@@ -87,7 +97,7 @@ fn block_asks(
 /// Whether each instruction of each block is.
 pub(crate) fn all_ask(
     globals: &[DataObject],
-    objects: &[Object],
+    objects: &[MemoryLocal],
     first_label: u32,
     blocks: &[Block<TempInsn>],
 ) -> bool

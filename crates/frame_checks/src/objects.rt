@@ -6,11 +6,11 @@ ghost use Rattle.data_object.specs.Layout.{LieFrom};
 ghost use Rattle.flat_frames.specs.Shapes.{objects_size};
 
 use data_object::{DataObject, MOST_DATA, next_place};
-use suifvm_ir::function::Object;
+use suifvm_ir::function::MemoryLocal;
 
 /// Whether memory locals, each up to a multiple of 8, have no more bytes than data may have.
 #[tactic(auto, using(frame_layout::proofs::Objects::end_next))]
-pub(crate) fn are_small(objects: &[Object]) -> bool
+pub(crate) fn are_small(objects: &[MemoryLocal]) -> bool
     ensures { OnTrue result (objects_size (map (λ o. o.size) objects.now) ≤ 2 ^ 26) }
 {
     let mut end = 0;

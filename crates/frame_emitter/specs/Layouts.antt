@@ -1,16 +1,16 @@
 -- What the layout of a function says of its items.
 use Rattle.alloc_model.specs.Places.{Plan, plan_of}
-use Rattle.flat_frames.specs.Shapes.{Shape}
-use Rattle.instruction_items.specs.Items.{Setting}
+use Rattle.flat_frames.specs.Shapes.{FrameShape}
+use Rattle.instruction_items.specs.Items.{ItemSetting}
 use Rattle.function_shapes.specs.Shapes.{shape_of}
-use Rattle.frame_emitter.specs.declared.layout.Layout.{Layout}
+use Rattle.frame_emitter.specs.declared.layout.FrameLayout.{FrameLayout}
 use Rattle.frame_emitter.specs.Settings.{with_blocks, setting_of}
 
-abbrev pub plan_in : Layout → Plan
+abbrev pub plan_in : FrameLayout → Plan
 plan_in l = with_blocks (plan_of l.allocation.now) l.blocks.now
 
-abbrev pub setting_in : Layout → Setting
+abbrev pub setting_in : FrameLayout → ItemSetting
 setting_in l = setting_of (plan_in l) l.globals.now l.first_label
 
-abbrev pub shape_in : Layout → Shape
+abbrev pub shape_in : FrameLayout → FrameShape
 shape_in l = shape_of (plan_in l)

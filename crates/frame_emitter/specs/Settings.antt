@@ -2,12 +2,12 @@
 -- block.
 use Rattle.std.specs.Prelude.{ℕ, ◌+◌, ◌<◌, ◌≤◌, ◌^◌, min, List, map, length, slice_get, Option, Some, None}
 use Rattle.data_object.specs.declared.DataObject.{DataObject}
-use Rattle.suifvm_ir.specs.declared.insn.Place.TheVariants.{Global, Local}
+use Rattle.suifvm_ir.specs.declared.insn.VmObject.TheVariants.{Global, Local}
 use Rattle.temp_ir.specs.declared.insn.TempInsn.{TempInsn}
 use Rattle.temp_ir.specs.declared.insn.TempInsn.TheVariants as i
 use Rattle.alloc_model.specs.Places.{Plan}
 use Rattle.flat_frames.specs.Shapes.{object_at}
-use Rattle.instruction_items.specs.Items.{Setting, function_label}
+use Rattle.instruction_items.specs.Items.{ItemSetting, function_label}
 use Rattle.function_shapes.specs.Shapes.{shape_of}
 
 -- ---- argument places
@@ -49,7 +49,7 @@ place_in None = 0
 place_in (Some o) = o.offset
 
 -- blocks have labels from one on, and the exit part has the one behind them
-abbrev pub setting_of : Plan → (globals : List DataObject) → (first_label : ℕ) → Setting
+abbrev pub setting_of : Plan → (globals : List DataObject) → (first_label : ℕ) → ItemSetting
 setting_of a globals first = record {
   shape = shape_of a;
   block_label = λ block. first + block;
@@ -58,7 +58,7 @@ setting_of a globals first = record {
 }
 
 -- the numbers of an instruction fit its items
-abbrev pub IsFit : Setting → TempInsn → Type 0
+abbrev pub IsFit : ItemSetting → TempInsn → Type 0
 IsFit g (i.ObjectAddress destination (Global k) plus) = g.global_at k + plus < 2 ^ 32
 IsFit g (i.ObjectAddress destination (Local k) plus) = object_at g.shape k + plus < 2147450880
 IsFit g (i.WriteArgument number source) = number ≤ most_arguments

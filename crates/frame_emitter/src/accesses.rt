@@ -1,10 +1,10 @@
-//! Items that reach the frame, and that move registers.
+//! FrameItems that reach the frame, and that move registers.
 
 ghost use Rattle.std.specs.Prelude.{◌≡◌, ◌<◌, ◌++◌, ◌*◌, pos, ◌-ℤ◌, OnOk};
 ghost use Rattle.alpha_items.specs.Words.{high_of};
 ghost use Rattle.frame_accesses.specs.Items.{frame_item, frame_load, frame_store, frame_address, register_move};
 
-use crate::items::Items;
+use crate::items::FrameItems;
 use alpha_isa::insn::{Fields, MemoryOp, Operand, OperateOp};
 use std::alloc::AllocError;
 
@@ -35,7 +35,12 @@ pub(crate) fn low_part(offset: u64) -> i16
 }
 
 /// An instruction at an offset from the stack pointer.
-fn frame_item(items: &mut Items, op: MemoryOp, register: u8, offset: u64) -> Result<(), AllocError>
+fn frame_item(
+    items: &mut FrameItems,
+    op: MemoryOp,
+    register: u8,
+    offset: u64,
+) -> Result<(), AllocError>
     requires register { register < 32 }
     requires offset { offset < 2147450880 }
     ensures { OnOk result (items.new ≡ frame_item op 29 register offset ++ items.old) }
@@ -48,7 +53,7 @@ fn frame_item(items: &mut Items, op: MemoryOp, register: u8, offset: u64) -> Res
 }
 
 /// A register is loaded from the frame.
-pub fn frame_load(items: &mut Items, register: u8, offset: u64) -> Result<(), AllocError>
+pub fn frame_load(items: &mut FrameItems, register: u8, offset: u64) -> Result<(), AllocError>
     requires register { register < 32 }
     requires offset { offset < 2147450880 }
     ensures { OnOk result (items.new ≡ frame_load register offset ++ items.old) }
@@ -57,7 +62,7 @@ pub fn frame_load(items: &mut Items, register: u8, offset: u64) -> Result<(), Al
 }
 
 /// A register is stored in the frame.
-pub fn frame_store(items: &mut Items, register: u8, offset: u64) -> Result<(), AllocError>
+pub fn frame_store(items: &mut FrameItems, register: u8, offset: u64) -> Result<(), AllocError>
     requires register { register < 32 }
     requires offset { offset < 2147450880 }
     ensures { OnOk result (items.new ≡ frame_store register offset ++ items.old) }
@@ -66,7 +71,7 @@ pub fn frame_store(items: &mut Items, register: u8, offset: u64) -> Result<(), A
 }
 
 /// A register is set to the address of a place in the frame.
-pub fn frame_address(items: &mut Items, register: u8, offset: u64) -> Result<(), AllocError>
+pub fn frame_address(items: &mut FrameItems, register: u8, offset: u64) -> Result<(), AllocError>
     requires register { register < 32 }
     requires offset { offset < 2147450880 }
     ensures { OnOk result (items.new ≡ frame_address register offset ++ items.old) }
@@ -75,7 +80,7 @@ pub fn frame_address(items: &mut Items, register: u8, offset: u64) -> Result<(),
 }
 
 /// A register comes to hold what another one holds. From a register to itself there is nothing to do.
-pub fn register_move(items: &mut Items, from: u8, to: u8) -> Result<(), AllocError>
+pub fn register_move(items: &mut FrameItems, from: u8, to: u8) -> Result<(), AllocError>
     requires from { from < 32 }
     requires to { to < 32 }
     ensures { OnOk result (items.new ≡ register_move from to ++ items.old) }

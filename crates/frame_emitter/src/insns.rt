@@ -14,8 +14,8 @@ ghost use Rattle.frame_emitter.specs.Settings.{IsFit};
 ghost use Rattle.frame_emitter.specs.Layouts.{setting_in};
 
 use crate::accesses::{ZERO, frame_address, frame_load, frame_store, register_move};
-use crate::items::Items;
-use crate::layout::Layout;
+use crate::items::FrameItems;
+use crate::layout::FrameLayout;
 use crate::operations::{
     address_op, branch_op, entry_label, extend_op, load_op, operate_op, register_number,
     service_function, store_op,
@@ -23,10 +23,10 @@ use crate::operations::{
 use alpha_isa::insn::{BranchOp as MachineBranch, Fields, MemoryOp, Operand as MachineOperand};
 use alpha_items::item::AsmItem;
 use std::alloc::AllocError;
-use suifvm_ir::insn::Place;
-use temp_ir::insn::{FixedRegister, Operand, Source, TempInsn};
+use suifvm_ir::insn::VmObject;
+use temp_ir::insn::{FirstOperand, FixedRegister, SecondOperand, TempInsn};
 use temp_ir::operation::{
-    AddressOp, BranchOp, ExtendOp, LoadOp, Operation, Routine, Service, StoreOp,
+    AddressOp, DivisionRoutine, ExtendOp, LoadOp, Operation, Service, StoreOp, TempBranchOp,
 };
 
 /// What calls write the return address to: those of functions, and of division routines.
@@ -47,57 +47,57 @@ fn register(registers: &[u8], place: usize) -> u8
 }
 
 /// How many temporaries a first operand reads.
-fn behind(source: Source) -> usize
+fn behind(source: FirstOperand) -> usize
     ensures is { result ≡ behind source }
     ensures count { result ≡ length (source_reads source) }
 {
     match source {
-        Source::Zero => 0,
-        Source::Temp(_) => 1,
+        FirstOperand::Zero => 0,
+        FirstOperand::Temp(_) => 1,
     }
 }
 
 /// How many temporaries a second operand reads.
-fn operand_count(operand: Operand) -> usize
+fn operand_count(operand: SecondOperand) -> usize
     ensures { result ≡ length (operand_reads operand) }
 {
     match operand {
-        Operand::Temp(_) => 1,
-        Operand::Literal(_) => 0,
+        SecondOperand::Temp(_) => 1,
+        SecondOperand::Literal(_) => 0,
     }
 }
 
 /// The register of a first operand.
-fn source_register(source: Source, registers: &[u8]) -> u8
+fn source_register(source: FirstOperand, registers: &[u8]) -> u8
     requires { All (λ r. r < 32) registers.now }
     ensures is { result ≡ source_register source registers.now }
     ensures small { result < 32 }
 {
     match source {
-        Source::Zero => ZERO,
-        Source::Temp(_) => register(registers, 0),
+        FirstOperand::Zero => ZERO,
+        FirstOperand::Temp(_) => register(registers, 0),
     }
 }
 
 /// A second operand.
-fn operand_at(operand: Operand, registers: &[u8], place: usize) -> MachineOperand
+fn operand_at(operand: SecondOperand, registers: &[u8], place: usize) -> MachineOperand
     requires { All (λ r. r < 32) registers.now }
     ensures is { result ≡ spec.operand_at operand registers.now place }
     ensures small { IsOperand result }
 {
     match operand {
-        Operand::Temp(_) => MachineOperand::Reg(register(registers, place)),
-        Operand::Literal(n) => MachineOperand::Literal(n),
+        SecondOperand::Temp(_) => MachineOperand::Reg(register(registers, place)),
+        SecondOperand::Literal(n) => MachineOperand::Literal(n),
     }
 }
 
 fn address(
-    items: &mut Items,
-    layout: &Layout<'_>,
+    items: &mut FrameItems,
+    layout: &FrameLayout<'_>,
     registers: &[u8],
     op: AddressOp,
     destination: u32,
-    base: Source,
+    base: FirstOperand,
     plus: i16,
 ) -> Result<(), AllocError>
     requires { All (λ r. r < 32) registers.now }
@@ -113,11 +113,11 @@ fn address(
 }
 
 fn object_address(
-    items: &mut Items,
-    layout: &Layout<'_>,
+    items: &mut FrameItems,
+    layout: &FrameLayout<'_>,
     registers: &[u8],
     destination: u32,
-    place: Place,
+    place: VmObject,
     plus: u64,
 ) -> Result<(), AllocError>
     requires registers { All (λ r. r < 32) registers.now }
@@ -126,11 +126,11 @@ fn object_address(
         insn_items (setting_in layout.now) registers.now (insn.ObjectAddress destination place plus) ++ items.old) }
 {
     match place {
-        Place::Global(number) => items.put(AsmItem::DataAddress {
+        VmObject::Global(number) => items.put(AsmItem::DataAddress {
             ra: register(registers, 0),
             offset: (layout.global_at(number) + plus) as u32,
         }),
-        Place::Local(number) => frame_address(
+        VmObject::Local(number) => frame_address(
             items,
             register(registers, 0),
             layout.object_at(number) + plus,
@@ -139,8 +139,8 @@ fn object_address(
 }
 
 fn load(
-    items: &mut Items,
-    layout: &Layout<'_>,
+    items: &mut FrameItems,
+    layout: &FrameLayout<'_>,
     registers: &[u8],
     op: LoadOp,
     destination: u32,
@@ -160,11 +160,11 @@ fn load(
 }
 
 fn store(
-    items: &mut Items,
-    layout: &Layout<'_>,
+    items: &mut FrameItems,
+    layout: &FrameLayout<'_>,
     registers: &[u8],
     op: StoreOp,
-    value: Source,
+    value: FirstOperand,
     pointer: u32,
     plus: i16,
 ) -> Result<(), AllocError>
@@ -181,13 +181,13 @@ fn store(
 }
 
 fn operate(
-    items: &mut Items,
-    layout: &Layout<'_>,
+    items: &mut FrameItems,
+    layout: &FrameLayout<'_>,
     registers: &[u8],
     op: Operation,
     destination: u32,
-    left: Source,
-    right: Operand,
+    left: FirstOperand,
+    right: SecondOperand,
 ) -> Result<(), AllocError>
     requires { All (λ r. r < 32) registers.now }
     ensures { OnOk result (items.new ≡
@@ -202,12 +202,12 @@ fn operate(
 }
 
 fn extend(
-    items: &mut Items,
-    layout: &Layout<'_>,
+    items: &mut FrameItems,
+    layout: &FrameLayout<'_>,
     registers: &[u8],
     op: ExtendOp,
     destination: u32,
-    source: Operand,
+    source: SecondOperand,
 ) -> Result<(), AllocError>
     requires { All (λ r. r < 32) registers.now }
     ensures { OnOk result (items.new ≡
@@ -223,8 +223,8 @@ fn extend(
 
 /// A call of the machine.
 fn serve(
-    items: &mut Items,
-    layout: &Layout<'_>,
+    items: &mut FrameItems,
+    layout: &FrameLayout<'_>,
     registers: &[u8],
     service: Service,
 ) -> Result<(), AllocError>
@@ -237,7 +237,7 @@ fn serve(
 }
 
 /// Moves between temporaries, fixed registers and argument places.
-fn set_fixed(items: &mut Items, register: FixedRegister, number: i16) -> Result<(), AllocError>
+fn set_fixed(items: &mut FrameItems, register: FixedRegister, number: i16) -> Result<(), AllocError>
     ensures { OnOk result (items.new ≡
         spec.plain (fields.Memory m.Lda (register_number register) 31 number) ++ items.old) }
 {
@@ -245,8 +245,8 @@ fn set_fixed(items: &mut Items, register: FixedRegister, number: i16) -> Result<
 }
 
 fn write_argument(
-    items: &mut Items,
-    layout: &Layout<'_>,
+    items: &mut FrameItems,
+    layout: &FrameLayout<'_>,
     registers: &[u8],
     number: u32,
     source: u32,
@@ -260,8 +260,8 @@ fn write_argument(
 }
 
 fn read_argument(
-    items: &mut Items,
-    layout: &Layout<'_>,
+    items: &mut FrameItems,
+    layout: &FrameLayout<'_>,
     registers: &[u8],
     destination: u32,
     number: u32,
@@ -279,10 +279,10 @@ fn read_argument(
 }
 
 fn branch(
-    items: &mut Items,
-    layout: &Layout<'_>,
+    items: &mut FrameItems,
+    layout: &FrameLayout<'_>,
     registers: &[u8],
-    op: BranchOp,
+    op: TempBranchOp,
     source: u32,
     block: u32,
 ) -> Result<(), AllocError>
@@ -300,8 +300,8 @@ fn branch(
 
 /// A call of a function.
 fn call(
-    items: &mut Items,
-    layout: &Layout<'_>,
+    items: &mut FrameItems,
+    layout: &FrameLayout<'_>,
     registers: &[u8],
     function: u32,
     arguments: u32,
@@ -315,10 +315,10 @@ fn call(
 
 /// A call of a division routine.
 fn divide(
-    items: &mut Items,
-    layout: &Layout<'_>,
+    items: &mut FrameItems,
+    layout: &FrameLayout<'_>,
     registers: &[u8],
-    routine: Routine,
+    routine: DivisionRoutine,
 ) -> Result<(), AllocError>
     ensures { OnOk result (items.new ≡
         insn_items (setting_in layout.now) registers.now (insn.Divide routine) ++ items.old) }
@@ -328,8 +328,8 @@ fn divide(
 
 /// An instruction with the registers of its temporaries. It fails only where memory is short.
 pub fn insn_items(
-    items: &mut Items,
-    layout: &Layout<'_>,
+    items: &mut FrameItems,
+    layout: &FrameLayout<'_>,
     registers: &[u8],
     insn: TempInsn,
 ) -> Result<(), AllocError>

@@ -1,4 +1,4 @@
-//! Items that are made from the last one to the first.
+//! FrameItems that are made from the last one to the first.
 
 ghost use Rattle.std.specs.Prelude.{◌≡◌, ◌<◌, [], ◌∷◌, reverse, OnOk};
 ghost use Rattle.alpha_isa.specs.declared.insn.Fields.TheVariants as fields;
@@ -12,12 +12,12 @@ use std::marker::Model;
 
 /// The items so far. Contracts see them from the first one on; each call puts one in front of them.
 #[derive(Drop)]
-pub struct Items {
+pub struct FrameItems {
     /// From the last one on.
     items: Vec<AsmItem>,
 }
 
-impl Model for Items {
+impl Model for FrameItems {
     ghost use Rattle.std.specs.Prelude.{List, reverse};
     ghost use Rattle.alpha_items.specs.declared.item.AsmItem.{AsmItem};
 
@@ -26,12 +26,12 @@ impl Model for Items {
     ghost view = { λ i. reverse i.items.items };
 }
 
-impl Items {
+impl FrameItems {
     /// No item. Takes no memory.
-    pub fn new(alloc: Global) -> Items
+    pub fn new(alloc: Global) -> FrameItems
         ensures { result ≡ [] }
     {
-        Items {
+        FrameItems {
             items: Vec::new(alloc),
         }
     }
@@ -79,7 +79,7 @@ impl Items {
     pub fn into_vec(self) -> Vec<AsmItem>
         ensures { result.items ≡ self }
     {
-        let Items { mut items } = self;
+        let FrameItems { mut items } = self;
         items.reverse();
         items
     }

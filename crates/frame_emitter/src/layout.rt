@@ -13,7 +13,7 @@ use temp_ir::insn::TempInsn;
 
 /// The frame of a function with an allocation, and its labels.
 #[derive(Drop)]
-pub struct Layout<'a> {
+pub struct FrameLayout<'a> {
     pub allocation: &'a Allocation,
     /// The instructions of each block.
     pub blocks: &'a [Seq<TempInsn>],

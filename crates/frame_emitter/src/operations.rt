@@ -11,7 +11,7 @@ ghost use Rattle.instruction_items.specs.Items.{service_function};
 use alpha_isa::insn::{BranchOp as MachineBranch, MemoryOp, OperateOp};
 use temp_ir::insn::FixedRegister;
 use temp_ir::operation::{
-    AddressOp, BranchOp, ExtendOp, LoadOp, Operation, Routine, Service, StoreOp,
+    AddressOp, DivisionRoutine, ExtendOp, LoadOp, Operation, Service, StoreOp, TempBranchOp,
 };
 
 pub(crate) fn address_op(op: AddressOp) -> MemoryOp
@@ -45,18 +45,18 @@ pub(crate) fn store_op(op: StoreOp) -> MemoryOp
     }
 }
 
-pub(crate) fn branch_op(op: BranchOp) -> MachineBranch
+pub(crate) fn branch_op(op: TempBranchOp) -> MachineBranch
     ensures { result ≡ branch_op op }
 {
     match op {
-        BranchOp::Blbc => MachineBranch::Blbc,
-        BranchOp::Beq => MachineBranch::Beq,
-        BranchOp::Blt => MachineBranch::Blt,
-        BranchOp::Ble => MachineBranch::Ble,
-        BranchOp::Blbs => MachineBranch::Blbs,
-        BranchOp::Bne => MachineBranch::Bne,
-        BranchOp::Bge => MachineBranch::Bge,
-        BranchOp::Bgt => MachineBranch::Bgt,
+        TempBranchOp::Blbc => MachineBranch::Blbc,
+        TempBranchOp::Beq => MachineBranch::Beq,
+        TempBranchOp::Blt => MachineBranch::Blt,
+        TempBranchOp::Ble => MachineBranch::Ble,
+        TempBranchOp::Blbs => MachineBranch::Blbs,
+        TempBranchOp::Bne => MachineBranch::Bne,
+        TempBranchOp::Bge => MachineBranch::Bge,
+        TempBranchOp::Bgt => MachineBranch::Bgt,
     }
 }
 
@@ -129,18 +129,18 @@ pub(crate) fn register_number(register: FixedRegister) -> u8
 }
 
 /// The label of a division routine.
-pub(crate) fn entry_label(routine: Routine) -> u32
+pub(crate) fn entry_label(routine: DivisionRoutine) -> u32
     ensures { result ≡ routines.entry_label (routine_of routine) }
 {
     match routine {
-        Routine::Divq => 1,
-        Routine::Remq => 2,
-        Routine::Divqu => 3,
-        Routine::Remqu => 4,
-        Routine::Divl => 5,
-        Routine::Reml => 6,
-        Routine::Divlu => 7,
-        Routine::Remlu => 8,
+        DivisionRoutine::Divq => 1,
+        DivisionRoutine::Remq => 2,
+        DivisionRoutine::Divqu => 3,
+        DivisionRoutine::Remqu => 4,
+        DivisionRoutine::Divl => 5,
+        DivisionRoutine::Reml => 6,
+        DivisionRoutine::Divlu => 7,
+        DivisionRoutine::Remlu => 8,
     }
 }
 

@@ -9,8 +9,8 @@ ghost use Rattle.function_items.specs.Items.{exit_items};
 ghost use Rattle.frame_emitter.specs.Layouts.{setting_in, shape_in};
 
 use crate::accesses::{NEAR_SIZE, STACK, ZERO, frame_load, frame_store, high_part, low_part};
-use crate::items::Items;
-use crate::layout::Layout;
+use crate::items::FrameItems;
+use crate::layout::FrameLayout;
 use alpha_isa::insn::{Fields, JumpOp, MemoryOp};
 use std::alloc::AllocError;
 
@@ -34,7 +34,7 @@ fn low_below(size: u64) -> i16
 }
 
 /// The stack pointer is lowered by a size.
-fn lower_stack(items: &mut Items, size: u64) -> Result<(), AllocError>
+fn lower_stack(items: &mut FrameItems, size: u64) -> Result<(), AllocError>
     requires { size ≤ 2 ^ 29 }
     ensures { OnOk result (items.new ≡ lower_stack size items.old) }
 {
@@ -46,7 +46,7 @@ fn lower_stack(items: &mut Items, size: u64) -> Result<(), AllocError>
 }
 
 /// The stack pointer is raised by a size.
-fn raise_stack(items: &mut Items, size: u64) -> Result<(), AllocError>
+fn raise_stack(items: &mut FrameItems, size: u64) -> Result<(), AllocError>
     requires { size ≤ 2 ^ 29 }
     ensures { OnOk result (items.new ≡ raise_stack size items.old) }
 {
@@ -58,7 +58,7 @@ fn raise_stack(items: &mut Items, size: u64) -> Result<(), AllocError>
 }
 
 /// A register is stored in its place, if it is saved.
-fn save_if(items: &mut Items, layout: &Layout<'_>, register: u8) -> Result<(), AllocError>
+fn save_if(items: &mut FrameItems, layout: &FrameLayout<'_>, register: u8) -> Result<(), AllocError>
     requires low { 9 ≤ register }
     requires high { register < 16 }
     ensures { OnOk result
@@ -71,7 +71,11 @@ fn save_if(items: &mut Items, layout: &Layout<'_>, register: u8) -> Result<(), A
 }
 
 /// And loaded again.
-fn restore_if(items: &mut Items, layout: &Layout<'_>, register: u8) -> Result<(), AllocError>
+fn restore_if(
+    items: &mut FrameItems,
+    layout: &FrameLayout<'_>,
+    register: u8,
+) -> Result<(), AllocError>
     requires low { 9 ≤ register }
     requires high { register < 16 }
     ensures { OnOk result
@@ -84,7 +88,7 @@ fn restore_if(items: &mut Items, layout: &Layout<'_>, register: u8) -> Result<()
 }
 
 /// The saved registers are stored.
-fn save_registers(items: &mut Items, layout: &Layout<'_>) -> Result<(), AllocError>
+fn save_registers(items: &mut FrameItems, layout: &FrameLayout<'_>) -> Result<(), AllocError>
     ensures { OnOk result
         (items.new ≡ save_registers (shape_in layout.now) (shape_in layout.now).saves 9 7 items.old) }
 {
@@ -95,7 +99,7 @@ fn save_registers(items: &mut Items, layout: &Layout<'_>) -> Result<(), AllocErr
 }
 
 /// And loaded again.
-fn restore_registers(items: &mut Items, layout: &Layout<'_>) -> Result<(), AllocError>
+fn restore_registers(items: &mut FrameItems, layout: &FrameLayout<'_>) -> Result<(), AllocError>
     ensures { OnOk result
         (items.new ≡ restore_registers (shape_in layout.now) (shape_in layout.now).saves 9 7 items.old) }
 {
@@ -107,7 +111,7 @@ fn restore_registers(items: &mut Items, layout: &Layout<'_>) -> Result<(), Alloc
 
 /// The part by which a function is entered: it lowers the stack pointer, and keeps in the frame the return address and
 /// the registers that it saves. It fails only where memory is short.
-pub fn entry_part(items: &mut Items, layout: &Layout<'_>) -> Result<(), AllocError>
+pub fn entry_part(items: &mut FrameItems, layout: &FrameLayout<'_>) -> Result<(), AllocError>
     ensures { OnOk result
         (items.new ≡ entry_part (shape_in layout.now) (shape_in layout.now).saves items.old) }
 {
@@ -118,7 +122,7 @@ pub fn entry_part(items: &mut Items, layout: &Layout<'_>) -> Result<(), AllocErr
 
 /// The part by which a function is left: the saved registers and the return address are loaded again, and the stack
 /// pointer is raised.
-fn exit_part(items: &mut Items, layout: &Layout<'_>) -> Result<(), AllocError>
+fn exit_part(items: &mut FrameItems, layout: &FrameLayout<'_>) -> Result<(), AllocError>
     ensures { OnOk result
         (items.new ≡ exit_part (shape_in layout.now) (shape_in layout.now).saves items.old) }
 {
@@ -133,7 +137,7 @@ fn exit_part(items: &mut Items, layout: &Layout<'_>) -> Result<(), AllocError>
 }
 
 /// That part with its label. It fails only where memory is short.
-pub fn exit_items(items: &mut Items, layout: &Layout<'_>) -> Result<(), AllocError>
+pub fn exit_items(items: &mut FrameItems, layout: &FrameLayout<'_>) -> Result<(), AllocError>
     ensures { OnOk result (items.new ≡ exit_items (setting_in layout.now) items.old) }
 {
     exit_part(items, layout)?;

@@ -5,9 +5,9 @@ ghost use Rattle.flat_frames.specs.Shapes.{return_at, saved_at, slot_at, object_
 ghost use Rattle.function_shapes.specs.Shapes.{is_named};
 ghost use Rattle.frame_emitter.specs.Layouts.{plan_in, setting_in, shape_in};
 
-use crate::layout::Layout;
+use crate::layout::FrameLayout;
 
-impl<'a> Layout<'a> {
+impl<'a> FrameLayout<'a> {
     /// Where the return address stands in the frame.
     #[tactic(auto, using(crate::proofs::Sizes::return_near))]
     pub(crate) fn return_at(&self) -> u64

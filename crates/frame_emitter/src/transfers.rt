@@ -6,15 +6,15 @@ ghost use Rattle.frame_emitter.specs.Layouts.{shape_in};
 ghost use Rattle.frame_emitter.specs.Moves.{IsMove};
 
 use crate::accesses::{frame_load, frame_store, register_move};
-use crate::items::Items;
-use crate::layout::Layout;
+use crate::items::FrameItems;
+use crate::layout::FrameLayout;
 use alloc_model::allocation::Transfer;
 use std::alloc::AllocError;
 
 /// A transfer.
 fn transfer_item(
-    items: &mut Items,
-    layout: &Layout<'_>,
+    items: &mut FrameItems,
+    layout: &FrameLayout<'_>,
     transfer: Transfer,
 ) -> Result<(), AllocError>
     requires { IsMove (shape_in layout.now).temps transfer }
@@ -30,8 +30,8 @@ fn transfer_item(
 /// Transfers, which are done in their order. It fails only where memory is short.
 #[tactic(auto, using(crate::proofs::Loops::transfer_more))]
 pub fn transfers(
-    items: &mut Items,
-    layout: &Layout<'_>,
+    items: &mut FrameItems,
+    layout: &FrameLayout<'_>,
     transfers: &[Transfer],
 ) -> Result<(), AllocError>
     requires { All (IsMove (shape_in layout.now).temps) transfers.now }

@@ -17,7 +17,7 @@ use Rattle.mem_model.specs.Memory as memory
 use Rattle.temp_ir.specs.declared.operation.Operation.{Operation}
 use Rattle.temp_ir.specs.declared.operation.ExtendOp.{ExtendOp}
 use Rattle.temp_ir.specs.Operations.{operate_op, extend_op}
-use Rattle.alloc_model.specs.Contents.{Content, Answer, Gives, TrapsWith, Fails, operate_answer, extend_answer}
+use Rattle.alloc_model.specs.Contents.{Content, ContentAnswer, Gives, TrapsWith, Fails, operate_answer, extend_answer}
 use Rattle.alloc_model.specs.Places.{Places}
 use Rattle.flat_memory.specs.Machine.{memory_bytes}
 use Rattle.flat_operations.specs.Contents.{ContentIs, EffectIs}
@@ -39,7 +39,7 @@ module _ (p : Program) (there : Labels) (rest : List AsmItem) (end : ℕ) (c : C
   second-below items (isa.Literal n) b h is = let lt = is.0 in omega (arith, lt)
 
   -- an operation whose effect stands for an answer
-  answer-done : (op : OperateOp) (left r : ℕ) (right : Operand) (answer : Answer) (h : StandsFor p there (Plain (fields.Operate op left right r) ∷ rest) end c m known store s) → IsWritable c.shape r → operand s right < 2 ^ 64 → (e : OperationEffect) → operation_effect op (register s left) (operand s right) ≡ e → EffectIs c.extents answer e → DoesAnswer p there rest end c m known store s r answer
+  answer-done : (op : OperateOp) (left r : ℕ) (right : Operand) (answer : ContentAnswer) (h : StandsFor p there (Plain (fields.Operate op left right r) ∷ rest) end c m known store s) → IsWritable c.shape r → operand s right < 2 ^ 64 → (e : OperationEffect) → operation_effect op (register s left) (operand s right) ≡ e → EffectIs c.extents answer e → DoesAnswer p there rest end c m known store s r answer
   answer-done op left r right (Gives content) h value small (effect.Gives n) e is =
       written-gives p there rest end c m known store s knows (fields.Operate op left right r) h r n content value (given-below op (register s left) (operand s right) n (h.is_at.words left) small e) (ap (λ z. operate_step z r s) e) is
   answer-done op left r right (Gives content) h value small Keeps e is = absurd is

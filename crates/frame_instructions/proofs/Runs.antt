@@ -18,8 +18,8 @@ use Rattle.temp_ir.specs.declared.operation.AddressOp.{AddressOp}
 use Rattle.temp_ir.specs.declared.operation.AddressOp.TheVariants as address
 use Rattle.temp_ir.specs.declared.operation.LoadOp.{LoadOp}
 use Rattle.temp_ir.specs.declared.operation.StoreOp.{StoreOp}
-use Rattle.temp_ir.specs.declared.operation.BranchOp.{BranchOp}
-use Rattle.temp_ir.specs.declared.operation.BranchOp.TheVariants.{Blbc, Beq, Blt, Ble, Blbs, Bne, Bge, Bgt}
+use Rattle.temp_ir.specs.declared.operation.TempBranchOp.{TempBranchOp}
+use Rattle.temp_ir.specs.declared.operation.TempBranchOp.TheVariants.{Blbc, Beq, Blt, Ble, Blbs, Bne, Bge, Bgt}
 use Rattle.temp_ir.specs.Operations.{address_op, load_op, store_op, branch_op}
 use Rattle.alloc_model.specs.Contents.{Content, word, moved_by, moved_content, loaded_content, stored_memory, test_of}
 use Rattle.alloc_model.specs.Places.{Places, Reg}
@@ -136,7 +136,7 @@ module _ (p : Program) (there : Labels) (rest : List AsmItem) (end : ℕ) (c : C
 
   -- ---- branches
 
-  no-link : (op : BranchOp) → links (branch_op op) ≡ false
+  no-link : (op : TempBranchOp) → links (branch_op op) ≡ false
   no-link Blbc = refl
   no-link Beq = refl
   no-link Blt = refl
@@ -146,7 +146,7 @@ module _ (p : Program) (there : Labels) (rest : List AsmItem) (end : ℕ) (c : C
   no-link Bge = refl
   no-link Bgt = refl
 
-  pub branches_are_done : ((r : ℕ) → known r ≡ true → r < 28) → (op : BranchOp) (r l : ℕ) (taken : Bool) → StandsFor p there (Branch (branch_op op) r l ∷ rest) end c m known store s → known r ≡ true → test_of op m (store (Reg r)) ≡ Some taken → BranchIsDone p there rest end c m known store l taken s
+  pub branches_are_done : ((r : ℕ) → known r ≡ true → r < 28) → (op : TempBranchOp) (r l : ℕ) (taken : Bool) → StandsFor p there (Branch (branch_op op) r l ∷ rest) end c m known store s → known r ≡ true → test_of op m (store (Reg r)) ≡ Some taken → BranchIsDone p there rest end c m known store l taken s
   branches_are_done low op r l taken h k e =
       let value = low r k in
       let d = branches_step p there h.word (branch_op op) r l rest end s (stands p there h.word (Branch (branch_op op) r l) rest end s h.is_at) (omega (arith, value)) in

@@ -14,13 +14,13 @@ use Rattle.mem_model.specs.Memory as memory
 use Rattle.temp_ir.specs.declared.operation.AddressOp.{AddressOp}
 use Rattle.temp_ir.specs.declared.operation.LoadOp.{LoadOp}
 use Rattle.temp_ir.specs.declared.operation.StoreOp.{StoreOp}
-use Rattle.temp_ir.specs.declared.operation.BranchOp.{BranchOp}
+use Rattle.temp_ir.specs.declared.operation.TempBranchOp.{TempBranchOp}
 use Rattle.temp_ir.specs.Operations.{address_op, load_op, store_op, branch_op}
 use Rattle.alloc_model.specs.Contents.{Content, word, moved_by, moved_content, loaded_content, stored_memory, test_of}
 use Rattle.alloc_model.specs.Stores.{put}
 use Rattle.alloc_model.specs.Places.{Places, Reg, place_eq}
 use Rattle.flat_frames.specs.Frames.{with_known}
-use Rattle.frame_transfers.specs.Laws.{Call, IsCall, StandsFor, KnowsValues, IsWritable, IsKept, HasDone}
+use Rattle.frame_transfers.specs.Laws.{Call, FitsTheStack, StandsFor, KnowsValues, IsWritable, IsKept, HasDone}
 
 -- a content stands in a register: that of a known one, or zero in register 31
 abbrev pub StandsIn : (known : ℕ → Bool) → Places → (register : ℕ) → Content → Type 0
@@ -36,7 +36,7 @@ GivesRegister p there rest end c m known store s r content =
 abbrev pub LoadsAreDone : Type 0
 LoadsAreDone =
     (p : Program) (there : Labels) (rest : List AsmItem) (end : ℕ) (c : Call) (m : memory.Memory) (known : ℕ → Bool)
-    (store : Places) (s : State) → IsCall c → KnowsValues known →
+    (store : Places) (s : State) → FitsTheStack c → KnowsValues known →
     (op : LoadOp) (r pointer : ℕ) (plus : ℤ) (content : Content) →
     StandsFor p there (Plain (Memory (load_op op) r pointer plus) ∷ rest) end c m known store s →
     known pointer ≡ true → IsWritable c.shape r → loaded_content m op (store (Reg pointer)) plus ≡ Some content →
@@ -46,7 +46,7 @@ LoadsAreDone =
 abbrev pub StoresAreDone : Type 0
 StoresAreDone =
     (p : Program) (there : Labels) (rest : List AsmItem) (end : ℕ) (c : Call) (m : memory.Memory) (known : ℕ → Bool)
-    (store : Places) (s : State) → IsCall c → KnowsValues known →
+    (store : Places) (s : State) → FitsTheStack c → KnowsValues known →
     (op : StoreOp) (r pointer : ℕ) (plus : ℤ) (value : Content) (new : memory.Memory) →
     StandsFor p there (Plain (Memory (store_op op) r pointer plus) ∷ rest) end c m known store s →
     StandsIn known store r value → known pointer ≡ true →
@@ -56,7 +56,7 @@ StoresAreDone =
 abbrev pub MovesAreDone : Type 0
 MovesAreDone =
     (p : Program) (there : Labels) (rest : List AsmItem) (end : ℕ) (c : Call) (m : memory.Memory) (known : ℕ → Bool)
-    (store : Places) (s : State) → IsCall c → KnowsValues known →
+    (store : Places) (s : State) → FitsTheStack c → KnowsValues known →
     (op : AddressOp) (r base : ℕ) (plus : ℤ) (value content : Content) →
     StandsFor p there (Plain (Memory (address_op op) r base plus) ∷ rest) end c m known store s →
     StandsIn known store base value → IsWritable c.shape r → moved_content m value (moved_by op plus) ≡ Some content →
@@ -66,7 +66,7 @@ MovesAreDone =
 abbrev pub SetsAreDone : Type 0
 SetsAreDone =
     (p : Program) (there : Labels) (rest : List AsmItem) (end : ℕ) (c : Call) (m : memory.Memory) (known : ℕ → Bool)
-    (store : Places) (s : State) → IsCall c → KnowsValues known →
+    (store : Places) (s : State) → FitsTheStack c → KnowsValues known →
     (r : ℕ) (number : ℤ) → StandsFor p there (Plain (Memory Lda r 31 number) ∷ rest) end c m known store s →
     IsWritable c.shape r → IsDisplacement number →
     GivesRegister p there rest end c m known store s r (word (word_from number))
@@ -88,8 +88,8 @@ pub record BranchIsDone (p : Program) (there : Labels) (rest : List AsmItem) (en
 abbrev pub BranchesAreDone : Type 0
 BranchesAreDone =
     (p : Program) (there : Labels) (rest : List AsmItem) (end : ℕ) (c : Call) (m : memory.Memory) (known : ℕ → Bool)
-    (store : Places) (s : State) → IsCall c → KnowsValues known → ((r : ℕ) → known r ≡ true → r < 28) →
-    (op : BranchOp) (r l : ℕ) (taken : Bool) →
+    (store : Places) (s : State) → FitsTheStack c → KnowsValues known → ((r : ℕ) → known r ≡ true → r < 28) →
+    (op : TempBranchOp) (r l : ℕ) (taken : Bool) →
     StandsFor p there (Branch (branch_op op) r l ∷ rest) end c m known store s →
     known r ≡ true → test_of op m (store (Reg r)) ≡ Some taken →
     BranchIsDone p there rest end c m known store l taken s

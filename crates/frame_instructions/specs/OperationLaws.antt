@@ -13,9 +13,9 @@ use Rattle.mem_model.specs.Memory as memory
 use Rattle.temp_ir.specs.declared.operation.Operation.{Operation}
 use Rattle.temp_ir.specs.declared.operation.ExtendOp.{ExtendOp}
 use Rattle.temp_ir.specs.Operations.{operate_op, extend_op}
-use Rattle.alloc_model.specs.Contents.{Content, word, Answer, Gives, TrapsWith, Fails, operate_answer, extend_answer}
+use Rattle.alloc_model.specs.Contents.{Content, word, ContentAnswer, Gives, TrapsWith, Fails, operate_answer, extend_answer}
 use Rattle.alloc_model.specs.Places.{Places}
-use Rattle.frame_transfers.specs.Laws.{Call, IsCall, StandsFor, KnowsValues, IsWritable}
+use Rattle.frame_transfers.specs.Laws.{Call, FitsTheStack, StandsFor, KnowsValues, IsWritable}
 use Rattle.frame_instructions.specs.Laws.{StandsIn, GivesRegister}
 
 -- a second operand is a number below 256, or a register
@@ -25,7 +25,7 @@ IsSecond known store (isa.Literal n) c = (n < 256) × (c ≡ word n)
 
 -- an operation gives its answer, or traps as that does
 abbrev pub DoesAnswer : Program → Labels → List AsmItem → ℕ → Call → memory.Memory → (ℕ → Bool) → Places → State →
-    (register : ℕ) → Answer → Type 0
+    (register : ℕ) → ContentAnswer → Type 0
 DoesAnswer p there rest end c m known store s r (Gives content) =
     GivesRegister p there rest end c m known store s r content
 DoesAnswer p there rest end c m known store s r (TrapsWith code) = exec p 1 s ≡ Over (Trap code) s
@@ -34,7 +34,7 @@ DoesAnswer p there rest end c m known store s r Fails = Unit {0}
 abbrev pub OperationsAreDone : Type 0
 OperationsAreDone =
     (p : Program) (there : Labels) (rest : List AsmItem) (end : ℕ) (c : Call) (m : memory.Memory) (known : ℕ → Bool)
-    (store : Places) (s : State) → IsCall c → KnowsValues known →
+    (store : Places) (s : State) → FitsTheStack c → KnowsValues known →
     (op : Operation) (left r : ℕ) (right : Operand) (a b : Content) →
     StandsFor p there (Plain (fields.Operate (operate_op op) left right r) ∷ rest) end c m known store s →
     StandsIn known store left a → IsSecond known store right b → IsWritable c.shape r →
@@ -43,7 +43,7 @@ OperationsAreDone =
 abbrev pub ExtensionsAreDone : Type 0
 ExtensionsAreDone =
     (p : Program) (there : Labels) (rest : List AsmItem) (end : ℕ) (c : Call) (m : memory.Memory) (known : ℕ → Bool)
-    (store : Places) (s : State) → IsCall c → KnowsValues known →
+    (store : Places) (s : State) → FitsTheStack c → KnowsValues known →
     (op : ExtendOp) (r : ℕ) (right : Operand) (b : Content) →
     StandsFor p there (Plain (fields.Operate (extend_op op) 31 right r) ∷ rest) end c m known store s →
     IsSecond known store right b → IsWritable c.shape r →

@@ -12,18 +12,18 @@ use Rattle.alpha_items.specs.declared.item.AsmItem.{AsmItem}
 use Rattle.alpha_items.specs.declared.item.AsmItem.TheVariants.{Plain}
 use Rattle.alpha_items.specs.Assembly.{labels}
 use Rattle.data_object.specs.declared.DataObject.{DataObject}
-use Rattle.suifvm_ir.specs.declared.insn.Place.TheVariants.{Global, Local}
+use Rattle.suifvm_ir.specs.declared.insn.VmObject.TheVariants.{Global, Local}
 use Rattle.temp_ir.specs.declared.insn.TempInsn.{TempInsn}
 use Rattle.temp_ir.specs.declared.insn.TempInsn.TheVariants as i
 use Rattle.temp_ir.specs.Fixed.{register_number}
 use Rattle.alloc_model.specs.declared.allocation.Transfer.{Transfer}
 use Rattle.alloc_model.specs.declared.allocation.Transfer.TheVariants.{Store, Load, Shift}
 use Rattle.alloc_model.specs.Places.{Plan, transfers_at, registers_at}
-use Rattle.flat_frames.specs.Shapes.{Shape, frame_size, return_at, saved_at, slot_at, argument_at, object_at}
+use Rattle.flat_frames.specs.Shapes.{FrameShape, frame_size, return_at, saved_at, slot_at, argument_at, object_at}
 use Rattle.frame_accesses.specs.Items.{near_size, frame_item, frame_load, frame_store, register_move}
 use Rattle.frame_transfers.specs.Items.{transfer_items, items_of_transfers}
 use Rattle.call_parts.specs.Items.{lower_stack, raise_stack, save_if, save_registers, restore_if, restore_registers, entry_part, exit_part}
-use Rattle.instruction_items.specs.Items.{Setting, function_label, insn_items}
+use Rattle.instruction_items.specs.Items.{ItemSetting, function_label, insn_items}
 use Rattle.function_items.specs.Items.{jump_transfers, top_transfers, end_transfers, point_items, insns_items, block_items, blocks_items, exit_items, function_items}
 use Rattle.frame_emitter.specs.Settings.{setting_of}
 use Rattle.frame_labels.specs.Labels.{own_labels}
@@ -44,16 +44,16 @@ move-none false from to rest e = rw e refl
 move-named : (from to : ℕ) (rest : List AsmItem) → labels (register_move from to ++ rest) ≡ labels rest
 move-named from to rest = move-none (from == to) from to rest refl
 
-transfer-named : (s : Shape) (x : Transfer) (rest : List AsmItem) → labels (transfer_items s x ++ rest) ≡ labels rest
+transfer-named : (s : FrameShape) (x : Transfer) (rest : List AsmItem) → labels (transfer_items s x ++ rest) ≡ labels rest
 transfer-named s (Store t r) rest = frame-named Stq 29 r (slot_at s t) rest
 transfer-named s (Load t r) rest = frame-named Ldq 29 r (slot_at s t) rest
 transfer-named s (Shift t from to) rest = move-named from to rest
 
-transfers-named : (s : Shape) (xs : List Transfer) (rest : List AsmItem) → labels (items_of_transfers s xs rest) ≡ labels rest
+transfers-named : (s : FrameShape) (xs : List Transfer) (rest : List AsmItem) → labels (items_of_transfers s xs rest) ≡ labels rest
 transfers-named s [] rest = refl
 transfers-named s (x ∷ xs) rest = transfer-named s x (items_of_transfers s xs rest) ∙ transfers-named s xs rest
 
-insn-named : (g : Setting) (rs : List ℕ) (x : TempInsn) (rest : List AsmItem) → labels (insn_items g rs x ++ rest) ≡ labels rest
+insn-named : (g : ItemSetting) (rs : List ℕ) (x : TempInsn) (rest : List AsmItem) → labels (insn_items g rs x ++ rest) ≡ labels rest
 insn-named g rs (i.Address op d base plus) rest = refl
 insn-named g rs (i.ObjectAddress d (Global k) plus) rest = refl
 insn-named g rs (i.ObjectAddress d (Local k) plus) rest = frame-named Lda 29 (slice_index rs 0) (object_at g.shape k + plus) rest
@@ -74,17 +74,17 @@ insn-named g rs (i.Serve s) rest = refl
 insn-named g rs (i.Return v) rest = refl
 insn-named g rs i.Mark rest = refl
 
-point-named : (a : Plan) (g : Setting) (block at : ℕ) (x : TempInsn) (rest : List AsmItem) → labels (point_items a g block at x rest) ≡ labels rest
+point-named : (a : Plan) (g : ItemSetting) (block at : ℕ) (x : TempInsn) (rest : List AsmItem) → labels (point_items a g block at x rest) ≡ labels rest
 point-named a g block at x rest =
     let body = insn_items g (registers_at a block at) x ++ rest in
     transfers-named g.shape (transfers_at a block at) (items_of_transfers g.shape (jump_transfers a block x) body)
     ∙ transfers-named g.shape (jump_transfers a block x) body ∙ insn-named g (registers_at a block at) x rest
 
-insns-named : (a : Plan) (g : Setting) (block at : ℕ) (insns : List TempInsn) (rest : List AsmItem) → labels (insns_items a g block at insns rest) ≡ labels rest
+insns-named : (a : Plan) (g : ItemSetting) (block at : ℕ) (insns : List TempInsn) (rest : List AsmItem) → labels (insns_items a g block at insns rest) ≡ labels rest
 insns-named a g block at [] rest = refl
 insns-named a g block at (x ∷ xs) rest = point-named a g block at x (insns_items a g block (suc at) xs rest) ∙ insns-named a g block (suc at) xs rest
 
-block-named : (a : Plan) (g : Setting) (block : ℕ) (insns : List TempInsn) (rest : List AsmItem) → labels (block_items a g block insns rest) ≡ labels rest
+block-named : (a : Plan) (g : ItemSetting) (block : ℕ) (insns : List TempInsn) (rest : List AsmItem) → labels (block_items a g block insns rest) ≡ labels rest
 block-named a g block insns rest =
     let behind = items_of_transfers g.shape (end_transfers a block insns) rest in
     transfers-named g.shape (top_transfers a block) (insns_items a g block 0 insns behind)
@@ -98,29 +98,29 @@ raise-none : (near : Bool) (size : ℕ) (rest : List AsmItem) → nat_lt size ne
 raise-none true size rest e = rw e refl
 raise-none false size rest e = rw e refl
 
-save-named : (s : Shape) (saves : Bool) (r : ℕ) (rest : List AsmItem) → labels (save_if s saves r rest) ≡ labels rest
+save-named : (s : FrameShape) (saves : Bool) (r : ℕ) (rest : List AsmItem) → labels (save_if s saves r rest) ≡ labels rest
 save-named s true r rest = frame-named Stq 29 r (saved_at s r) rest
 save-named s false r rest = refl
 
-saves-named : (s : Shape) (saves : ℕ → Bool) (r count : ℕ) (rest : List AsmItem) → labels (save_registers s saves r count rest) ≡ labels rest
+saves-named : (s : FrameShape) (saves : ℕ → Bool) (r count : ℕ) (rest : List AsmItem) → labels (save_registers s saves r count rest) ≡ labels rest
 saves-named s saves r zero rest = refl
 saves-named s saves r (suc count) rest = save-named s (saves r) r (save_registers s saves (suc r) count rest) ∙ saves-named s saves (suc r) count rest
 
-restore-named : (s : Shape) (saves : Bool) (r : ℕ) (rest : List AsmItem) → labels (restore_if s saves r rest) ≡ labels rest
+restore-named : (s : FrameShape) (saves : Bool) (r : ℕ) (rest : List AsmItem) → labels (restore_if s saves r rest) ≡ labels rest
 restore-named s true r rest = frame-named Ldq 29 r (saved_at s r) rest
 restore-named s false r rest = refl
 
-restores-named : (s : Shape) (saves : ℕ → Bool) (r count : ℕ) (rest : List AsmItem) → labels (restore_registers s saves r count rest) ≡ labels rest
+restores-named : (s : FrameShape) (saves : ℕ → Bool) (r count : ℕ) (rest : List AsmItem) → labels (restore_registers s saves r count rest) ≡ labels rest
 restores-named s saves r zero rest = refl
 restores-named s saves r (suc count) rest = restore-named s (saves r) r (restore_registers s saves (suc r) count rest) ∙ restores-named s saves (suc r) count rest
 
-entry-named : (s : Shape) (saves : ℕ → Bool) (rest : List AsmItem) → labels (entry_part s saves rest) ≡ labels rest
+entry-named : (s : FrameShape) (saves : ℕ → Bool) (rest : List AsmItem) → labels (entry_part s saves rest) ≡ labels rest
 entry-named s saves rest =
     let kept = save_registers s saves 9 7 rest in
     lower-none (nat_lt (frame_size s) near_size) (frame_size s) (frame_store 26 (return_at s) ++ kept) refl
     ∙ frame-named Stq 29 26 (return_at s) kept ∙ saves-named s saves 9 7 rest
 
-exit-named : (s : Shape) (saves : ℕ → Bool) (rest : List AsmItem) → labels (exit_part s saves rest) ≡ labels rest
+exit-named : (s : FrameShape) (saves : ℕ → Bool) (rest : List AsmItem) → labels (exit_part s saves rest) ≡ labels rest
 exit-named s saves rest =
     let back = Plain (Jump Ret 31 26) ∷ rest in
     let raised = raise_stack (frame_size s) back in

@@ -12,10 +12,10 @@ use Rattle.alpha_items.specs.declared.item.AsmItem.{AsmItem}
 use Rattle.alpha_items.specs.declared.item.AsmItem.TheVariants.{Label, Plain}
 use Rattle.alpha_rt.specs.Items.{entry_label}
 use Rattle.data_object.specs.declared.DataObject.{DataObject}
-use Rattle.suifvm_ir.specs.declared.insn.Place.TheVariants.{Global, Local}
+use Rattle.suifvm_ir.specs.declared.insn.VmObject.TheVariants.{Global, Local}
 use Rattle.suifvm_ir.specs.Functions.{AllInsns, GoesToBlocks, insn_in, insn_at}
-use Rattle.temp_ir.specs.declared.operation.Routine.{Routine}
-use Rattle.temp_ir.specs.declared.operation.Routine.TheVariants.{Divq, Remq, Divqu, Remqu, Divl, Reml, Divlu, Remlu}
+use Rattle.temp_ir.specs.declared.operation.DivisionRoutine.{DivisionRoutine}
+use Rattle.temp_ir.specs.declared.operation.DivisionRoutine.TheVariants.{Divq, Remq, Divqu, Remqu, Divl, Reml, Divlu, Remlu}
 use Rattle.temp_ir.specs.declared.insn.TempInsn.{TempInsn}
 use Rattle.temp_ir.specs.declared.insn.TempInsn.TheVariants as i
 use Rattle.temp_ir.specs.Fixed.{register_number}
@@ -24,16 +24,16 @@ use Rattle.alloc_model.specs.declared.allocation.Transfer.{Transfer}
 use Rattle.alloc_model.specs.declared.allocation.Transfer.TheVariants.{Store, Load, Shift}
 use Rattle.alloc_model.specs.Effect.{routine_of}
 use Rattle.alloc_model.specs.Places.{Plan, transfers_at, registers_at}
-use Rattle.flat_frames.specs.Shapes.{Shape, frame_size, return_at, saved_at, slot_at, argument_at, object_at}
+use Rattle.flat_frames.specs.Shapes.{FrameShape, frame_size, return_at, saved_at, slot_at, argument_at, object_at}
 use Rattle.frame_accesses.specs.Items.{near_size, frame_item, frame_load, frame_store, register_move}
 use Rattle.frame_transfers.specs.Items.{transfer_items, items_of_transfers}
 use Rattle.call_parts.specs.Items.{lower_stack, raise_stack, save_if, save_registers, restore_if, restore_registers, entry_part, exit_part}
-use Rattle.instruction_items.specs.Items.{Setting, function_label, insn_items}
+use Rattle.instruction_items.specs.Items.{ItemSetting, function_label, insn_items}
 use Rattle.function_items.specs.Items.{jump_transfers, top_transfers, end_transfers, point_items, insns_items, block_items, blocks_items, exit_items, function_items}
 use Rattle.frame_emitter.specs.Settings.{setting_of}
 use Rattle.frame_labels.specs.Labels.{IsCalled, UsesOnly}
 
-routine-label : (r : Routine) → (1 ≤ entry_label (routine_of r)) × (entry_label (routine_of r) ≤ 8)
+routine-label : (r : DivisionRoutine) → (1 ≤ entry_label (routine_of r)) × (entry_label (routine_of r) ≤ 8)
 routine-label Divq = (omega arith, omega arith)
 routine-label Remq = (omega arith, omega arith)
 routine-label Divqu = (omega arith, omega arith)
@@ -55,7 +55,7 @@ goes-at count blocks b k x goes e =
     goes-in count (slice_get blocks b) k x (λ insns is. all-get (All (GoesToBlocks targets_of count)) blocks b insns goes is) e
 
 module _ (a : Plan) (globals : List DataObject) (first : ℕ) where
-  abbrev pub g : Setting
+  abbrev pub g : ItemSetting
   g = setting_of a globals first
 
   abbrev pub P : AsmItem → Type 0
@@ -81,12 +81,12 @@ module _ (a : Plan) (globals : List DataObject) (first : ℕ) where
   move-uses : (from to : ℕ) (rest : List AsmItem) → All P rest → All P (register_move from to ++ rest)
   move-uses from to rest h = move-by (from == to) from to rest refl h
 
-  transfer-uses : (s : Shape) (x : Transfer) (rest : List AsmItem) → All P rest → All P (transfer_items s x ++ rest)
+  transfer-uses : (s : FrameShape) (x : Transfer) (rest : List AsmItem) → All P rest → All P (transfer_items s x ++ rest)
   transfer-uses s (Store t r) rest h = frame-uses Stq 29 r (slot_at s t) rest h
   transfer-uses s (Load t r) rest h = frame-uses Ldq 29 r (slot_at s t) rest h
   transfer-uses s (Shift t from to) rest h = move-uses from to rest h
 
-  transfers-use : (s : Shape) (xs : List Transfer) (rest : List AsmItem) → All P rest → All P (items_of_transfers s xs rest)
+  transfers-use : (s : FrameShape) (xs : List Transfer) (rest : List AsmItem) → All P rest → All P (items_of_transfers s xs rest)
   transfers-use s [] rest h = h
   transfers-use s (x ∷ xs) rest h = transfer-uses s x (items_of_transfers s xs rest) (transfers-use s xs rest h)
 
@@ -146,29 +146,29 @@ module _ (a : Plan) (globals : List DataObject) (first : ℕ) where
   raise-by true size rest e h = rw e (put _ rest tt h)
   raise-by false size rest e h = rw e (two _ _ rest h)
 
-  save-uses : (s : Shape) (saves : Bool) (r : ℕ) (rest : List AsmItem) → All P rest → All P (save_if s saves r rest)
+  save-uses : (s : FrameShape) (saves : Bool) (r : ℕ) (rest : List AsmItem) → All P rest → All P (save_if s saves r rest)
   save-uses s true r rest h = frame-uses Stq 29 r (saved_at s r) rest h
   save-uses s false r rest h = h
 
-  saves-use : (s : Shape) (saves : ℕ → Bool) (r count : ℕ) (rest : List AsmItem) → All P rest → All P (save_registers s saves r count rest)
+  saves-use : (s : FrameShape) (saves : ℕ → Bool) (r count : ℕ) (rest : List AsmItem) → All P rest → All P (save_registers s saves r count rest)
   saves-use s saves r zero rest h = h
   saves-use s saves r (suc count) rest h = save-uses s (saves r) r (save_registers s saves (suc r) count rest) (saves-use s saves (suc r) count rest h)
 
-  restore-uses : (s : Shape) (saves : Bool) (r : ℕ) (rest : List AsmItem) → All P rest → All P (restore_if s saves r rest)
+  restore-uses : (s : FrameShape) (saves : Bool) (r : ℕ) (rest : List AsmItem) → All P rest → All P (restore_if s saves r rest)
   restore-uses s true r rest h = frame-uses Ldq 29 r (saved_at s r) rest h
   restore-uses s false r rest h = h
 
-  restores-use : (s : Shape) (saves : ℕ → Bool) (r count : ℕ) (rest : List AsmItem) → All P rest → All P (restore_registers s saves r count rest)
+  restores-use : (s : FrameShape) (saves : ℕ → Bool) (r count : ℕ) (rest : List AsmItem) → All P rest → All P (restore_registers s saves r count rest)
   restores-use s saves r zero rest h = h
   restores-use s saves r (suc count) rest h = restore-uses s (saves r) r (restore_registers s saves (suc r) count rest) (restores-use s saves (suc r) count rest h)
 
-  entry-uses : (s : Shape) (saves : ℕ → Bool) (rest : List AsmItem) → All P rest → All P (entry_part s saves rest)
+  entry-uses : (s : FrameShape) (saves : ℕ → Bool) (rest : List AsmItem) → All P rest → All P (entry_part s saves rest)
   entry-uses s saves rest h =
       let kept = save_registers s saves 9 7 rest in
       lower-by (nat_lt (frame_size s) near_size) (frame_size s) (frame_store 26 (return_at s) ++ kept) refl
       (frame-uses Stq 29 26 (return_at s) kept (saves-use s saves 9 7 rest h))
 
-  exit-uses : (s : Shape) (saves : ℕ → Bool) (rest : List AsmItem) → All P rest → All P (exit_part s saves rest)
+  exit-uses : (s : FrameShape) (saves : ℕ → Bool) (rest : List AsmItem) → All P rest → All P (exit_part s saves rest)
   exit-uses s saves rest h =
       let back = Plain (Jump Ret 31 26) ∷ rest in
       let raised = raise_stack (frame_size s) back in

@@ -8,9 +8,9 @@ use Rattle.std.proofs.lemmas.Option.{slice_get-map, slice_get_within, get_or_fro
 use Rattle.std.proofs.lemmas.List.Elements.{All-from_recursion, All-tail, All-contains}
 use Rattle.data_object.specs.declared.DataObject.{DataObject}
 use Rattle.data_object.specs.Layout.{end_of, data_end, LieFrom}
-use Rattle.suifvm_ir.specs.declared.function.Object.{Object}
-use Rattle.suifvm_ir.specs.declared.insn.Place.{Place}
-use Rattle.suifvm_ir.specs.declared.insn.Place.TheVariants.{Global, Local}
+use Rattle.suifvm_ir.specs.declared.function.MemoryLocal.{MemoryLocal}
+use Rattle.suifvm_ir.specs.declared.insn.VmObject.{VmObject}
+use Rattle.suifvm_ir.specs.declared.insn.VmObject.TheVariants.{Global, Local}
 use Rattle.suifvm_ir.specs.Functions.{count_of, last_of, front_of, AllInsns, GoesToBlocks, EndsLate, IsStraight}
 use Rattle.suifvm_ir.specs.Programs.{global_reaches, local_reaches, place_reaches}
 use Rattle.temp_ir.specs.declared.insn.TempInsn.{TempInsn}
@@ -24,9 +24,9 @@ use Rattle.alloc_model.specs.Places.{Plan, plan_of}
 use Rattle.alloc_model.specs.Faithful.{given_registers, IsGiven, IsGivenOrScratch, IsTransfer, HasLists}
 use Rattle.flat_frames.specs.Shapes.{frame_size, object_at, objects_size}
 use Rattle.flat_frames.proofs.Shapes.{pieces_of}
-use Rattle.instruction_items.specs.Items.{Setting}
+use Rattle.instruction_items.specs.Items.{ItemSetting}
 use Rattle.function_shapes.specs.Shapes.{shape_of}
-use Rattle.frame_emitter.specs.declared.layout.Layout.{Layout}
+use Rattle.frame_emitter.specs.declared.layout.FrameLayout.{FrameLayout}
 use Rattle.frame_emitter.specs.Settings.{place_in, near_insn, near_blocks, with_blocks, setting_of, IsFit}
 use Rattle.frame_emitter.specs.Layouts.{setting_in}
 use Rattle.frame_emitter.specs.Moves.{IsMove}
@@ -144,12 +144,12 @@ global-within end (q ∷ p ∷ ps) (suc k) o h e =
 -- ---- instructions
 
 -- what is known of an instruction of the function
-abbrev pub IsKnown : (first count : ℕ) → List DataObject → List Object → TempInsn → Type 0
+abbrev pub IsKnown : (first count : ℕ) → List DataObject → List MemoryLocal → TempInsn → Type 0
 IsKnown first count globals objects x = CallsBelow first x × NamesObjects globals objects x × GoesToBlocks targets_of count x
 
-module _ (p : Plan) (globals : List DataObject) (objects : List Object) (first count : ℕ) (labels : first + count < 2 ^ 32) (laid : LieFrom 0 globals) (data_small : data_end globals ≤ 2 ^ 26)
+module _ (p : Plan) (globals : List DataObject) (objects : List MemoryLocal) (first count : ℕ) (labels : first + count < 2 ^ 32) (laid : LieFrom 0 globals) (data_small : data_end globals ≤ 2 ^ 26)
     (sizes : p.function.sizes ≡ map (λ o. o.size) objects) (small : frame_size (shape_of p) ≤ 2 ^ 29) where
-  abbrev pub g : Setting
+  abbrev pub g : ItemSetting
   g = setting_of p globals first
 
   global-fit : (o : Option DataObject) (k plus : ℕ) → slice_get globals k ≡ o → IsTrue (global_reaches plus o) → g.global_at k + plus < 2 ^ 32
@@ -160,7 +160,7 @@ module _ (p : Plan) (globals : List DataObject) (objects : List Object) (first c
       let at : g.global_at k ≡ o.offset = ap place_in e in
       omega (arith, fits, low, at, data_small)
 
-  local-fit : (o : Option Object) (k plus : ℕ) → slice_get objects k ≡ o → IsTrue (local_reaches plus o) → object_at g.shape k + plus < 2147450880
+  local-fit : (o : Option MemoryLocal) (k plus : ℕ) → slice_get objects k ≡ o → IsTrue (local_reaches plus o) → object_at g.shape k + plus < 2147450880
   local-fit None k plus e h = let clash : ⊥ = cc in absurd clash
   local-fit (Some o) k plus e h =
       let fits = true-le plus o.size h in
@@ -169,7 +169,7 @@ module _ (p : Plan) (globals : List DataObject) (objects : List Object) (first c
       let within = ((pieces_of (shape_of p) 0 0).objects k o.size made).within in
       omega (arith, fits, within, small)
 
-  place-fit : (place : Place) (d plus : ℕ) → IsTrue (place_reaches globals objects plus place) → IsFit g (i.ObjectAddress d place plus)
+  place-fit : (place : VmObject) (d plus : ℕ) → IsTrue (place_reaches globals objects plus place) → IsFit g (i.ObjectAddress d place plus)
   place-fit (Global k) d plus h = global-fit (slice_get globals k) k plus refl h
   place-fit (Local k) d plus h = local-fit (slice_get objects k) k plus refl h
 
@@ -255,7 +255,7 @@ all_go blocks h = all-map (EndsLate targets_of flows_on_of) (λ insns. All (Goes
 frame-small : (p : Plan) → widest_call p.function.blocks ≤ 2 ^ 24 → p.temps ≤ 2 ^ 24 → objects_size p.function.sizes ≤ 2 ^ 26 → frame_size (shape_of p) ≤ 2 ^ 29
 frame-small p wide temps objects = omega (arith, wide, temps, objects)
 
-pub sound_of : (a : Allocation) (globals : List DataObject) (first : ℕ) (l : Layout) → HasLists (plan_of a)
+pub sound_of : (a : Allocation) (globals : List DataObject) (first : ℕ) (l : FrameLayout) → HasLists (plan_of a)
     → AllInsns (CallsBelow first) a.func.blocks → first + length a.func.blocks < 2 ^ 32 - 1 → LieFrom 0 globals → data_end globals ≤ 2 ^ 26
     → AllInsns (NamesObjects globals a.func.objects) a.func.blocks → objects_size (map (λ o. o.size) a.func.objects) ≤ 2 ^ 26 → a.func.temps ≤ 2 ^ 24 → widest_call a.func.blocks ≤ 2 ^ 24
     → l.allocation.now ≡ a → l.blocks.now ≡ near_blocks a.func.blocks → l.first_label ≡ first

@@ -11,8 +11,8 @@ ghost use Rattle.frame_layout.specs.model.Sound.{IsSound, GoesNext};
 use crate::edges::EdgePlaces;
 use crate::kept::{end_transfers, jump_transfers, registers_at, top_transfers, transfers_at};
 use frame_emitter::insns::insn_items;
-use frame_emitter::items::Items;
-use frame_emitter::layout::Layout;
+use frame_emitter::items::FrameItems;
+use frame_emitter::layout::FrameLayout;
 use frame_emitter::transfers::transfers;
 use std::alloc::AllocError;
 use temp_ir::insn::TempInsn;
@@ -35,8 +35,8 @@ fn insn_at(insns: &[TempInsn], at: usize) -> TempInsn
 
 /// An instruction of a block with the transfers before it.
 fn point_items(
-    items: &mut Items,
-    layout: &Layout<'_>,
+    items: &mut FrameItems,
+    layout: &FrameLayout<'_>,
     edges: &EdgePlaces<'_>,
     point: Point,
     insns: &[TempInsn],
@@ -66,8 +66,8 @@ fn point_items(
 /// The instructions of a block, of which the first has a number.
 #[tactic(auto, using(crate::proofs::Texts::first_small, crate::proofs::Texts::fit_at, crate::proofs::Texts::goes_at))]
 fn insns_items(
-    items: &mut Items,
-    layout: &Layout<'_>,
+    items: &mut FrameItems,
+    layout: &FrameLayout<'_>,
     edges: &EdgePlaces<'_>,
     block: u32,
     first: usize,
@@ -91,8 +91,8 @@ fn insns_items(
 
 /// A block with its label.
 fn block_items(
-    items: &mut Items,
-    layout: &Layout<'_>,
+    items: &mut FrameItems,
+    layout: &FrameLayout<'_>,
     edges: &EdgePlaces<'_>,
     block: u32,
     first: usize,
@@ -117,8 +117,8 @@ fn block_items(
 /// All blocks, which have so many instructions. It fails only where memory is short.
 #[tactic(auto, using(crate::proofs::Texts::blocks_more, crate::proofs::Texts::count_before))]
 pub(crate) fn blocks_items(
-    items: &mut Items,
-    layout: &Layout<'_>,
+    items: &mut FrameItems,
+    layout: &FrameLayout<'_>,
     edges: &EdgePlaces<'_>,
     count: usize,
 ) -> Result<(), AllocError>

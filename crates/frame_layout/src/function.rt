@@ -22,11 +22,11 @@ use crate::shape::{object_places, saved_registers, widest_call};
 use alloc_model::allocation::Allocation;
 use alpha_items::final_fn::FinalFn;
 use alpha_items::item::AsmItem;
-use alpha_items::name::Name;
+use alpha_items::name::FunctionName;
 use c_tree::Seq;
 use data_object::{DataObject, MOST_DATA};
-use frame_emitter::items::Items;
-use frame_emitter::layout::Layout;
+use frame_emitter::items::FrameItems;
+use frame_emitter::layout::FrameLayout;
 use frame_emitter::parts::{entry_part, exit_items};
 use std::alloc::{AllocError, Global};
 use temp_ir::insn::TempInsn;
@@ -38,7 +38,7 @@ fn layout_of<'a>(
     blocks: &'a [Seq<TempInsn>],
     globals: &'a [DataObject],
     first_label: u32,
-) -> Result<Layout<'a>, AllocError>
+) -> Result<FrameLayout<'a>, AllocError>
     requires temps { a.now.func.temps ≤ 2 ^ 24 }
     requires arguments { widest_call blocks.now ≤ 2 ^ 24 }
     requires objects { objects_size (map (λ o. o.size) a.now.func.objects) ≤ 2 ^ 26 }
@@ -55,7 +55,7 @@ fn layout_of<'a>(
     let places = object_places(alloc, a.func.objects.as_slice(), start)?;
     let saves = saved_registers(alloc, a)?;
     let size = (places.end + 15) / 16 * 16;
-    Ok(Layout {
+    Ok(FrameLayout {
         allocation: a,
         blocks,
         globals,
@@ -82,7 +82,7 @@ fn insn_count(blocks: &[Seq<TempInsn>]) -> usize
 }
 
 /// The items of a function behind its name.
-fn items_of(alloc: Global, layout: &Layout<'_>, number: u32) -> Result<Items, AllocError>
+fn items_of(alloc: Global, layout: &FrameLayout<'_>, number: u32) -> Result<FrameItems, AllocError>
     requires sound { IsSound layout.now }
     requires number { 256 + number < 2 ^ 32 }
     ensures { IfOk result (λ items.
@@ -90,7 +90,7 @@ fn items_of(alloc: Global, layout: &Layout<'_>, number: u32) -> Result<Items, Al
 {
     let edges = EdgePlaces::new(alloc, layout.blocks, layout.allocation.edges.as_slice())?;
     let count = insn_count(layout.blocks);
-    let mut items = Items::new(alloc);
+    let mut items = FrameItems::new(alloc);
     exit_items(&mut items, layout)?;
     blocks_items(&mut items, layout, &edges, count)?;
     entry_part(&mut items, layout)?;
@@ -130,9 +130,9 @@ pub fn finalise(
     let layout = layout_of(alloc, a, blocks.as_slice(), globals, first_label)?;
     let mut items = items_of(alloc, &layout, number)?;
     let name = a.func.name.as_slice();
-    items.put(AsmItem::Name(Name::from_slice(alloc, name)?))?;
+    items.put(AsmItem::Name(FunctionName::from_slice(alloc, name)?))?;
     Ok(FinalFn {
-        name: Name::from_slice(alloc, name)?,
+        name: FunctionName::from_slice(alloc, name)?,
         items: items.into_vec(),
         frame: layout.size,
         labels: blocks.len() as u32 + 1,

@@ -9,7 +9,7 @@ ghost use Rattle.frame_layout.specs.model.Sound.{IsSound, GoesNext};
 
 use crate::edges::{EdgePlaces, ends_with_branch};
 use alloc_model::allocation::Transfer;
-use frame_emitter::layout::Layout;
+use frame_emitter::layout::FrameLayout;
 use pass_core::Insn;
 use temp_ir::insn::TempInsn;
 
@@ -25,7 +25,7 @@ fn flows_out(insns: &[TempInsn]) -> bool
 
 /// The transfers before the instruction with a number.
 #[tactic(auto, using(crate::proofs::Sound::moves_at))]
-pub(crate) fn transfers_at<'a>(layout: &Layout<'a>, number: usize) -> &'a [Transfer]
+pub(crate) fn transfers_at<'a>(layout: &FrameLayout<'a>, number: usize) -> &'a [Transfer]
     requires { IsSound layout.now }
     ensures is { result.now ≡ slice_index_or layout.now.allocation.now.at number [] }
     ensures moves { All (IsMove layout.now.allocation.now.func.temps) result.now }
@@ -38,7 +38,7 @@ pub(crate) fn transfers_at<'a>(layout: &Layout<'a>, number: usize) -> &'a [Trans
 
 /// The registers of its temporaries.
 #[tactic(auto, using(crate::proofs::Sound::registers_at))]
-pub(crate) fn registers_at<'a>(layout: &Layout<'a>, number: usize) -> &'a [u8]
+pub(crate) fn registers_at<'a>(layout: &FrameLayout<'a>, number: usize) -> &'a [u8]
     requires { IsSound layout.now }
     ensures is { result.now ≡ slice_index_or layout.now.allocation.now.regs number [] }
     ensures registers { All (λ r. r < 32) result.now }
@@ -52,7 +52,7 @@ pub(crate) fn registers_at<'a>(layout: &Layout<'a>, number: usize) -> &'a [u8]
 /// The transfers at the top of a block.
 #[tactic(auto, using(crate::proofs::Sound::top_of, crate::proofs::Sound::code_moves))]
 pub(crate) fn top_transfers<'a>(
-    layout: &Layout<'_>,
+    layout: &FrameLayout<'_>,
     edges: &'a EdgePlaces<'_>,
     block: u32,
 ) -> &'a [Transfer]
@@ -69,7 +69,7 @@ pub(crate) fn top_transfers<'a>(
 /// The transfers at the end of a block.
 #[tactic(auto, using(crate::proofs::Sound::end_stops, crate::proofs::Sound::end_branches, crate::proofs::Sound::end_flows, crate::proofs::Sound::code_moves))]
 pub(crate) fn end_transfers<'a>(
-    layout: &Layout<'_>,
+    layout: &FrameLayout<'_>,
     edges: &'a EdgePlaces<'_>,
     block: u32,
     insns: &[TempInsn],
@@ -93,7 +93,7 @@ pub(crate) fn end_transfers<'a>(
 /// The transfers of a jump.
 #[tactic(auto, using(crate::proofs::Sound::jump_is, crate::proofs::Sound::code_moves))]
 pub(crate) fn jump_transfers<'a>(
-    layout: &Layout<'_>,
+    layout: &FrameLayout<'_>,
     edges: &'a EdgePlaces<'_>,
     block: u32,
     insns: &[TempInsn],

@@ -12,7 +12,7 @@ use alloc_model::allocation::Allocation;
 use c_tree::Seq;
 use data_object::next_place;
 use std::alloc::{AllocError, Global};
-use suifvm_ir::function::Object;
+use suifvm_ir::function::MemoryLocal;
 use temp_ir::insn::TempInsn;
 
 /// The arguments of a call; of other instructions none.
@@ -60,7 +60,7 @@ pub(crate) struct ObjectPlaces {
 #[tactic(auto, using(crate::proofs::Objects::end_next, crate::proofs::Objects::places_next))]
 pub(crate) fn object_places(
     alloc: Global,
-    objects: &[Object],
+    objects: &[MemoryLocal],
     start: u64,
 ) -> Result<ObjectPlaces, AllocError>
     requires start { start ≤ 2 ^ 30 }

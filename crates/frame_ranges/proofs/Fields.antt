@@ -10,10 +10,10 @@ use Rattle.temp_ir.specs.declared.operation.ExtendOp.{ExtendOp}
 use Rattle.temp_ir.specs.declared.operation.ExtendOp.TheVariants.{Sextb, Sextw}
 use Rattle.temp_ir.specs.declared.insn.FixedRegister.{FixedRegister}
 use Rattle.temp_ir.specs.declared.insn.FixedRegister.TheVariants as r
-use Rattle.temp_ir.specs.declared.insn.Source.{Source}
-use Rattle.temp_ir.specs.declared.insn.Source.TheVariants as source
-use Rattle.temp_ir.specs.declared.insn.Operand.{Operand}
-use Rattle.temp_ir.specs.declared.insn.Operand.TheVariants as operand
+use Rattle.temp_ir.specs.declared.insn.FirstOperand.{FirstOperand}
+use Rattle.temp_ir.specs.declared.insn.FirstOperand.TheVariants as source
+use Rattle.temp_ir.specs.declared.insn.SecondOperand.{SecondOperand}
+use Rattle.temp_ir.specs.declared.insn.SecondOperand.TheVariants as operand
 use Rattle.temp_ir.specs.Fixed.{register_number}
 use Rattle.temp_ir.specs.Operations.{operate_op, extend_op}
 use Rattle.alloc_model.specs.Faithful.{given_registers, IsGiven, IsGivenOrScratch}
@@ -36,11 +36,11 @@ stated_small [] k h = omega arith
 stated_small (r ∷ rs) zero h = given_small r (All-head IsGiven r rs h)
 stated_small (r ∷ rs) (suc k) h = stated_small rs k (All-tail IsGiven r rs h)
 
-pub source_small : (s : Source) (rs : List ℕ) → All IsGiven rs → source_register s rs < 32
+pub source_small : (s : FirstOperand) (rs : List ℕ) → All IsGiven rs → source_register s rs < 32
 source_small source.Zero rs h = omega arith
 source_small (source.Temp t) rs h = stated_small rs 0 h
 
-pub operand_small : (x : Operand) (rs : List ℕ) (k : ℕ) → All IsGiven rs → IsSmallOperand x → IsOperand (operand_at x rs k)
+pub operand_small : (x : SecondOperand) (rs : List ℕ) (k : ℕ) → All IsGiven rs → IsSmallOperand x → IsOperand (operand_at x rs k)
 operand_small (operand.Temp t) rs k h small = stated_small rs k h
 operand_small (operand.Literal n) rs k h small = small
 

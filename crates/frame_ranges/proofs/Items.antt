@@ -15,7 +15,7 @@ use Rattle.alpha_items.specs.declared.item.AsmItem.{AsmItem}
 use Rattle.alpha_items.specs.declared.item.AsmItem.TheVariants.{Label, Plain}
 use Rattle.alpha_items.specs.Items.{IsItem}
 use Rattle.alpha_items.specs.Words.{high_of}
-use Rattle.suifvm_ir.specs.declared.insn.Place.TheVariants.{Global, Local}
+use Rattle.suifvm_ir.specs.declared.insn.VmObject.TheVariants.{Global, Local}
 use Rattle.suifvm_ir.specs.Functions.{AllInsns}
 use Rattle.temp_ir.specs.declared.operation.Service.{Service}
 use Rattle.temp_ir.specs.declared.operation.Service.TheVariants.{End, PutByte, GetByte, Trap}
@@ -29,11 +29,11 @@ use Rattle.alloc_model.specs.Effect.{behind}
 use Rattle.alloc_model.specs.Places.{Plan, code_in, edge_transfers, transfers_at, registers_at, linear_number}
 use Rattle.alloc_model.specs.Temporaries.{flows_out}
 use Rattle.alloc_model.specs.Faithful.{IsGiven, IsGivenOrScratch, IsTransfer}
-use Rattle.flat_frames.specs.Shapes.{Shape, frame_size, return_at, saved_at, slot_at, argument_at, object_at}
+use Rattle.flat_frames.specs.Shapes.{FrameShape, frame_size, return_at, saved_at, slot_at, argument_at, object_at}
 use Rattle.frame_accesses.specs.Items.{near_size, frame_item, frame_load, frame_store, register_move}
 use Rattle.frame_transfers.specs.Items.{transfer_items, items_of_transfers}
 use Rattle.call_parts.specs.Items.{high_below, lower_stack, raise_stack, save_if, save_registers, restore_if, restore_registers, entry_part, exit_part}
-use Rattle.instruction_items.specs.Items.{Setting, function_label, service_function, insn_items, source_register}
+use Rattle.instruction_items.specs.Items.{ItemSetting, function_label, service_function, insn_items, source_register}
 use Rattle.function_items.specs.Items.{ends_with_branch, jump_transfers, top_transfers, end_transfers, point_items, insns_items, block_items, blocks_items, exit_items, function_items}
 use Rattle.function_shapes.specs.Shapes.{shape_of}
 use Rattle.frame_ranges.specs.Ranges.{IsInRange, HasRegisters}
@@ -73,7 +73,7 @@ service-lawful PutByte = refl
 service-lawful GetByte = refl
 service-lawful Trap = refl
 
-module _ (a : Plan) (g : Setting) (size : ℕ) (registers : HasRegisters a) (shape : g.shape ≡ shape_of a) (small : frame_size g.shape ≤ 2 ^ 29) where
+module _ (a : Plan) (g : ItemSetting) (size : ℕ) (registers : HasRegisters a) (shape : g.shape ≡ shape_of a) (small : frame_size g.shape ≤ 2 ^ 29) where
   abbrev pub P : AsmItem → Type 0
   P i = IsItem size i
 
@@ -100,7 +100,7 @@ module _ (a : Plan) (g : Setting) (size : ℕ) (registers : HasRegisters a) (sha
   move-in from to rest f t h = move-by (from == to) from to rest f t refl h
 
   slot-near : (t : ℕ) → t < a.temps → slot_at g.shape t < 2147450880
-  slot-near t lt = let e : g.shape.temps ≡ a.temps = ap (λ (s : Shape). s.temps) shape in omega (arith, small, lt, e)
+  slot-near t lt = let e : g.shape.temps ≡ a.temps = ap (λ (s : FrameShape). s.temps) shape in omega (arith, small, lt, e)
 
   transfer-in : (x : Transfer) (rest : List AsmItem) → IsMove a.temps x → All P rest → All P (transfer_items g.shape x ++ rest)
   transfer-in (Store t r) rest m h = frame-in Stq r (slot_at g.shape t) rest m.1 (slot-near t m.0) h
@@ -252,6 +252,6 @@ module _ (a : Plan) (g : Setting) (size : ℕ) (registers : HasRegisters a) (sha
       (blocks-in 0 a.function.blocks (exit_items g rest) k
       (put (Label g.exit_label) (exit_part g.shape g.shape.saves rest) tt (exit-in g.shape.saves rest h))))
 
-pub function_in_range : (a : Plan) (g : Setting) (number size : ℕ) (rest : List AsmItem) → HasRegisters a → g.shape ≡ shape_of a → frame_size g.shape ≤ 2 ^ 29
+pub function_in_range : (a : Plan) (g : ItemSetting) (number size : ℕ) (rest : List AsmItem) → HasRegisters a → g.shape ≡ shape_of a → frame_size g.shape ≤ 2 ^ 29
     → AllInsns (IsInRange g size) a.function.blocks → All (IsItem size) rest → All (IsItem size) (function_items a g number rest)
 function_in_range a g number size rest registers shape small k h = function-in a g size registers shape small number rest k h

@@ -7,9 +7,9 @@ use Rattle.std.proofs.lemmas.Option.{slice_get-map}
 use Rattle.std.proofs.lemmas.List.Elements.{All-tail}
 use Rattle.data_object.specs.declared.DataObject.{DataObject}
 use Rattle.data_object.specs.Layout.{end_of, data_end, LieFrom}
-use Rattle.suifvm_ir.specs.declared.function.Object.{Object}
-use Rattle.suifvm_ir.specs.declared.insn.Place.{Place}
-use Rattle.suifvm_ir.specs.declared.insn.Place.TheVariants.{Global, Local}
+use Rattle.suifvm_ir.specs.declared.function.MemoryLocal.{MemoryLocal}
+use Rattle.suifvm_ir.specs.declared.insn.VmObject.{VmObject}
+use Rattle.suifvm_ir.specs.declared.insn.VmObject.TheVariants.{Global, Local}
 use Rattle.suifvm_ir.specs.Functions.{AllInsns}
 use Rattle.suifvm_ir.specs.Programs.{global_reaches, local_reaches, place_reaches}
 use Rattle.temp_ir.specs.declared.insn.TempInsn.{TempInsn}
@@ -18,7 +18,7 @@ use Rattle.alloc_model.specs.declared.allocation.Allocation.{Allocation}
 use Rattle.alloc_model.specs.Places.{Plan, plan_of}
 use Rattle.flat_frames.specs.Shapes.{frame_size, object_at}
 use Rattle.flat_frames.proofs.Shapes.{pieces_of}
-use Rattle.instruction_items.specs.Items.{Setting}
+use Rattle.instruction_items.specs.Items.{ItemSetting}
 use Rattle.function_shapes.specs.Shapes.{shape_of}
 use Rattle.frame_emitter.specs.Settings.{place_in, near_insn, near_blocks, near_plan, setting_of}
 use Rattle.frame_layout.specs.Names.{NamesObjects}
@@ -58,7 +58,7 @@ module _ (a : Allocation) (globals : List DataObject) (first : ℕ) (laid : LieF
   abbrev pub p : Plan
   p = near_plan (plan_of a)
 
-  abbrev pub g : Setting
+  abbrev pub g : ItemSetting
   g = setting_of p globals first
 
   global-fits : (o : Option DataObject) (k plus : ℕ) → slice_get globals k ≡ o → IsTrue (global_reaches plus o) → g.global_at k + plus ≤ data_end globals
@@ -69,7 +69,7 @@ module _ (a : Allocation) (globals : List DataObject) (first : ℕ) (laid : LieF
       let at : g.global_at k ≡ o.offset = ap place_in e in
       omega (arith, fits, low, at)
 
-  local-fits : (o : Option Object) (k plus : ℕ) → slice_get a.func.objects k ≡ o → IsTrue (local_reaches plus o) → object_at g.shape k + plus < 2147450880
+  local-fits : (o : Option MemoryLocal) (k plus : ℕ) → slice_get a.func.objects k ≡ o → IsTrue (local_reaches plus o) → object_at g.shape k + plus < 2147450880
   local-fits None k plus e h = let clash : ⊥ = cc in absurd clash
   local-fits (Some o) k plus e h =
       let fits = leb-true plus o.size h in
@@ -77,7 +77,7 @@ module _ (a : Allocation) (globals : List DataObject) (first : ℕ) (laid : LieF
       let within = ((pieces_of (shape_of p) 0 0).objects k o.size made).within in
       omega (arith, fits, within, small)
 
-  place-fits : (place : Place) (d plus : ℕ) → IsTrue (place_reaches globals a.func.objects plus place) → IsInRange g (data_end globals) (i.ObjectAddress d place plus)
+  place-fits : (place : VmObject) (d plus : ℕ) → IsTrue (place_reaches globals a.func.objects plus place) → IsInRange g (data_end globals) (i.ObjectAddress d place plus)
   place-fits (Global k) d plus h = global-fits (slice_get globals k) k plus refl h
   place-fits (Local k) d plus h = local-fits (slice_get a.func.objects k) k plus refl h
 

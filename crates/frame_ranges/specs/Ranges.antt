@@ -5,7 +5,7 @@ use Rattle.alpha_items.specs.declared.item.AsmItem.{AsmItem}
 use Rattle.alpha_items.specs.Items.{IsItem}
 use Rattle.data_object.specs.declared.DataObject.{DataObject}
 use Rattle.data_object.specs.Layout.{LieFrom, data_end}
-use Rattle.suifvm_ir.specs.declared.insn.Place.TheVariants.{Global, Local}
+use Rattle.suifvm_ir.specs.declared.insn.VmObject.TheVariants.{Global, Local}
 use Rattle.suifvm_ir.specs.Functions.{AllInsns}
 use Rattle.temp_ir.specs.declared.insn.TempInsn.{TempInsn}
 use Rattle.temp_ir.specs.declared.insn.TempInsn.TheVariants as i
@@ -13,7 +13,7 @@ use Rattle.alloc_model.specs.declared.allocation.Allocation.{Allocation}
 use Rattle.alloc_model.specs.Places.{Plan, plan_of}
 use Rattle.alloc_model.specs.Faithful.{IsGiven, IsGivenOrScratch, IsTransfer}
 use Rattle.flat_frames.specs.Shapes.{frame_size, object_at}
-use Rattle.instruction_items.specs.Items.{Setting}
+use Rattle.instruction_items.specs.Items.{ItemSetting}
 use Rattle.instruction_items.specs.Laws.{IsSmallOperand}
 use Rattle.function_items.specs.Items.{function_items}
 use Rattle.function_shapes.specs.Shapes.{shape_of}
@@ -21,7 +21,7 @@ use Rattle.frame_emitter.specs.Settings.{most_arguments, near_blocks, near_plan,
 use Rattle.frame_layout.specs.Names.{NamesObjects}
 
 -- the numbers of an instruction fit, beside data of so many bytes
-abbrev pub IsInRange : Setting → (size : ℕ) → TempInsn → Type 0
+abbrev pub IsInRange : ItemSetting → (size : ℕ) → TempInsn → Type 0
 IsInRange g size (i.Address op destination base plus) = IsDisplacement plus
 IsInRange g size (i.ObjectAddress destination (Global k) plus) = g.global_at k + plus ≤ size
 IsInRange g size (i.ObjectAddress destination (Local k) plus) = object_at g.shape k + plus < 2147450880
@@ -42,7 +42,7 @@ pub record HasRegisters (a : Plan) : Type 0 where
 
 abbrev pub ItemsAreInRange : Type 0
 ItemsAreInRange =
-    (a : Plan) (g : Setting) (number size : ℕ) (rest : List AsmItem) → HasRegisters a → g.shape ≡ shape_of a →
+    (a : Plan) (g : ItemSetting) (number size : ℕ) (rest : List AsmItem) → HasRegisters a → g.shape ≡ shape_of a →
     frame_size g.shape ≤ 2 ^ 29 → AllInsns (IsInRange g size) a.function.blocks → All (IsItem size) rest →
     All (IsItem size) (function_items a g number rest)
 

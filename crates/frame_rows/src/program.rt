@@ -12,7 +12,7 @@ use std::alloc::Global;
 use suifvm_ir::function::Func;
 use temp_checks::is_settled;
 use temp_ir::insn::TempInsn;
-use temp_texts::reader::Reader;
+use temp_texts::reader::TempReader;
 
 /// The label of the first block of the first function. The functions themselves have those from 256 on.
 const FIRST_LABEL: u32 = 300;
@@ -69,7 +69,7 @@ fn final_of(
 
 /// The functions of a text as items, each with labels of its own.
 pub fn program_of(alloc: Global, given: &str) -> Result<Program> {
-    let reader = Reader::of(alloc, given)?;
+    let reader = TempReader::of(alloc, given)?;
     let globals = globals_of(alloc, given)?;
     let mut finals = Vec::new(alloc);
     let mut number = 0u32;

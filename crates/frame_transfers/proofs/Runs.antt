@@ -17,17 +17,17 @@ use Rattle.flat_memory.specs.Bytes.{Bytes}
 use Rattle.flat_memory.specs.Relation.{Extents, Owners, OfFrame, Nobody, SlotPiece}
 use Rattle.flat_memory.specs.Machine.{memory_bytes, is_reached, IsReached}
 use Rattle.flat_operations.specs.Contents.{ContentIs}
-use Rattle.flat_frames.specs.Shapes.{Shape, slot_at}
+use Rattle.flat_frames.specs.Shapes.{FrameShape, slot_at}
 use Rattle.flat_frames.specs.Frames.{word_in, put_word, FrameAndMemory, with_known, KeepsUnwritten}
 use Rattle.flat_frames.proofs.Shapes.{pieces_of}
 use Rattle.flat_frames.proofs.Frames.{unwritten-put, own-written, slot-word, slots_are_put, registers_are_put}
 use Rattle.frame_accesses.specs.Laws.{IsOffset, IsValueRegister}
 use Rattle.frame_accesses.proofs.Runs.{frame_loads, frame_stores, register_moves, stays}
 use Rattle.frame_transfers.specs.Items.{transfer_items, items_of_transfers}
-use Rattle.frame_transfers.specs.Laws.{Call, IsCall, StandsFor, KnowsValues, known_after, known_behind, CanTransfer, CanTransferAll, IsWritable, IsKept, HasDone}
+use Rattle.frame_transfers.specs.Laws.{Call, FitsTheStack, StandsFor, KnowsValues, known_after, known_behind, CanTransfer, CanTransferAll, IsWritable, IsKept, HasDone}
 
 -- a register more holds a content
-pub frame-with_register : (xs : Extents) (memory : Memory) (owner : Owners) (m : Bytes) (sp depth own : ℕ) (s : Shape) (store : Places) (r : ℕ) (c : Content) → FrameAndMemory xs memory owner m sp depth own s store → FrameAndMemory xs memory owner m sp depth own s (put place_eq (Reg r) c store)
+pub frame-with_register : (xs : Extents) (memory : Memory) (owner : Owners) (m : Bytes) (sp depth own : ℕ) (s : FrameShape) (store : Places) (r : ℕ) (c : Content) → FrameAndMemory xs memory owner m sp depth own s store → FrameAndMemory xs memory owner m sp depth own s (put place_eq (Reg r) c store)
 frame-with_register xs memory owner m sp depth own s store r c f = record {
   frame = record {
     aligned = f.frame.aligned;
@@ -50,7 +50,7 @@ pub kept-same : (p : Program) (c : Call) (s t : State) → ((y : ℕ) → is_rea
 kept-same p c s t reach same registers = record { reach = reach; bytes = λ y e. ap (λ (m : Bytes). m y) same; registers = registers }
 
 -- a register that is not saved is none that is written
-pub unsaved-other : (s : Shape) (r q : ℕ) → IsWritable s r → 9 ≤ q → q < 16 → s.saves q ≡ false → q ≢ r
+pub unsaved-other : (s : FrameShape) (r q : ℕ) → IsWritable s r → 9 ≤ q → q < 16 → s.saves q ≡ false → q ≢ r
 unsaved-other s r q w from to e same = clash (sym (ap s.saves same ∙ w.saved (subst (λ k. 9 ≤ k) same from) (subst (λ k. k < 16) same to)) ∙ e)
   where
     clash : true ≡ false → ⊥
@@ -59,7 +59,7 @@ unsaved-other s r q w from to e same = clash (sym (ap s.saves same ∙ w.saved (
 pub kept-through : (p : Program) (c : Call) (s t u : State) → IsKept p c s t → IsKept p c t u → IsKept p c s u
 kept-through p c s t u a b = record { reach = λ y. b.reach y ∙ a.reach y; bytes = λ y e. b.bytes y e ∙ a.bytes y e; registers = λ q from to e. b.registers q from to e ∙ a.registers q from to e }
 
-module _ (p : Program) (there : Labels) (rest : List AsmItem) (end : ℕ) (c : Call) (memory : Memory) (call : IsCall c) where
+module _ (p : Program) (there : Labels) (rest : List AsmItem) (end : ℕ) (c : Call) (memory : Memory) (call : FitsTheStack c) where
   -- the slot of a temporary may be accessed
   record SlotReached (t : ℕ) (s : State) : Type 0 where
     offset : IsOffset s (slot_at c.shape t)
@@ -162,7 +162,7 @@ module _ (p : Program) (there : Labels) (rest : List AsmItem) (end : ℕ) (c : C
       }
 
 -- several transfers
-pub transfers_are_done : (p : Program) (there : Labels) (rest : List AsmItem) (end : ℕ) (c : Call) (memory : Memory) → IsCall c → (xs : List Transfer) (known : ℕ → Bool) (store : Places) (s : State) → KnowsValues known → CanTransferAll c.shape known xs → StandsFor p there (items_of_transfers c.shape xs rest) end c memory known store s → HasDone p there rest end c memory (known_behind xs known) (do_all xs store) s
+pub transfers_are_done : (p : Program) (there : Labels) (rest : List AsmItem) (end : ℕ) (c : Call) (memory : Memory) → FitsTheStack c → (xs : List Transfer) (known : ℕ → Bool) (store : Places) (s : State) → KnowsValues known → CanTransferAll c.shape known xs → StandsFor p there (items_of_transfers c.shape xs rest) end c memory known store s → HasDone p there rest end c memory (known_behind xs known) (do_all xs store) s
 transfers_are_done p there rest end c memory call [] known store s knows can h =
     record { to = s; comes = stays p s; stands = h; knows = knows; input = refl; output = refl; kept = kept-same p c s s (λ y. refl) refl (λ q from to e. refl) }
 transfers_are_done p there rest end c memory call (x ∷ xs) known store s knows can h =

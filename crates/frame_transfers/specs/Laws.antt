@@ -11,7 +11,7 @@ use Rattle.alloc_model.specs.declared.allocation.Transfer.TheVariants.{Store, Lo
 use Rattle.alloc_model.specs.Places.{Places, do_all}
 use Rattle.flat_memory.specs.Relation.{Extents, Owners, Nobody}
 use Rattle.flat_memory.specs.Machine.{memory_bytes, is_reached}
-use Rattle.flat_frames.specs.Shapes.{Shape, frame_size}
+use Rattle.flat_frames.specs.Shapes.{FrameShape, frame_size}
 use Rattle.flat_frames.specs.Frames.{FrameAndMemory, RegistersAre, with_known, KeepsUnwritten}
 use Rattle.frame_accesses.specs.Laws.{IsAt, IsValueRegister}
 use Rattle.frame_transfers.specs.Items.{items_of_transfers}
@@ -24,10 +24,10 @@ pub record Call : Type 0 where
   pub sp : ℕ
   pub depth : ℕ
   pub own : ℕ
-  pub shape : Shape
+  pub shape : FrameShape
 
 -- a frame that the stack may hold
-pub record IsCall (c : Call) : Type 0 where
+pub record FitsTheStack (c : Call) : Type 0 where
   pub small : c.sp + frame_size c.shape < 2 ^ 64
   pub near : frame_size c.shape < 2147450880
 
@@ -46,7 +46,7 @@ abbrev pub KnowsValues : (known : ℕ → Bool) → Type 0
 KnowsValues known = (r : ℕ) → known r ≡ true → IsValueRegister r
 
 -- a register that a function may write: it saves the one that its caller keeps there
-pub record IsWritable (s : Shape) (r : ℕ) : Type 0 where
+pub record IsWritable (s : FrameShape) (r : ℕ) : Type 0 where
   pub value : IsValueRegister r
   pub saved : 9 ≤ r → r < 16 → s.saves r ≡ true
 
@@ -61,12 +61,12 @@ known_behind [] known = known
 known_behind (x ∷ xs) known = known_behind xs (known_after x known)
 
 -- what is read is known, and what is named is there
-abbrev pub CanTransfer : Shape → (known : ℕ → Bool) → Transfer → Type 0
+abbrev pub CanTransfer : FrameShape → (known : ℕ → Bool) → Transfer → Type 0
 CanTransfer s known (Store t r) = (t < s.temps) × (known r ≡ true)
 CanTransfer s known (Load t r) = (t < s.temps) × IsWritable s r
 CanTransfer s known (Shift t from to) = (known from ≡ true) × IsWritable s to
 
-abbrev pub CanTransferAll : Shape → (known : ℕ → Bool) → List Transfer → Type 0
+abbrev pub CanTransferAll : FrameShape → (known : ℕ → Bool) → List Transfer → Type 0
 CanTransferAll s known [] = Unit {0}
 CanTransferAll s known (x ∷ xs) = CanTransfer s known x × CanTransferAll s (known_after x known) xs
 
@@ -90,7 +90,7 @@ pub record HasDone (p : Program) (there : Labels) (rest : List AsmItem) (end : �
 
 abbrev pub TransfersAreDone : Type 0
 TransfersAreDone =
-    (p : Program) (there : Labels) (rest : List AsmItem) (end : ℕ) (c : Call) (memory : Memory) → IsCall c →
+    (p : Program) (there : Labels) (rest : List AsmItem) (end : ℕ) (c : Call) (memory : Memory) → FitsTheStack c →
     (xs : List Transfer) (known : ℕ → Bool) (store : Places) (s : State) → KnowsValues known →
     CanTransferAll c.shape known xs →
     StandsFor p there (items_of_transfers c.shape xs rest) end c memory known store s →

@@ -11,7 +11,7 @@ use Rattle.temp_ir.specs.Cost.{is_call, call_count}
 use Rattle.alloc_model.specs.Places.{Plan, transfers_at, registers_at}
 use Rattle.alloc_model.specs.Faithful.{HasLists}
 use Rattle.alloc_rules.specs.Lean.{most_before, IsLean}
-use Rattle.instruction_items.specs.Items.{Setting, insn_items}
+use Rattle.instruction_items.specs.Items.{ItemSetting, insn_items}
 use Rattle.function_items.specs.Items.{jump_transfers, top_transfers, end_transfers, point_items, insns_items, block_items, blocks_items, exit_items, function_items}
 use Rattle.frame_transfers.specs.Items.{items_of_transfers}
 use Rattle.frame_words.specs.Words.{words_of, bulk_of}
@@ -31,7 +31,7 @@ most-le : (b : Bool) (n : ℕ) → n ≤ (if b then 52 else 10) → 2 * n + 4 �
 most-le true n h = omega (arith, h)
 most-le false n h = omega (arith, h)
 
-module _ (a : Plan) (g : Setting) (short : All IsShort a.edges) where
+module _ (a : Plan) (g : ItemSetting) (short : All IsShort a.edges) where
   point-le : (block at : ℕ) (x : TempInsn) (rest : List AsmItem) → length (transfers_at a block at) ≤ most_before x
       → words_of (point_items a g block at x rest) ≤ insn_most x + 182 * jump_one x + words_of rest
   point-le block at x rest few =
@@ -104,7 +104,7 @@ module _ (a : Plan) (g : Setting) (short : All IsShort a.edges) where
       let count = sum_by-cons (λ block. length (successors_of targets_of flows_on_of 0 block)) insns blocks in
       omega (arith, first, rest, count)
 
-pub function_le : (a : Plan) (g : Setting) (number : ℕ) (rest : List AsmItem) → IsLean a → HasLists a → All (EndsLate targets_of flows_on_of) a.function.blocks
+pub function_le : (a : Plan) (g : ItemSetting) (number : ℕ) (rest : List AsmItem) → IsLean a → HasLists a → All (EndsLate targets_of flows_on_of) a.function.blocks
     → words_of (function_items a g number rest) ≤ bulk_of a.function.blocks + words_of rest
 function_le a g number rest lean lists late =
     let blocks = a.function.blocks in

@@ -11,7 +11,7 @@ use Rattle.temp_ir.specs.Cost.{call_count}
 use Rattle.alloc_model.specs.Places.{Plan}
 use Rattle.alloc_model.specs.Faithful.{HasLists}
 use Rattle.alloc_rules.specs.Lean.{IsLean}
-use Rattle.instruction_items.specs.Items.{Setting}
+use Rattle.instruction_items.specs.Items.{ItemSetting}
 use Rattle.function_items.specs.Items.{function_items}
 
 -- a far branch is an address and a jump, behind the inverse branch where it has a condition
@@ -36,6 +36,6 @@ bulk_of blocks = 64 + 24 * count_of blocks + 160 * call_count blocks + 256 * edg
 
 abbrev pub LeanFunctionsAreShort : Type 0
 LeanFunctionsAreShort =
-    (a : Plan) (g : Setting) (number : ℕ) (rest : List AsmItem) → IsLean a → HasLists a →
+    (a : Plan) (g : ItemSetting) (number : ℕ) (rest : List AsmItem) → IsLean a → HasLists a →
     All (EndsLate targets_of flows_on_of) a.function.blocks →
     words_of (function_items a g number rest) ≤ bulk_of a.function.blocks + words_of rest

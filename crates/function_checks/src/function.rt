@@ -6,7 +6,7 @@ use crate::blocks::{blocks_of, is_body};
 use c_tree::{Name, Seq};
 use pass_core::Insn;
 use std::alloc::{AllocError, Global};
-use suifvm_ir::function::{Func, Object};
+use suifvm_ir::function::{Func, MemoryLocal};
 
 /// What a function is made of.
 #[derive(Drop)]
@@ -17,7 +17,7 @@ pub struct Parts<I: Insn> {
     /// The number of registers.
     pub registers: u32,
     /// The memory locals.
-    pub objects: Seq<Object>,
+    pub objects: Seq<MemoryLocal>,
     /// The instructions of each block.
     pub blocks: Vec<Seq<I>>,
 }

@@ -12,11 +12,11 @@ use Rattle.item_steps.proofs.Standing.{labels_stand}
 use Rattle.temp_ir.specs.declared.insn.TempInsn.{TempInsn}
 use Rattle.alloc_model.specs.declared.allocation.Transfer.{Transfer}
 use Rattle.alloc_model.specs.Places.{Plan, transfers_at, registers_at}
-use Rattle.flat_frames.specs.Shapes.{Shape, frame_size, return_at, saved_at}
+use Rattle.flat_frames.specs.Shapes.{FrameShape, frame_size, return_at, saved_at}
 use Rattle.frame_accesses.specs.Items.{near_size, frame_store}
 use Rattle.frame_transfers.specs.Items.{transfer_items, items_of_transfers}
 use Rattle.call_parts.specs.Items.{lower_stack, save_if, save_registers, entry_part, exit_part}
-use Rattle.instruction_items.specs.Items.{Setting, function_label, insn_items}
+use Rattle.instruction_items.specs.Items.{ItemSetting, function_label, insn_items}
 use Rattle.function_items.specs.Items.{top_transfers, jump_transfers, end_transfers, insns_items, block_items, blocks_items, exit_items, function_items}
 use Rattle.function_items.specs.Laws.{FunctionStands}
 
@@ -36,7 +36,7 @@ behind : (items whole back : List AsmItem) → EndsWith whole back → EndsWith 
 behind [] whole back h = h
 behind (item ∷ items) whole back h = behind-one item (items ++ whole) back (behind items whole back h)
 
-behind-transfers : (s : Shape) (xs : List Transfer) (whole back : List AsmItem) → EndsWith whole back → EndsWith (items_of_transfers s xs whole) back
+behind-transfers : (s : FrameShape) (xs : List Transfer) (whole back : List AsmItem) → EndsWith whole back → EndsWith (items_of_transfers s xs whole) back
 behind-transfers s [] whole back h = h
 behind-transfers s (x ∷ xs) whole back h = behind (transfer_items s x) (items_of_transfers s xs whole) back (behind-transfers s xs whole back h)
 
@@ -49,20 +49,20 @@ behind-lower size whole back h = by_test (nat_lt size near_size) _ _ _
     by_test true x y z = behind-one x whole back h
     by_test false x y z = behind-one y (z ∷ whole) back (behind-one z whole back h)
 
-behind-save : (s : Shape) (b : Bool) (r : ℕ) (whole back : List AsmItem) → EndsWith whole back → EndsWith (save_if s b r whole) back
+behind-save : (s : FrameShape) (b : Bool) (r : ℕ) (whole back : List AsmItem) → EndsWith whole back → EndsWith (save_if s b r whole) back
 behind-save s true r whole back h = behind (frame_store r (saved_at s r)) whole back h
 behind-save s false r whole back h = h
 
-behind-saves : (s : Shape) (saves : ℕ → Bool) (r count : ℕ) (whole back : List AsmItem) → EndsWith whole back → EndsWith (save_registers s saves r count whole) back
+behind-saves : (s : FrameShape) (saves : ℕ → Bool) (r count : ℕ) (whole back : List AsmItem) → EndsWith whole back → EndsWith (save_registers s saves r count whole) back
 behind-saves s saves r zero whole back h = h
 behind-saves s saves r (suc count) whole back h = behind-save s (saves r) r (save_registers s saves (suc r) count whole) back (behind-saves s saves (suc r) count whole back h)
 
-behind-entry : (s : Shape) (saves : ℕ → Bool) (whole back : List AsmItem) → EndsWith whole back → EndsWith (entry_part s saves whole) back
+behind-entry : (s : FrameShape) (saves : ℕ → Bool) (whole back : List AsmItem) → EndsWith whole back → EndsWith (entry_part s saves whole) back
 behind-entry s saves whole back h =
     behind-lower (frame_size s) (frame_store 26 (return_at s) ++ save_registers s saves 9 7 whole) back
     (behind (frame_store 26 (return_at s)) (save_registers s saves 9 7 whole) back (behind-saves s saves 9 7 whole back h))
 
-behind-insns : (a : Plan) (g : Setting) (block at : ℕ) (insns : List TempInsn) (whole back : List AsmItem) → EndsWith whole back → EndsWith (insns_items a g block at insns whole) back
+behind-insns : (a : Plan) (g : ItemSetting) (block at : ℕ) (insns : List TempInsn) (whole back : List AsmItem) → EndsWith whole back → EndsWith (insns_items a g block at insns whole) back
 behind-insns a g block at [] whole back h = h
 behind-insns a g block at (x ∷ insns) whole back h =
     let later = insns_items a g block (suc at) insns whole in
@@ -70,20 +70,20 @@ behind-insns a g block at (x ∷ insns) whole back h =
     (behind-transfers g.shape (jump_transfers a block x) (insn_items g (registers_at a block at) x ++ later) back
     (behind (insn_items g (registers_at a block at) x) later back (behind-insns a g block (suc at) insns whole back h)))
 
-behind-block : (a : Plan) (g : Setting) (block : ℕ) (insns : List TempInsn) (whole back : List AsmItem) → EndsWith whole back → EndsWith (block_items a g block insns whole) back
+behind-block : (a : Plan) (g : ItemSetting) (block : ℕ) (insns : List TempInsn) (whole back : List AsmItem) → EndsWith whole back → EndsWith (block_items a g block insns whole) back
 behind-block a g block insns whole back h =
     let last = items_of_transfers g.shape (end_transfers a block insns) whole in
     behind-transfers g.shape (top_transfers a block) (insns_items a g block 0 insns last) back
     (behind-insns a g block 0 insns last back (behind-transfers g.shape (end_transfers a block insns) whole back h))
 
-behind-blocks : (a : Plan) (g : Setting) (block : ℕ) (blocks : List (List TempInsn)) (whole back : List AsmItem) → EndsWith whole back → EndsWith (blocks_items a g block blocks whole) back
+behind-blocks : (a : Plan) (g : ItemSetting) (block : ℕ) (blocks : List (List TempInsn)) (whole back : List AsmItem) → EndsWith whole back → EndsWith (blocks_items a g block blocks whole) back
 behind-blocks a g block [] whole back h = h
 behind-blocks a g block (insns ∷ blocks) whole back h =
     let later = blocks_items a g (suc block) blocks whole in
     behind-one (Label (g.block_label block)) (block_items a g block insns later) back (behind-block a g block insns later back (behind-blocks a g (suc block) blocks whole back h))
 
 -- each block with those behind it
-block-there : (a : Plan) (g : Setting) (block k : ℕ) (blocks : List (List TempInsn)) (insns : List TempInsn) (rest : List AsmItem) → slice_get blocks k ≡ Some insns → EndsWith (blocks_items a g block blocks rest) (Label (g.block_label (block + k)) ∷ block_items a g (block + k) insns (blocks_items a g (suc (block + k)) (drop (suc k) blocks) rest))
+block-there : (a : Plan) (g : ItemSetting) (block k : ℕ) (blocks : List (List TempInsn)) (insns : List TempInsn) (rest : List AsmItem) → slice_get blocks k ≡ Some insns → EndsWith (blocks_items a g block blocks rest) (Label (g.block_label (block + k)) ∷ block_items a g (block + k) insns (blocks_items a g (suc (block + k)) (drop (suc k) blocks) rest))
 block-there a g block k [] insns rest e = absurd (cc)
 block-there a g block zero (first ∷ blocks) insns rest e =
     let is : first ≡ insns = cc in
@@ -106,7 +106,7 @@ module _ (asm : Assembly) (p : Program) (lawful : IsLawful p) (whole : IsWhole a
   label-there items l back e h =
       labels_stand asm p lawful whole w (front ++ h.front) back l (e ∙ ap (λ z. front ++ z) h.is ∙ sym (append_assoc front h.front (Label l ∷ back)))
 
-pub functions_stand : (asm : Assembly) (p : Program) → IsLawful p → IsWhole asm → (w : Words asm p) → (front rest : List AsmItem) (a : Plan) (g : Setting) (number : ℕ) → asm.items ≡ front ++ function_items a g number rest → FunctionStands p (label_place asm.items w.far) a g number rest (text_words asm.items w.far)
+pub functions_stand : (asm : Assembly) (p : Program) → IsLawful p → IsWhole asm → (w : Words asm p) → (front rest : List AsmItem) (a : Plan) (g : ItemSetting) (number : ℕ) → asm.items ≡ front ++ function_items a g number rest → FunctionStands p (label_place asm.items w.far) a g number rest (text_words asm.items w.far)
 functions_stand asm p lawful whole w front rest a g number e =
     let items = function_items a g number rest in
     let code = blocks_items a g 0 a.function.blocks (exit_items g rest) in

@@ -12,7 +12,7 @@ use Rattle.alloc_model.specs.Temporaries.{flows_out}
 use Rattle.alloc_model.specs.Places.{Plan, transfers_at, registers_at, edge_transfers, code_in}
 use Rattle.frame_transfers.specs.Items.{items_of_transfers}
 use Rattle.call_parts.specs.Items.{entry_part, exit_part}
-use Rattle.instruction_items.specs.Items.{Setting, function_label, insn_items}
+use Rattle.instruction_items.specs.Items.{ItemSetting, function_label, insn_items}
 
 -- ---- the transfers of edges
 
@@ -41,33 +41,33 @@ end_transfers a block insns =
 -- ---- items, in front of others
 
 -- an instruction with the transfers before it
-abbrev pub point_items : Plan → Setting → (block at : ℕ) → TempInsn → (rest : List AsmItem) → List AsmItem
+abbrev pub point_items : Plan → ItemSetting → (block at : ℕ) → TempInsn → (rest : List AsmItem) → List AsmItem
 point_items a g block at x rest =
     items_of_transfers g.shape (transfers_at a block at)
     (items_of_transfers g.shape (jump_transfers a block x) (insn_items g (registers_at a block at) x ++ rest))
 
 -- instructions of a block, of which the first one stands at a place
-abbrev pub insns_items : Plan → Setting → (block at : ℕ) → List TempInsn → (rest : List AsmItem) → List AsmItem
+abbrev pub insns_items : Plan → ItemSetting → (block at : ℕ) → List TempInsn → (rest : List AsmItem) → List AsmItem
 insns_items a g block at [] rest = rest
 insns_items a g block at (x ∷ insns) rest = point_items a g block at x (insns_items a g block (suc at) insns rest)
 
 -- a block behind its label, and blocks from one on
-abbrev pub block_items : Plan → Setting → (block : ℕ) → List TempInsn → (rest : List AsmItem) → List AsmItem
+abbrev pub block_items : Plan → ItemSetting → (block : ℕ) → List TempInsn → (rest : List AsmItem) → List AsmItem
 block_items a g block insns rest =
     items_of_transfers g.shape (top_transfers a block)
     (insns_items a g block 0 insns (items_of_transfers g.shape (end_transfers a block insns) rest))
 
-abbrev pub blocks_items : Plan → Setting → (block : ℕ) → List (List TempInsn) → (rest : List AsmItem) → List AsmItem
+abbrev pub blocks_items : Plan → ItemSetting → (block : ℕ) → List (List TempInsn) → (rest : List AsmItem) → List AsmItem
 blocks_items a g block [] rest = rest
 blocks_items a g block (insns ∷ blocks) rest =
     Label (g.block_label block) ∷ block_items a g block insns (blocks_items a g (suc block) blocks rest)
 
 -- the exit part with its label
-abbrev pub exit_items : Setting → (rest : List AsmItem) → List AsmItem
+abbrev pub exit_items : ItemSetting → (rest : List AsmItem) → List AsmItem
 exit_items g rest = Label g.exit_label ∷ exit_part g.shape g.shape.saves rest
 
 -- a function with a number
-abbrev pub function_items : Plan → Setting → (number : ℕ) → (rest : List AsmItem) → List AsmItem
+abbrev pub function_items : Plan → ItemSetting → (number : ℕ) → (rest : List AsmItem) → List AsmItem
 function_items a g number rest =
     Label (function_label number)
     ∷ entry_part g.shape g.shape.saves (blocks_items a g 0 a.function.blocks (exit_items g rest))

@@ -9,11 +9,11 @@ use Rattle.item_steps.specs.Standing.{Labels, ItemsAt}
 use Rattle.temp_ir.specs.declared.insn.TempInsn.{TempInsn}
 use Rattle.alloc_model.specs.Places.{Plan}
 use Rattle.call_parts.specs.Items.{entry_part, exit_part}
-use Rattle.instruction_items.specs.Items.{Setting, function_label}
+use Rattle.instruction_items.specs.Items.{ItemSetting, function_label}
 use Rattle.function_items.specs.Items.{block_items, blocks_items, exit_items, function_items}
 
 -- the entry part of a function stands behind its label, each block behind its own, and the exit part behind its
-pub record FunctionStands (p : Program) (there : Labels) (a : Plan) (g : Setting) (number : ℕ) (rest : List AsmItem)
+pub record FunctionStands (p : Program) (there : Labels) (a : Plan) (g : ItemSetting) (number : ℕ) (rest : List AsmItem)
     (end : ℕ) : Type 0 where
   pub entry : ItemsAt p there (there (function_label number))
       (entry_part g.shape g.shape.saves (blocks_items a g 0 a.function.blocks (exit_items g rest))) end
@@ -28,6 +28,6 @@ pub record FunctionStands (p : Program) (there : Labels) (a : Plan) (g : Setting
 abbrev pub FunctionsStand : Type 0
 FunctionsStand =
     (asm : Assembly) (p : Program) → IsLawful p → IsWhole asm → (w : Words asm p) →
-    (front rest : List AsmItem) (a : Plan) (g : Setting) (number : ℕ) →
+    (front rest : List AsmItem) (a : Plan) (g : ItemSetting) (number : ℕ) →
     asm.items ≡ front ++ function_items a g number rest →
     FunctionStands p (label_place asm.items w.far) a g number rest (text_words asm.items w.far)

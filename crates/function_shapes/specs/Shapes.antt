@@ -8,7 +8,7 @@ use Rattle.alloc_model.specs.declared.allocation.Transfer.{Transfer}
 use Rattle.alloc_model.specs.Effect.{widest_call}
 use Rattle.alloc_model.specs.Places.{Plan, transfers_at, registers_at}
 use Rattle.alloc_model.specs.Faithful.{named_registers, HasLists}
-use Rattle.flat_frames.specs.Shapes.{Shape}
+use Rattle.flat_frames.specs.Shapes.{FrameShape}
 use Rattle.instruction_items.specs.Laws.{IsStated}
 use Rattle.placed_steps.specs.Points.{AllMayTransfer}
 
@@ -21,7 +21,7 @@ is_named a r =
     list_any (λ xs. names_in xs r) a.at
     || (list_any (λ rs. has_number rs r) a.regs || list_any (λ e. names_in e.code r) a.edges)
 
-abbrev pub shape_of : Plan → Shape
+abbrev pub shape_of : Plan → FrameShape
 shape_of a = record {
   outgoing = widest_call a.function.blocks - 6;
   temps = a.temps;

@@ -8,8 +8,8 @@ use native.Mathlib.Bridge.{le_prop}
 use native.Mathlib.Nat.{ℕ_set}
 use Rattle.alpha_items.specs.Words.{fixed_data}
 use Rattle.data_object.specs.declared.DataObject.{DataObject}
-use Rattle.data_object.specs.declared.Cell.{Cell}
-use Rattle.data_object.specs.declared.Cell.TheVariants.{Byte, AddressPart}
+use Rattle.data_object.specs.declared.DataCell.{DataCell}
+use Rattle.data_object.specs.declared.DataCell.TheVariants.{Byte, AddressPart}
 use Rattle.data_object.specs.Globals.{IsLawfulObject, AreLawful}
 use Rattle.flat_memory.specs.Bytes.{AreBytes, low_bytes}
 use Rattle.flat_memory.proofs.Machine.{numbers_of_accesses}
@@ -101,10 +101,10 @@ module _ (globals : List DataObject) (start : ℕ) (lawful : AreLawful globals) 
           let none : o.offset + at - 0 ≡ o.offset + at = omega arith in
           byte-is start (o.offset + at) v (global_fixes globals) D fits agree (inr (ap (slice_index D) (sym none) ∙ global-byte globals 0 k o lawful.layout small e at lt ∙ is))
 
-  part-of-some : (o : DataObject) (at g plus part : ℕ) (c : Cell) → slice_get o.cells at ≡ Some c → slice_get o.cells at ≡ Some (AddressPart g plus part) → AddressPart g plus part ≡ c
+  part-of-some : (o : DataObject) (at g plus part : ℕ) (c : DataCell) → slice_get o.cells at ≡ Some c → slice_get o.cells at ≡ Some (AddressPart g plus part) → AddressPart g plus part ≡ c
   part-of-some o at g plus part c a b = cc
 
-  cell-there : (k : ℕ) (o : DataObject) (e : slice_get globals k ≡ Some o) (at : ℕ) (c : Cell) → slice_get o.cells at ≡ Some c → slice_index (fixed_data start D (global_fixes globals)) (o.offset + at) ≡ cell_byte globals start c
+  cell-there : (k : ℕ) (o : DataObject) (e : slice_get globals k ≡ Some o) (at : ℕ) (c : DataCell) → slice_get o.cells at ≡ Some c → slice_index (fixed_data start D (global_fixes globals)) (o.offset + at) ≡ cell_byte globals start c
   cell-there k o e at (Byte b) is =
       let below = get-below o.cells at (Byte b) is in
       let most = small k o e in

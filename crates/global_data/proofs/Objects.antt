@@ -5,8 +5,8 @@ use Rattle.std.proofs.lemmas.Bool.{cases_lt}
 use Rattle.std.proofs.lemmas.List.{get_or_append_left, get_or-append_right}
 use Rattle.alpha_items.specs.declared.item.Fix.{Fix}
 use Rattle.data_object.specs.declared.DataObject.{DataObject}
-use Rattle.data_object.specs.declared.Cell.{Cell}
-use Rattle.data_object.specs.declared.Cell.TheVariants.{Byte, AddressPart}
+use Rattle.data_object.specs.declared.DataCell.{DataCell}
+use Rattle.data_object.specs.declared.DataCell.TheVariants.{Byte, AddressPart}
 use Rattle.data_object.specs.Layout.{LieFrom}
 use Rattle.flat_memory.specs.Bytes.{AreBytes}
 use Rattle.flat_globals.specs.Globals.{offset_of}
@@ -55,7 +55,7 @@ object-size o le =
     let zeros = replicate-size {X = ℕ} (o.size - length o.cells) 0 in
     omega (arith, le, sum, count, zeros)
 
-pub cell-at : (o : DataObject) (at : ℕ) (c : Cell) → at < length o.cells → slice_get o.cells at ≡ Some c → slice_index (object_bytes o) at ≡ unfixed_byte c
+pub cell-at : (o : DataObject) (at : ℕ) (c : DataCell) → at < length o.cells → slice_get o.cells at ≡ Some c → slice_index (object_bytes o) at ≡ unfixed_byte c
 cell-at o at c lt e =
     let count = map-size unfixed_byte o.cells in
     get_or_append_left (map unfixed_byte o.cells) (replicate (o.size - length o.cells) 0) 0 at (omega (arith, count, lt)) ∙ map-index unfixed_byte o.cells at c e
@@ -113,7 +113,7 @@ global-length (x ∷ globals) end (suc k) o h small e =
     let later = global-length globals (x.offset + x.size) k o h.1 (λ n y f. small (suc n) y f) e in
     omega (arith, place, zeros, size, all, both, later)
 
-cells-are-bytes : (cells : List Cell) → ((at b : ℕ) → slice_get cells at ≡ Some (Byte b) → b < 256) → AreBytes (map unfixed_byte cells)
+cells-are-bytes : (cells : List DataCell) → ((at b : ℕ) → slice_get cells at ≡ Some (Byte b) → b < 256) → AreBytes (map unfixed_byte cells)
 cells-are-bytes [] h = tt
 cells-are-bytes (Byte b ∷ cells) h = (h 0 b refl, cells-are-bytes cells (λ at c e. h (suc at) c e))
 cells-are-bytes (AddressPart global plus part ∷ cells) h = (omega arith, cells-are-bytes cells (λ at c e. h (suc at) c e))
@@ -131,12 +131,12 @@ global-are-bytes (x ∷ globals) end h =
 abbrev pub fix_of : List DataObject → (at global plus : ℕ) → Fix
 fix_of globals at global plus = record { at = at; offset = offset_of (slice_get globals global) + plus }
 
-one-cell : (P : Fix → Type 0) (globals : List DataObject) (at : ℕ) (c : Cell) → ((g plus : ℕ) → c ≡ AddressPart g plus 0 → P (fix_of globals at g plus)) → OfEach P (cell_fixes globals at c)
+one-cell : (P : Fix → Type 0) (globals : List DataObject) (at : ℕ) (c : DataCell) → ((g plus : ℕ) → c ≡ AddressPart g plus 0 → P (fix_of globals at g plus)) → OfEach P (cell_fixes globals at c)
 one-cell P globals at (Byte b) h = tt
 one-cell P globals at (AddressPart g plus zero) h = (h g plus refl, tt)
 one-cell P globals at (AddressPart g plus (suc part)) h = tt
 
-each-cell : (P : Fix → Type 0) (globals : List DataObject) (at : ℕ) (cells : List Cell) → ((j g plus : ℕ) → slice_get cells j ≡ Some (AddressPart g plus 0) → P (fix_of globals (at + j) g plus)) → OfEach P (cells_fixes globals at cells)
+each-cell : (P : Fix → Type 0) (globals : List DataObject) (at : ℕ) (cells : List DataCell) → ((j g plus : ℕ) → slice_get cells j ≡ Some (AddressPart g plus 0) → P (fix_of globals (at + j) g plus)) → OfEach P (cells_fixes globals at cells)
 each-cell P globals at [] h = tt
 each-cell P globals at (c ∷ cells) h =
     let none : at + 0 ≡ at = omega arith in
@@ -150,7 +150,7 @@ each-fix P globals (o ∷ os) h = each-append P (cells_fixes globals o.offset o.
     (each-cell P globals o.offset o.cells (h 0 o refl))
     (each-fix P globals os (λ k q e. h (suc k) q e))
 
-some-cell : (P : Fix → Type 0) (globals : List DataObject) (at : ℕ) (cells : List Cell) (j g plus : ℕ) → slice_get cells j ≡ Some (AddressPart g plus 0) → P (fix_of globals (at + j) g plus) → OfSome P (cells_fixes globals at cells)
+some-cell : (P : Fix → Type 0) (globals : List DataObject) (at : ℕ) (cells : List DataCell) (j g plus : ℕ) → slice_get cells j ≡ Some (AddressPart g plus 0) → P (fix_of globals (at + j) g plus) → OfSome P (cells_fixes globals at cells)
 some-cell P globals at [] j g plus e h = absurd (cc)
 some-cell P globals at (c ∷ cells) zero g plus e h =
     let is : AddressPart g plus 0 ≡ c = cc in

@@ -4,13 +4,13 @@ use Rattle.std.specs.Prelude.{ℕ, zero, suc, ◌+◌, ◌-◌, ◌^◌, ◌<◌
 use Rattle.alpha_items.specs.declared.item.Fix.{Fix}
 use Rattle.alpha_items.specs.Words.{fixed_data}
 use Rattle.data_object.specs.declared.DataObject.{DataObject}
-use Rattle.data_object.specs.declared.Cell.{Cell}
-use Rattle.data_object.specs.declared.Cell.TheVariants.{Byte, AddressPart}
+use Rattle.data_object.specs.declared.DataCell.{DataCell}
+use Rattle.data_object.specs.declared.DataCell.TheVariants.{Byte, AddressPart}
 use Rattle.data_object.specs.Globals.{AreLawful}
 use Rattle.flat_globals.specs.Globals.{offset_of, DataIs}
 
 -- the byte of a cell before the fixes
-abbrev pub unfixed_byte : Cell → ℕ
+abbrev pub unfixed_byte : DataCell → ℕ
 unfixed_byte (Byte b) = b
 unfixed_byte (AddressPart global plus part) = 0
 
@@ -27,13 +27,13 @@ abbrev pub global_bytes : List DataObject → List ℕ
 global_bytes globals = bytes_from_end 0 globals
 
 -- a fix stands where an address begins
-abbrev pub cell_fixes : List DataObject → (at : ℕ) → Cell → List Fix
+abbrev pub cell_fixes : List DataObject → (at : ℕ) → DataCell → List Fix
 cell_fixes globals at (Byte b) = []
 cell_fixes globals at (AddressPart global plus zero) =
     record { at = at; offset = offset_of (slice_get globals global) + plus } ∷ []
 cell_fixes globals at (AddressPart global plus (suc part)) = []
 
-abbrev pub cells_fixes : List DataObject → (at : ℕ) → List Cell → List Fix
+abbrev pub cells_fixes : List DataObject → (at : ℕ) → List DataCell → List Fix
 cells_fixes globals at [] = []
 cells_fixes globals at (c ∷ cells) = cell_fixes globals at c ++ cells_fixes globals (suc at) cells
 

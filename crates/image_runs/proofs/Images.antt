@@ -29,7 +29,7 @@ use Rattle.flat_starts.proofs.Starts.{starts_are_matched}
 use Rattle.image_runs.specs.Images.{IsImageOf, HasBehaviour, AgreesWith, ImageDoes}
 
 -- what belongs to an ending agrees with it
-agrees : (x : step.Next) (e : Ending) → BelongsTo x e → AgreesWith (behaviour x) e
+agrees : (x : step.MachineNext) (e : Ending) → BelongsTo x e → AgreesWith (behaviour x) e
 agrees (step.Goes t) (Done w status) h = h
 agrees (step.Goes t) (Trap w code) h = h
 agrees (step.Goes t) (Undefined w at) h = tt
@@ -135,7 +135,7 @@ module _ (keep : AllocationKeeps) (outputs : (plans : List Plan) → KeepsOutput
           omega (arith, both, split)
 
   -- before the first instruction of `main` nothing is written
-  early : (z : ComesTo b first s) (m : ℕ) → m < z.comes.steps → (x : step.Next) → step.exec b.program m s ≡ x → AgreesWith (behaviour x) e
+  early : (z : ComesTo b first s) (m : ℕ) → m < z.comes.steps → (x : step.MachineNext) → step.exec b.program m s ≡ x → AgreesWith (behaviour x) e
   early z m lt (step.Goes t) is =
       let front = front-of b.program m z.comes.steps s (step.Goes t) (step.Goes z.to) (omega (arith, lt)) is z.comes.run in
       nothing-first t e (subst (IsPrefix t.output) z.matches.outer.output front)

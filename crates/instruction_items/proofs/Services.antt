@@ -31,8 +31,8 @@ use Rattle.flat_frames.proofs.Frames.{registers_are_put}
 use Rattle.frame_accesses.proofs.Runs.{stands, bytes-same, reached-same, parts-same}
 use Rattle.frame_transfers.specs.Laws.{Call, StandsFor}
 use Rattle.frame_transfers.proofs.Runs.{frame-with_register, kept-same}
-use Rattle.instruction_items.specs.Items.{Setting}
-use Rattle.instruction_items.specs.Laws.{usable, HasOuter, IsBehind, ActIsDone, store_behind}
+use Rattle.instruction_items.specs.Items.{ItemSetting}
+use Rattle.instruction_items.specs.Laws.{usable, HasOuter, ComesToItems, ActIsDone, store_behind}
 use Rattle.instruction_items.proofs.Runs.{nothing-ended, more-usable}
 
 -- a word that stands for a number
@@ -60,7 +60,7 @@ bytes-io : (p : Program) (s : State) (input output : List ℕ) → memory_bytes 
 unfolding memory_bytes
 bytes-io p s input output = refl
 
-module _ (p : Program) (there : Labels) (g : Setting) (rest : List AsmItem) (end : ℕ) (c : Call) (o : Outer) (store : Places) (s : State) (outer : HasOuter o s) where
+module _ (p : Program) (there : Labels) (g : ItemSetting) (rest : List AsmItem) (end : ℕ) (c : Call) (o : Outer) (store : Places) (s : State) (outer : HasOuter o s) where
   abbrev Serves : ℕ → Type 0
   Serves function = StandsFor p there (Plain (fields.Pal function) ∷ rest) end c o.memory usable store s
 
@@ -79,7 +79,7 @@ module _ (p : Program) (there : Labels) (g : Setting) (rest : List AsmItem) (end
   served-bytes : (t : State) → IsServed t → length s.registers ≡ 32 → memory_bytes p t ≡ memory_bytes p s
   served-bytes t h len = sym (bytes-io p t s.input s.output) ∙ bytes-same p s (record t { input = s.input; output = s.output }) (as-before t h len)
 
-  served : (function : ℕ) (h : Serves function) (t : State) → IsServed t → t.pc ≡ s.pc + 4 → insn_step p (fields.Pal function) s ≡ Goes t → (new : Outer) → new.memory ≡ o.memory → HasOuter new t → (held : Places) → RegistersAre c.extents usable held t → FrameAndMemory c.extents o.memory c.owner (memory_bytes p s) c.sp c.depth c.own c.shape held → IsBehind p there rest end c new held s
+  served : (function : ℕ) (h : Serves function) (t : State) → IsServed t → t.pc ≡ s.pc + 4 → insn_step p (fields.Pal function) s ≡ Goes t → (new : Outer) → new.memory ≡ o.memory → HasOuter new t → (held : Places) → RegistersAre c.extents usable held t → FrameAndMemory c.extents o.memory c.owner (memory_bytes p s) c.sp c.depth c.own c.shape held → ComesToItems p there rest end c new held s
   served function h t is pc e new same outer_new held regs frame =
       let b = plain_steps p there h.word (fields.Pal function) rest end s t (stands p there h.word (Plain (fields.Pal function)) rest end s h.is_at) e pc in
       let len = h.is_at.registers in
@@ -120,7 +120,7 @@ module _ (p : Program) (there : Labels) (g : Setting) (rest : List AsmItem) (end
   unfolding put-state
   put-done h (contents.Plain (Word n)) e two =
       let is : register s 16 ≡ n = subst (λ z. ContentIs c.extents z (register s 16)) e (h.registers 16 refl) in
-      subst (λ held. IsBehind p there rest end c (put_byte o (n % 256)) held s) (sym (nothing-ended (i.Serve service.PutByte) store refl refl))
+      subst (λ held. ComesToItems p there rest end c (put_byte o (n % 256)) held s) (sym (nothing-ended (i.Serve service.PutByte) store refl refl))
       (served 0x83 h put-state
       (record { data_bytes = refl; stack_bytes = refl; registers = h.is_at.registers; words = h.is_at.words; stack = refl; kept = λ q from to. refl })
       refl
@@ -154,7 +154,7 @@ module _ (p : Program) (there : Labels) (g : Setting) (rest : List AsmItem) (end
       let word_is : v ≡ input_word o.input = ap input_word outer.input in
       let below : v < 2 ^ 64 = subst (λ k. k < 2 ^ 64) (sym word_is) (byte-below o.input outer.bytes) in
       let held = put place_eq (Reg 0) (contents.word (input_word o.input)) store in
-      subst (λ k. IsBehind p there rest end c (take_byte o) k s)
+      subst (λ k. ComesToItems p there rest end c (take_byte o) k s)
       (sym (ap (put place_eq (Reg 0) (contents.word (input_word o.input))) (nothing-ended (i.Serve service.GetByte) store refl refl)))
       (served 0x83 h take-state
       (record {

@@ -9,26 +9,26 @@ use Rattle.alpha_isa.specs.declared.insn.BranchOp.TheVariants.{Br, Bsr}
 use Rattle.alpha_items.specs.declared.item.AsmItem.{AsmItem}
 use Rattle.alpha_items.specs.declared.item.AsmItem.TheVariants.{Plain, Branch, DataAddress}
 use Rattle.alpha_rt.specs.Items.{entry_label}
-use Rattle.suifvm_ir.specs.declared.insn.Place.TheVariants.{Global, Local}
+use Rattle.suifvm_ir.specs.declared.insn.VmObject.TheVariants.{Global, Local}
 use Rattle.temp_ir.specs.declared.operation.Service.{Service}
 use Rattle.temp_ir.specs.declared.operation.Service.TheVariants.{Trap}
-use Rattle.temp_ir.specs.declared.insn.Source.{Source}
-use Rattle.temp_ir.specs.declared.insn.Source.TheVariants as source
-use Rattle.temp_ir.specs.declared.insn.Operand.{Operand}
-use Rattle.temp_ir.specs.declared.insn.Operand.TheVariants as operand
+use Rattle.temp_ir.specs.declared.insn.FirstOperand.{FirstOperand}
+use Rattle.temp_ir.specs.declared.insn.FirstOperand.TheVariants as source
+use Rattle.temp_ir.specs.declared.insn.SecondOperand.{SecondOperand}
+use Rattle.temp_ir.specs.declared.insn.SecondOperand.TheVariants as operand
 use Rattle.temp_ir.specs.declared.insn.TempInsn.{TempInsn}
 use Rattle.temp_ir.specs.declared.insn.TempInsn.TheVariants as i
 use Rattle.temp_ir.specs.Insns.{reads_of}
 use Rattle.temp_ir.specs.Fixed.{register_number}
 use Rattle.temp_ir.specs.Operations.{address_op, load_op, store_op, branch_op, operate_op, extend_op}
 use Rattle.alloc_model.specs.Effect.{behind, routine_of}
-use Rattle.flat_frames.specs.Shapes.{Shape, frame_size, argument_at, object_at}
+use Rattle.flat_frames.specs.Shapes.{FrameShape, frame_size, argument_at, object_at}
 use Rattle.frame_accesses.specs.Items.{frame_load, frame_store, frame_address, register_move}
 
 -- what the items of a function refer to: the shape of its frame, the labels of its blocks and of the part by which it
 -- is left, and where each object of static storage begins in the data
-pub record Setting : Type 0 where
-  pub shape : Shape
+pub record ItemSetting : Type 0 where
+  pub shape : FrameShape
   pub block_label : (block : ℕ) → ℕ
   pub exit_label : ℕ
   pub global_at : (global : ℕ) → ℕ
@@ -39,11 +39,11 @@ function_label number = 256 + number
 
 -- the register of a first operand, and a second operand. Registers are stated for what an instruction reads, in order,
 -- and then for what it writes
-abbrev pub source_register : Source → (registers : List ℕ) → ℕ
+abbrev pub source_register : FirstOperand → (registers : List ℕ) → ℕ
 source_register source.Zero registers = 31
 source_register (source.Temp t) registers = slice_index registers 0
 
-abbrev pub operand_at : Operand → (registers : List ℕ) → (number : ℕ) → isa.Operand
+abbrev pub operand_at : SecondOperand → (registers : List ℕ) → (number : ℕ) → isa.Operand
 operand_at (operand.Temp t) registers number = word.Reg (slice_index registers number)
 operand_at (operand.Literal n) registers number = word.Literal n
 
@@ -58,7 +58,7 @@ service_function _ = 0x83
 abbrev pub plain : Fields → List AsmItem
 plain insn = Plain insn ∷ []
 
-abbrev pub insn_items : Setting → (registers : List ℕ) → TempInsn → List AsmItem
+abbrev pub insn_items : ItemSetting → (registers : List ℕ) → TempInsn → List AsmItem
 insn_items g rs (i.Address op destination base plus) =
     plain (fields.Memory (address_op op) (written_register (i.Address op destination base plus) rs)
     (source_register base rs) plus)

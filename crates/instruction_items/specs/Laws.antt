@@ -11,9 +11,9 @@ use Rattle.item_steps.specs.Standing.{Labels, ItemsAt}
 use Rattle.item_steps.specs.Steps.{Comes}
 use Rattle.mem_model.specs.World.{Outer}
 use Rattle.machine_model.specs.Code.{Exits, Traps, HasNoMeaning, Act, Writes, Jumps, Calls, Returns, Stops}
-use Rattle.suifvm_ir.specs.declared.insn.Place.TheVariants.{Global, Local}
-use Rattle.temp_ir.specs.declared.insn.Operand.{Operand}
-use Rattle.temp_ir.specs.declared.insn.Operand.TheVariants as operand
+use Rattle.suifvm_ir.specs.declared.insn.VmObject.TheVariants.{Global, Local}
+use Rattle.temp_ir.specs.declared.insn.SecondOperand.{SecondOperand}
+use Rattle.temp_ir.specs.declared.insn.SecondOperand.TheVariants as operand
 use Rattle.temp_ir.specs.declared.insn.TempInsn.{TempInsn}
 use Rattle.temp_ir.specs.declared.insn.TempInsn.TheVariants as i
 use Rattle.temp_ir.specs.Insns.{reads_of, writes_of, targets_of}
@@ -26,10 +26,10 @@ use Rattle.flat_memory.specs.Bytes.{Bytes, AreBytes}
 use Rattle.flat_memory.specs.Relation.{Extent, IsExtent, OfFrame, ArgumentPiece}
 use Rattle.flat_memory.specs.Machine.{memory_bytes}
 use Rattle.flat_operations.specs.Contents.{ContentIs}
-use Rattle.flat_frames.specs.Shapes.{Shape, frame_size, argument_at}
+use Rattle.flat_frames.specs.Shapes.{FrameShape, frame_size, argument_at}
 use Rattle.flat_frames.specs.Frames.{word_in}
-use Rattle.frame_transfers.specs.Laws.{Call, IsCall, StandsFor, IsKept}
-use Rattle.instruction_items.specs.Items.{Setting, insn_items}
+use Rattle.frame_transfers.specs.Laws.{Call, FitsTheStack, StandsFor, IsKept}
+use Rattle.instruction_items.specs.Items.{ItemSetting, insn_items}
 
 -- the registers in which values may stand: all but 26, which has the return address, and the scratch registers 28 and
 -- 29, the stack pointer 30 and the zero 31
@@ -39,25 +39,25 @@ usable r = nat_lt r 26 || (r == 27)
 -- ---- what an instruction asks for
 
 -- a function saves each of the registers 9 to 15 that it names
-pub record MayHold (s : Shape) (r : ℕ) : Type 0 where
+pub record MayHold (s : FrameShape) (r : ℕ) : Type 0 where
   pub usable_one : usable r ≡ true
   pub saved : 9 ≤ r → r < 16 → s.saves r ≡ true
 
-abbrev pub AllMayHold : Shape → (registers : List ℕ) → Type 0
+abbrev pub AllMayHold : FrameShape → (registers : List ℕ) → Type 0
 AllMayHold s [] = Unit {0}
 AllMayHold s (r ∷ rs) = MayHold s r × AllMayHold s rs
 
 -- as many registers as the instruction has temporaries, each one in which values may stand
-pub record IsStated (s : Shape) (registers : List ℕ) (x : TempInsn) : Type 0 where
+pub record IsStated (s : FrameShape) (registers : List ℕ) (x : TempInsn) : Type 0 where
   pub count : length registers ≡ length (reads_of x) + length (writes_of x)
   pub may_hold : AllMayHold s registers
 
-abbrev pub IsSmallOperand : Operand → Type 0
+abbrev pub IsSmallOperand : SecondOperand → Type 0
 IsSmallOperand (operand.Temp t) = Unit {0}
 IsSmallOperand (operand.Literal n) = n < 256
 
 -- an object of static storage lies where the setting has it
-pub record IsGlobal (p : Program) (g : Setting) (c : Call) (k plus : ℕ) : Type 0 where
+pub record IsGlobal (p : Program) (g : ItemSetting) (c : Call) (k plus : ℕ) : Type 0 where
   pub extent : Extent
   pub made : slice_get c.extents k ≡ Some extent
   pub sound : IsExtent extent
@@ -65,15 +65,15 @@ pub record IsGlobal (p : Program) (g : Setting) (c : Call) (k plus : ℕ) : Type
   pub within : plus ≤ extent.size
   pub near : data_start p + (g.global_at k + plus) < 2147450880
 
-pub record IsLocal (c : Call) (k plus : ℕ) : Type 0 where
+pub record IsNearLocal (c : Call) (k plus : ℕ) : Type 0 where
   pub size : ℕ
   pub made : slice_get c.shape.sizes k ≡ Some size
   pub within : plus ≤ size
 
 -- what an instruction names is there, and its numbers fit
-abbrev pub IsThere : Program → Setting → Call → TempInsn → Type 0
+abbrev pub IsThere : Program → ItemSetting → Call → TempInsn → Type 0
 IsThere p g c (i.ObjectAddress destination (Global k) plus) = IsGlobal p g c k plus
-IsThere p g c (i.ObjectAddress destination (Local k) plus) = IsLocal c k plus
+IsThere p g c (i.ObjectAddress destination (Local k) plus) = IsNearLocal c k plus
 IsThere p g c (i.Operate op destination left right) = IsSmallOperand right
 IsThere p g c (i.Extend op destination source) = IsSmallOperand source
 IsThere p g c (i.SetFixed register number) = IsDisplacement number
@@ -105,7 +105,7 @@ pub record HasOuter (o : Outer) (s : State) : Type 0 where
 -- ---- what is done
 
 -- the machine has come to items for what the call holds, and for an outer part of the world
-pub record IsBehind (p : Program) (there : Labels) (items : List AsmItem) (end : ℕ) (c : Call) (o : Outer)
+pub record ComesToItems (p : Program) (there : Labels) (items : List AsmItem) (end : ℕ) (c : Call) (o : Outer)
     (store : Places) (s : State) : Type 0 where
   pub to : State
   pub comes : Comes p s to
@@ -132,9 +132,9 @@ pub record IsOver (p : Program) (o : Outer) (h : Halt) (s : State) : Type 0 wher
   pub output : last.output ≡ o.output
 
 -- the machine does what an act of an instruction is: `written` is what the call holds once contents are written
-abbrev pub ActIsDone : Program → Labels → Setting → (rest : List AsmItem) → (end : ℕ) → Call →
+abbrev pub ActIsDone : Program → Labels → ItemSetting → (rest : List AsmItem) → (end : ℕ) → Call →
     (written : List Content → Places) → TempInsn → State → Act Content → Type 0
-ActIsDone p there g rest end c written x s (Writes cs o) = IsBehind p there rest end c o (written cs) s
+ActIsDone p there g rest end c written x s (Writes cs o) = ComesToItems p there rest end c o (written cs) s
 ActIsDone p there g rest end c written x s (Jumps target o) =
     (block : ℕ) → slice_get (targets_of x) target ≡ Some block →
     IsAtLabel p there (g.block_label block) c o (written []) s
@@ -158,8 +158,8 @@ store_behind registers x store cs =
 
 abbrev pub InstructionsAreDone : Type 0
 InstructionsAreDone =
-    (p : Program) (there : Labels) (g : Setting) (rest : List AsmItem) (end : ℕ) (c : Call) (o : Outer)
-    (store : Places) (s : State) → IsCall c → g.shape ≡ c.shape → ArgumentsAre c store (memory_bytes p s) →
+    (p : Program) (there : Labels) (g : ItemSetting) (rest : List AsmItem) (end : ℕ) (c : Call) (o : Outer)
+    (store : Places) (s : State) → FitsTheStack c → g.shape ≡ c.shape → ArgumentsAre c store (memory_bytes p s) →
     HasOuter o s →
     (widest : ℕ) → widest ≤ c.shape.outgoing + 6 →
     (registers : List ℕ) (x : TempInsn) → is_no_call x ≡ true → IsStated c.shape registers x → IsThere p g c x →

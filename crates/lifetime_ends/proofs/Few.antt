@@ -1,7 +1,7 @@
 -- An instruction reads two temporaries at most, and writes one.
 use Rattle.std.proofs.Common.{◌≤◌, length, arith}
-use Rattle.temp_ir.specs.declared.insn.Source.TheVariants as s
-use Rattle.temp_ir.specs.declared.insn.Operand.TheVariants as o
+use Rattle.temp_ir.specs.declared.insn.FirstOperand.TheVariants as s
+use Rattle.temp_ir.specs.declared.insn.SecondOperand.TheVariants as o
 use Rattle.temp_ir.specs.declared.insn.TempInsn.{TempInsn}
 use Rattle.temp_ir.specs.declared.insn.TempInsn.TheVariants as i
 use Rattle.temp_ir.specs.Insns.{reads_of, writes_of}

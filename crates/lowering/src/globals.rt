@@ -3,10 +3,10 @@
 ghost use Rattle.std.specs.Prelude.{◌≡◌, IfOk};
 
 use c_tree::Seq;
-use data_object::{Cell, DataObject};
+use data_object::{DataCell, DataObject};
 use std::alloc::{AllocError, Global};
 
-fn copy_cells(alloc: Global, list: &Seq<Cell>) -> Result<Seq<Cell>, AllocError>
+fn copy_cells(alloc: Global, list: &Seq<DataCell>) -> Result<Seq<DataCell>, AllocError>
     ensures { IfOk result (λ r. r ≡ list.now) }
 {
     Ok(Seq::from_vec(Vec::from_slice(alloc, list.as_slice())?))

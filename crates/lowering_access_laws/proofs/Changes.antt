@@ -15,7 +15,7 @@ use Rattle.mem_model.proofs.Changes.{store_at-ok, outside-stands, length-cells_o
 use Rattle.mem_model.proofs.Pointers.{when-some, when-true, and-true}
 use Rattle.mem_model.proofs.RowValues.{both}
 use Rattle.c_arithmetic.specs.declared.integer_type.IntegerType.{IntegerType}
-use Rattle.c_semantics.specs.Runs.{State, in_world}
+use Rattle.c_semantics.specs.Runs.{CallState, in_world}
 use Rattle.vm_meaning.specs.Operations as vm
 use Rattle.lowering_states.specs.States.{After, is_live, size_in}
 use Rattle.lowering_values.specs.Laws.{IsMoved}
@@ -93,7 +93,7 @@ moved_stays f g m n m1 n1 t t1 b u k x (inl h) = inl h
 moved_stays f g m n m1 n1 t t1 b u k x (inr h) = inr (pointer_stays f g m n m1 n1 t t1 b u (pos k) x h)
 
 -- both memories were written within one object
-pub after_write : (c : Setting) (m n : Memory) (f : Names) (s : State) (m1 : Memory) (id other : ℕ) → ChangesCells s.world.outer.memory m1 id → ChangesCells m n other → Aft c f s m f (in_world s (with_memory s.world m1)) n
+pub after_write : (c : Setting) (m n : Memory) (f : Names) (s : CallState) (m1 : Memory) (id other : ℕ) → ChangesCells s.world.outer.memory m1 id → ChangesCells m n other → Aft c f s m f (in_world s (with_memory s.world m1)) n
 after_write c m n f s m1 id other ch cn = record {
   names = λ o k e. e;
   lives = lives_after s.world.outer.memory m1 id ch;

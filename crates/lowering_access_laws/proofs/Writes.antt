@@ -17,7 +17,7 @@ use Rattle.c_arithmetic.specs.IntegerTypes.{bytes}
 use Rattle.c_typed_tree.specs.Types.{PlainType, Pointer, Struct}
 use Rattle.c_typed_tree.specs.Layout.{size_of, align_of}
 use Rattle.c_semantics.specs.Reasons.{UsesNoValue, OverlapsItself}
-use Rattle.c_semantics.specs.Runs.{State, Run, in_world, use_value, undefined, set_memory, ◌>>=◌}
+use Rattle.c_semantics.specs.Runs.{CallState, Run, in_world, use_value, undefined, set_memory, ◌>>=◌}
 use Rattle.c_semantics.specs.Objects as obj
 use Rattle.c_semantics.specs.Objects.{Scope, access, write_at}
 use Rattle.suifvm_ir.specs.declared.types.MemoryType.{MemoryType}
@@ -29,8 +29,8 @@ use Rattle.vm_meaning.specs.Behave.{Registers}
 use Rattle.lowering_code.specs.declared.item.CodeItem.{CodeItem}
 use Rattle.lowering_code.specs.Registers.{memory_type}
 use Rattle.lowering_code.specs.Expressions.{plain_of, cap_offset, alignment_of, store_code, copy_code}
-use Rattle.lowering_states.specs.Places.{Place}
-use Rattle.lowering_states.specs.Runs.{opens, Observation, NotDefined, finish}
+use Rattle.lowering_states.specs.Places.{CodePlace}
+use Rattle.lowering_states.specs.Runs.{opens, CodeObservation, NotDefined, finish}
 use Rattle.lowering_states.specs.States.{IsHeld}
 use Rattle.lowering_states.proofs.Steps.{meets_anything, meets_same, plain, used_meets, access_meets}
 use Rattle.lowering_states.proofs.States.{fits_after}
@@ -68,7 +68,7 @@ some_bytes i.UnsignedLong = omega arith
 module _ (c : Setting) (found : slice_get c.functions c.number ≡ Some c.code) where
   -- ---- scalars
 
-  module _ (ty : PlainType) (pointer plus value : ℕ) (rest : List CodeItem) (heads : List ℕ) (q : Place) (base at v : Value) (f : Names) (scope : Scope) (r : Registers) (s : State) (m : Memory) (K : Unit {0} → State → Observation)
+  module _ (ty : PlainType) (pointer plus value : ℕ) (rest : List CodeItem) (heads : List ℕ) (q : CodePlace) (base at v : Value) (f : Names) (scope : Scope) (r : Registers) (s : CallState) (m : Memory) (K : Unit {0} → CallState → CodeObservation)
       (stands : Stands c heads q (store_code ty pointer plus value rest)) (fit : Fit c f scope r s m) (held : IsHeld ty v) (rel : IsValueOf f v (r value)) (base_rel : IsValueOf f base (r pointer)) (moved : IsMoved s.world.outer.memory base plus at)
       (next : Leaves c heads rest q f scope r s m K) where
     abbrev mt : MemoryType
@@ -79,7 +79,7 @@ module _ (c : Setting) (found : slice_get c.functions c.number ≡ Some c.code) 
         → EndsSo c (K tt (in_world s (with_memory s.world m1))) q r s.world m
     store_meets p m1 is some fits e =
         let got = (memories_correspond f s.world.outer.memory m fit.memory).1.stores mt base (r pointer) plus p v (r value) m1 base_rel (subst (λ z. IsMoved s.world.outer.memory base plus z) is moved) some fits rel e in
-        let t : State = in_world s (with_memory s.world m1) in
+        let t : CallState = in_world s (with_memory s.world m1) in
         let ch = changes_of s.world.outer.memory m1 p (vm.access_bytes (vm.memory_integer mt)) v (storable (vm.memory_integer mt) v fits) e in
         let aft : Aft c f s m f t got.0 = by_store got.0 (store_is m got.0 (vm.memory_integer mt) (pointer_plus m (r pointer) (pos plus)) (r value) got.1) ch in
         plain c.rooms c.functions c.number c.code found c.own c.waiting (n.Store mt pointer (pos plus) value) q r s.world m [] got.0 stands.has.0 refl
@@ -150,7 +150,7 @@ module _ (c : Setting) (found : slice_get c.functions c.number ≡ Some c.code) 
 
   -- ---- structs
 
-  module _ (number : ℕ) (whole : IsWholeStruct c number) (to from : ℕ) (rest : List CodeItem) (heads : List ℕ) (q : Place) (f : Names) (scope : Scope) (r : Registers) (s : State) (m : Memory) (K : Unit {0} → State → Observation)
+  module _ (number : ℕ) (whole : IsWholeStruct c number) (to from : ℕ) (rest : List CodeItem) (heads : List ℕ) (q : CodePlace) (f : Names) (scope : Scope) (r : Registers) (s : CallState) (m : Memory) (K : Unit {0} → CallState → CodeObservation)
       (stands : Stands c heads q (copy_code c.structs to from (Struct number) rest)) (fit : Fit c f scope r s m) (next : Leaves c heads rest q f scope r s m K) where
     abbrev size : ℕ
     size = size_of c.structs (Struct number)

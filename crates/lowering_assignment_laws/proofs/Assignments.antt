@@ -15,12 +15,12 @@ use Rattle.c_typed_tree.specs.View.{type_view}
 use Rattle.c_typed_tree.specs.Expressions.{Expr, Assign, type_of}
 use Rattle.c_typed_tree.specs.Expressions as e
 use Rattle.c_semantics.specs.Reasons.{UsesNoValue}
-use Rattle.c_semantics.specs.Runs.{State, Run, and_then, with_registers, with_register, use_value, pure, write_register}
+use Rattle.c_semantics.specs.Runs.{CallState, Run, and_then, with_registers, with_register, use_value, pure, write_register}
 use Rattle.c_semantics.specs.Objects as obj
 use Rattle.c_semantics.specs.Objects.{Scope, access, write, write_at}
 use Rattle.c_semantics.specs.Evaluates.{eval, place, assign, assign_place}
 use Rattle.suifvm_ir.specs.declared.types.VmType.TheVariants.{P64}
-use Rattle.suifvm_ir.specs.declared.insn.UnaryOp.TheVariants.{Move}
+use Rattle.suifvm_ir.specs.declared.insn.VmUnaryOp.TheVariants.{Move}
 use Rattle.suifvm_ir.specs.declared.insn.VmInsn.TheVariants as n
 use Rattle.vm_meaning.specs.Operations as vm
 use Rattle.vm_meaning.specs.Effect.{writes}
@@ -28,8 +28,8 @@ use Rattle.vm_meaning.specs.Behave.{Registers, set_register}
 use Rattle.lowering_code.specs.declared.item.CodeItem.{CodeItem}
 use Rattle.lowering_code.specs.Registers.{register_type, value_register, address_register}
 use Rattle.lowering_code.specs.Expressions.{move_code, set_scalar_code, register_of, assign_code, plus_of, expr_code, place_code}
-use Rattle.lowering_states.specs.Places.{Place, next_place}
-use Rattle.lowering_states.specs.Runs.{opens, Observation, NotDefined, finish}
+use Rattle.lowering_states.specs.Places.{CodePlace, next_place}
+use Rattle.lowering_states.specs.Runs.{opens, CodeObservation, NotDefined, finish}
 use Rattle.lowering_states.specs.States.{IsHeld, IsIn, KeepsLower, type_at}
 use Rattle.lowering_states.proofs.Steps.{meets_anything, meets_same, used_meets}
 use Rattle.lowering_states.proofs.States.{set_other, temporary_past, kept_on, kept_local, kept_temporary, kept_reads, is_in, is_at, after_on, fits_temporary, fits_local}
@@ -72,7 +72,7 @@ module _ (c : Setting) (found : slice_get c.functions c.number ≡ Some c.code) 
         let held1 : IsHeld ty v = subst (λ z. IsHeld z v) ey held in
         let stands1 : IsIn g ty v (q1 reg) = subst (λ z. IsIn g z v (q1 (value_register L d z))) ey stands in
         let rel = scalar_in g ty v (q1 reg) scalar stands1 in
-        let t1 : State = with_registers t (with_register t.registers k v) in
+        let t1 : CallState = with_registers t (with_register t.registers k v) in
         bound c found (and_then (use_value UsesNoValue v t) (write_register k)) (λ _. pure (assign_place ty (obj.Register k) v)) K q q1 t.world m1
         (bound c found (use_value UsesNoValue v t) (write_register k) (λ _ u. K (assign_place ty (obj.Register k) v) u) q q1 t.world m1
         (used_meets c.rooms c.functions UsesNoValue v t (λ v1 u. K (assign_place ty (obj.Register k) v) (with_registers u (with_register u.registers k v1))) _ (λ set.
@@ -87,7 +87,7 @@ module _ (c : Setting) (found : slice_get c.functions c.number ≡ Some c.code) 
   -- ---- to memory
 
   -- a value that is not set ends the run
-  unset_write : (ty : PlainType) (at v : Value) (t : State) (K : Value → State → Observation) → IsScalarType ty → vm.is_set v ≡ false → finish (and_then (write_at c.structs ty at v t) (λ _. pure v)) K ≡ NotDefined
+  unset_write : (ty : PlainType) (at v : Value) (t : CallState) (K : Value → CallState → CodeObservation) → IsScalarType ty → vm.is_set v ≡ false → finish (and_then (write_at c.structs ty at v t) (λ _. pure v)) K ≡ NotDefined
   unfolding opens
   unset_write ty at (Word k) t K scalar e = absurd (cc)
   unset_write ty at (Address k) t K scalar e = absurd (cc)
@@ -95,8 +95,8 @@ module _ (c : Setting) (found : slice_get c.functions c.number ≡ Some c.code) 
   unset_write ty at Unset t K (inr x) e = ap (λ z. finish (and_then (write_at c.structs z at Unset t) (λ _. pure Unset)) K) x.1
 
   -- a scalar that is put, by its type and by whether it is set
-  put_scalar : (ty : PlainType) (d left : ℕ) (rest : List CodeItem) (heads : List ℕ) (f : Names) (scope : Scope) (r : Registers) (s : State) (m : Memory) (K : Value → State → Observation) → Follows c d ty heads rest f scope r s m K
-      → IsScalarType ty → (q : Place) (base at v : Value) (g : Names) (t : State) (q1 : Registers) (m1 : Memory) → Aft c f s m g t m1 → Fit c g scope q1 t m1 → KeepsLower L d r q1 → IsHeld ty v
+  put_scalar : (ty : PlainType) (d left : ℕ) (rest : List CodeItem) (heads : List ℕ) (f : Names) (scope : Scope) (r : Registers) (s : CallState) (m : Memory) (K : Value → CallState → CodeObservation) → Follows c d ty heads rest f scope r s m K
+      → IsScalarType ty → (q : CodePlace) (base at v : Value) (g : Names) (t : CallState) (q1 : Registers) (m1 : Memory) → Aft c f s m g t m1 → Fit c g scope q1 t m1 → KeepsLower L d r q1 → IsHeld ty v
       → IsValueOf g v (q1 (value_register L (suc d) ty)) → IsValueOf g base (q1 (address_register L d)) → IsMoved t.world.outer.memory base left at → Stands c heads q (set_scalar_code L d left ty rest)
       → EndsSo c (finish (and_then (write_at c.structs ty at v t) (λ _. pure v)) K) q q1 t.world m1
   unfolding opens
@@ -140,7 +140,7 @@ module _ (c : Setting) (found : slice_get c.functions c.number ≡ Some c.code) 
         let code_e =
         ap (λ z. assign_code L c.structs c.locals d None ty (type_of y) left z (λ is. place_code L c.structs c.locals d x 0 is) (λ j is. expr_code L c.structs c.locals j y is) rest) none
         ∙ scalar_code ty (type_of y) d left (λ is. place_code L c.structs c.locals d x 0 is) (λ j is. expr_code L c.structs c.locals j y is) rest scalar in
-        let run : obj.Place → Run Value = λ z t. and_then (eval c.structs c.locals c.calls scope y t) (assign c.structs ty (type_of y) None z) in
+        let run : obj.ValuePlace → Run Value = λ z t. and_then (eval c.structs c.locals c.calls scope y t) (assign c.structs ty (type_of y) None z) in
         bound c found (place c.structs c.locals c.calls scope x s) run K p1 r s.world m
         (hx.by d 0 (expr_code L c.structs c.locals (suc d) y tail) heads p1 f scope r s m (λ z t. finish (run z t) K) (omega arith) (omega arith) (subst (λ z. Stands c heads p1 z) code_e at) fit low
         (λ q base place g t q1 m1 at1 aft fit1 kept held stands small is_base.

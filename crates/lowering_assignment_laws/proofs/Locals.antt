@@ -13,12 +13,12 @@ use Rattle.c_typed_tree.specs.View.{type_view}
 use Rattle.c_typed_tree.specs.Expressions.{Expr, type_of}
 use Rattle.c_typed_tree.specs.Expressions as e
 use Rattle.c_semantics.specs.Reasons.{ReadsUnwritten, UsesDeadObject}
-use Rattle.c_semantics.specs.Runs.{State, Run, and_then, use_value, pure, or_undefined}
+use Rattle.c_semantics.specs.Runs.{CallState, Run, and_then, use_value, pure, or_undefined}
 use Rattle.c_semantics.specs.Objects as obj
 use Rattle.c_semantics.specs.Objects.{Scope, start_of, as_held, read, read_at, local_place}
 use Rattle.suifvm_ir.specs.declared.types.VmType.TheVariants.{P64}
-use Rattle.suifvm_ir.specs.declared.insn.UnaryOp.TheVariants.{Move}
-use Rattle.suifvm_ir.specs.declared.insn.Place.TheVariants as p
+use Rattle.suifvm_ir.specs.declared.insn.VmUnaryOp.TheVariants.{Move}
+use Rattle.suifvm_ir.specs.declared.insn.VmObject.TheVariants as p
 use Rattle.suifvm_ir.specs.declared.insn.VmInsn.TheVariants as n
 use Rattle.vm_meaning.specs.declared.answer.Answer.TheVariants.{Gives, Fails}
 use Rattle.vm_meaning.specs.Operations as vm
@@ -27,7 +27,7 @@ use Rattle.vm_meaning.specs.Behave.{set_register}
 use Rattle.lowering_code.specs.Registers.{register_type, value_register, address_register, object_of}
 use Rattle.lowering_code.specs.Expressions.{plain_of, register_if, local_code, load_code}
 use Rattle.lowering_states.specs.Places.{next_place}
-use Rattle.lowering_states.specs.Runs.{opens, Observation, finish}
+use Rattle.lowering_states.specs.Runs.{opens, CodeObservation, finish}
 use Rattle.lowering_states.specs.States.{IsHeld, type_at}
 use Rattle.lowering_states.proofs.Steps.{meets_same, used_meets, known_meets}
 use Rattle.lowering_states.proofs.States.{kept_all, kept_temporary, is_in, is_at, value_at, after_same, fits_temporary}
@@ -57,7 +57,7 @@ moves f ty v w (inr t) held rel set = subst (λ z. vm.unary_answer Move (registe
     is_set Unset r s = absurd (cc)
 
 -- a value that a register holds is read as it is
-pub read_as : (ty : PlainType) (v : Value) (s : State) (K : Value → State → Observation) → IsScalarType ty → IsHeld ty v → vm.is_set v ≡ true → finish (as_held ty v s) K ≡ K v s
+pub read_as : (ty : PlainType) (v : Value) (s : CallState) (K : Value → CallState → CodeObservation) → IsScalarType ty → IsHeld ty v → vm.is_set v ≡ true → finish (as_held ty v s) K ≡ K v s
 unfolding opens
 read_as ty v s K (inl t) held set = subst (λ z. finish (as_held z v s) K ≡ K v s) (sym t.1) (words v (subst (λ z. IsHeld z v) t.1 held) set)
   where
@@ -75,7 +75,7 @@ module _ (c : Setting) (found : slice_get c.functions c.number ≡ Some c.code) 
   pub register_place : (k : ℕ) (l : Local) (scope : Scope) → slice_get c.locals k ≡ Some l → l.in_memory ≡ false → local_place scope k (slice_get c.locals k) ≡ pure (obj.Register k)
   unfolding opens
   register_place k l scope e m =
-      ap (local_place scope k) e ∙ ap (λ z. if◌then◌else◌ {A = Run obj.Place} z (λ t. and_then (or_undefined UsesDeadObject (scope k) t) (λ o. pure (obj.At (start_of o)))) (pure (obj.Register k))) m
+      ap (local_place scope k) e ∙ ap (λ z. if◌then◌else◌ {A = Run obj.ValuePlace} z (λ t. and_then (or_undefined UsesDeadObject (scope k) t) (λ o. pure (obj.At (start_of o)))) (pure (obj.Register k))) m
 
   pub register_is : (k : ℕ) (l : Local) → slice_get c.locals k ≡ Some l → l.in_memory ≡ false → register_if L c.structs c.locals k (slice_get c.locals k) ≡ Some k
   register_is k l e m = ap (register_if L c.structs c.locals k) e ∙ ap (λ z. if◌then◌else◌ {A = Option ℕ} z None (Some k)) m
@@ -109,10 +109,10 @@ module _ (c : Setting) (found : slice_get c.functions c.number ≡ Some c.code) 
         let reg = address_register L d in
         let name = c.own + object_of c.locals k in
         let at2 = subst (λ z. Stands c heads place (local_code L c.structs c.locals d ty k z rest)) (object_is k l el em) at in
-        let run : Value → State → Observation = λ v t. finish (read_at ty v t) K in
+        let run : Value → CallState → CodeObservation = λ v t. finish (read_at ty v t) K in
         meets_same c.rooms c.functions
         (ap (λ z. finish (and_then (local_place scope k z s) (read ty)) K) el
-        ∙ ap (λ z. finish (and_then (if◌then◌else◌ {A = Run obj.Place} z (λ t. and_then (or_undefined UsesDeadObject (scope k) t) (λ o. pure (obj.At (start_of o)))) (pure (obj.Register k)) s) (read ty)) K) em)
+        ∙ ap (λ z. finish (and_then (if◌then◌else◌ {A = Run obj.ValuePlace} z (λ t. and_then (or_undefined UsesDeadObject (scope k) t) (λ o. pure (obj.At (start_of o)))) (pure (obj.Register k)) s) (read ty)) K) em)
         (bound c found (and_then (or_undefined UsesDeadObject (scope k) s) (λ o. pure (obj.At (start_of o)))) (read ty) K place r s.world m
         (bound c found (or_undefined UsesDeadObject (scope k) s) (λ o. pure (obj.At (start_of o))) (λ z t. finish (read ty z t) K) place r s.world m
         (known_meets c.rooms c.functions UsesDeadObject (scope k) s (λ o t. finish (read_at ty (start_of o) t) K) _ (λ o here.

@@ -6,9 +6,9 @@ use Rattle.std.proofs.lemmas.List.Elements.{All-nil, All-cons, All-append, All-p
 use Rattle.std.proofs.lemmas.List.Sums.{sum_by_push, sum_by-append}
 use Rattle.suifvm_ir.specs.declared.types.VmType.TheVariants.{S32}
 use Rattle.suifvm_ir.specs.declared.types.VmType.{VmType}
-use Rattle.suifvm_ir.specs.declared.insn.BranchOp.{BranchOp}
+use Rattle.suifvm_ir.specs.declared.insn.VmBranchOp.{VmBranchOp}
 use Rattle.suifvm_ir.specs.declared.insn.TypedRegister.{TypedRegister}
-use Rattle.suifvm_ir.specs.declared.insn.BranchOp.TheVariants.{IfTrue}
+use Rattle.suifvm_ir.specs.declared.insn.VmBranchOp.TheVariants.{IfTrue}
 use Rattle.suifvm_ir.specs.declared.insn.VmInsn as vm
 use Rattle.suifvm_ir.specs.declared.insn.VmInsn.TheVariants as n
 use Rattle.suifvm_ir.specs.Insns.{targets_of, flows_on_of}
@@ -55,7 +55,7 @@ module _ (most : ℕ) (passes : vm.VmInsn → Bool) where
   -- those that only say where to go on
   pub record PassesWays : Type 0 where
     pub jump : (t : ℕ) → IsTrue (passes (n.Jump t))
-    pub branch : (op : BranchOp) (ty : VmType) (r t : ℕ) → IsTrue (passes (n.Branch op ty r t))
+    pub branch : (op : VmBranchOp) (ty : VmType) (r t : ℕ) → IsTrue (passes (n.Branch op ty r t))
     pub give : (v : Option TypedRegister) → IsTrue (passes (n.Return v))
     pub mark : IsTrue (passes n.Mark)
     pub constant : (r : ℕ) → IsTrue (passes (n.LoadConstant S32 r 0))

@@ -25,11 +25,11 @@ use Rattle.c_typed_tree.specs.Typing.{is_same_type, is_scalar, is_fit, Context, 
 use Rattle.c_typed_tree.specs.Lawful.{IsLawfulStruct, is_lawful_local}
 use Rattle.c_typed_tree.specs.Weight.{expr_weight, exprs_weight, copy_weight, assign_weight, exprs_count}
 use Rattle.c_semantics.specs.Operators.{operator_of}
-use Rattle.suifvm_ir.specs.declared.function.Object.{Object}
-use Rattle.suifvm_ir.specs.declared.insn.BranchOp.{BranchOp}
-use Rattle.suifvm_ir.specs.declared.insn.BranchOp.TheVariants.{IfTrue, IfFalse}
-use Rattle.suifvm_ir.specs.declared.insn.UnaryOp.TheVariants.{Negate, Complement}
-use Rattle.suifvm_ir.specs.declared.insn.Place.TheVariants as p
+use Rattle.suifvm_ir.specs.declared.function.MemoryLocal.{MemoryLocal}
+use Rattle.suifvm_ir.specs.declared.insn.VmBranchOp.{VmBranchOp}
+use Rattle.suifvm_ir.specs.declared.insn.VmBranchOp.TheVariants.{IfTrue, IfFalse}
+use Rattle.suifvm_ir.specs.declared.insn.VmUnaryOp.TheVariants.{Negate, Complement}
+use Rattle.suifvm_ir.specs.declared.insn.VmObject.TheVariants as p
 use Rattle.suifvm_ir.specs.declared.insn.VmInsn.TheVariants as n
 use Rattle.suifvm_ir.specs.Insns.{named_register}
 use Rattle.suifvm_ir.specs.Programs.{VmFunction, place_reaches, function_takes, callee_takes, alignment_bytes}
@@ -66,7 +66,7 @@ own_depth (Postfix ty op x) = omega arith
 own_depth (Comma ty xs) = omega arith
 
 module _ (most : ℕ) (fs : List VmFunction) (c : Context) (structs : All (IsLawfulStruct c.structs) c.structs) (lawful : IsTrue (list_all (is_lawful_local c.structs) c.locals)) (calls : TakesArguments fs c.functions) where
-  abbrev os : List Object
+  abbrev os : List MemoryLocal
   os = objects_of c.structs c.locals
 
   abbrev L : ℕ
@@ -228,7 +228,7 @@ module _ (most : ℕ) (fs : List VmFunction) (c : Context) (structs : All (IsLaw
 
   -- ---- `&&`, `||` and `?:`
 
-  decides_spends : (op : BranchOp) (d : ℕ) (ty tx ty' : PlainType) (word other : ℕ) (v w : ℕ) (fx fy : List CodeItem → List CodeItem)
+  decides_spends : (op : VmBranchOp) (d : ℕ) (ty tx ty' : PlainType) (word other : ℕ) (v w : ℕ) (fx fy : List CodeItem → List CodeItem)
       → ((is : List CodeItem) → Spends v is (fx is)) → ((is : List CodeItem) → Spends w is (fy is)) → (rest : List CodeItem) → Has d 1
       → Spends (1 + (v + w)) rest
       (fx (code.branch_code L op d tx (count (code.constant_code L d ty word (Start ∷ rest)))

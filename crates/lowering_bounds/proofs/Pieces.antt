@@ -13,17 +13,17 @@ use Rattle.c_semantics.specs.Objects.{integer_of}
 use Rattle.c_semantics.specs.Operators.{operation_type, step_operator, one_type}
 use Rattle.suifvm_ir.specs.declared.types.VmType.{VmType}
 use Rattle.suifvm_ir.specs.declared.types.VmType.TheVariants.{S32, U32, S64, U64, P64}
-use Rattle.suifvm_ir.specs.declared.insn.BranchOp.{BranchOp}
-use Rattle.suifvm_ir.specs.declared.insn.UnaryOp as vu
-use Rattle.suifvm_ir.specs.declared.insn.BinaryOp as vq
-use Rattle.suifvm_ir.specs.declared.insn.BinaryOp.TheVariants as vb
+use Rattle.suifvm_ir.specs.declared.insn.VmBranchOp.{VmBranchOp}
+use Rattle.suifvm_ir.specs.declared.insn.VmUnaryOp as vu
+use Rattle.suifvm_ir.specs.declared.insn.VmBinaryOp as vq
+use Rattle.suifvm_ir.specs.declared.insn.VmBinaryOp.TheVariants as vb
 use Rattle.suifvm_ir.specs.Cost.{most_binary_calls}
-use Rattle.suifvm_ir.specs.declared.insn.Place.{Place}
+use Rattle.suifvm_ir.specs.declared.insn.VmObject.{VmObject}
 use Rattle.suifvm_ir.specs.declared.insn.TypedRegister.{TypedRegister}
 use Rattle.suifvm_ir.specs.declared.insn.VmInsn as vm
 use Rattle.suifvm_ir.specs.declared.insn.VmInsn.TheVariants as n
 use Rattle.data_object.specs.declared.DataObject.{DataObject}
-use Rattle.suifvm_ir.specs.declared.function.Object.{Object}
+use Rattle.suifvm_ir.specs.declared.function.MemoryLocal.{MemoryLocal}
 use Rattle.suifvm_ir.specs.Insns.{returned_register}
 use Rattle.suifvm_ir.specs.Programs.{VmFunction, names_what_is_there, place_reaches, alignment_bytes}
 use Rattle.lowering_code.specs.declared.operation.RegisterOperation.{RegisterOperation}
@@ -37,7 +37,7 @@ use Rattle.lowering_bounds.specs.model.Costs.{plain_cost, items_cost}
 use Rattle.lowering_bounds.specs.Laws.{arguments_of}
 use Rattle.lowering_bounds.specs.model.Fits.{Fits, IsNarrow}
 
-module _ (most : ℕ) (fs : List VmFunction) (gs : List DataObject) (os : List Object) where
+module _ (most : ℕ) (fs : List VmFunction) (gs : List DataObject) (os : List MemoryLocal) where
   abbrev pub passes : vm.VmInsn → Bool
   passes = names_what_is_there fs gs os
 
@@ -64,7 +64,7 @@ module _ (most : ℕ) (fs : List VmFunction) (gs : List DataObject) (os : List O
   pub jump : (name : ℕ) (rest : List CodeItem) → Emits 560 rest (Jump name ∷ rest)
   jump name rest = record { fits = λ h. h; cost = omega arith; wide = λ w le h. h }
 
-  pub branch : (op : BranchOp) (ty : VmType) (source name : ℕ) (rest : List CodeItem) → source < most → Emits 1096 rest (Branch op ty source name ∷ rest)
+  pub branch : (op : VmBranchOp) (ty : VmType) (source name : ℕ) (rest : List CodeItem) → source < most → Emits 1096 rest (Branch op ty source name ∷ rest)
   branch op ty source name rest s = record { fits = λ h. (s, h); cost = omega arith; wide = λ w le h. h }
 
   pub give : (value : Option TypedRegister) (rest : List CodeItem) → registers_top (returned_register value) ≤ most → Emits 48 rest (Return value ∷ rest)
@@ -106,7 +106,7 @@ module _ (most : ℕ) (fs : List VmFunction) (gs : List DataObject) (os : List O
   pub copy_emits : (ds : List StructDef) (to from : ℕ) (ty : PlainType) (rest : List CodeItem) → to < most → from < most → IsTrue (code.stride ds ty % alignment_bytes (code.alignment_of (align_of ds ty)) == 0) → Emits (24 + 96 * code.stride ds ty) rest (code.copy_code ds to from ty rest)
   copy_emits ds to from ty rest a b w = plain (24 + 96 * code.stride ds ty) _ rest (omega arith) w (omega (arith, a, b)) refl
 
-  one_call : (op : vq.BinaryOp) → most_binary_calls op ≤ 1
+  one_call : (op : vq.VmBinaryOp) → most_binary_calls op ≤ 1
   one_call vb.Add = omega arith
   one_call vb.Subtract = omega arith
   one_call vb.Multiply = omega arith
@@ -177,10 +177,10 @@ module _ (most : ℕ) (fs : List VmFunction) (gs : List DataObject) (os : List O
     pub scaled_emits : (d free : ℕ) (ty : PlainType) (size : ℕ) (rest : List CodeItem) → Has locals d 1 → Has locals free 1 → Emits 264 rest (code.scaled_code locals d free ty size rest)
     scaled_emits d free ty size rest h k = joins 24 240 rest _ _ (convert_emits d ty (Int 8 true) _ h) (sized_emits d free size rest h k)
 
-    pub address_emits : (d : ℕ) (place : Place) (plus : ℕ) (rest : List CodeItem) → Has locals d 1 → IsTrue (place_reaches gs os plus place) → Emits 24 rest (code.address_code locals d place plus rest)
+    pub address_emits : (d : ℕ) (place : VmObject) (plus : ℕ) (rest : List CodeItem) → Has locals d 1 → IsTrue (place_reaches gs os plus place) → Emits 24 rest (code.address_code locals d place plus rest)
     address_emits d place plus rest h w = plain 24 _ rest (omega arith) w (omega (arith, address_there d h)) refl
 
-    pub unary_emits : (op : vu.UnaryOp) (d : ℕ) (ty : PlainType) (rest : List CodeItem) → Has locals d 1 → Emits 24 rest (code.unary_code locals op d ty rest)
+    pub unary_emits : (op : vu.VmUnaryOp) (d : ℕ) (ty : PlainType) (rest : List CodeItem) → Has locals d 1 → Emits 24 rest (code.unary_code locals op d ty rest)
     unary_emits op d ty rest h = plain 24 _ rest (omega arith) refl (omega (arith, value_there d ty h)) refl
 
     pub not_emits : (d : ℕ) (ty operand : PlainType) (rest : List CodeItem) → Has locals d 2 → Emits 192 rest (code.not_code locals d ty operand rest)
@@ -188,7 +188,7 @@ module _ (most : ℕ) (fs : List VmFunction) (gs : List DataObject) (os : List O
         joins 144 48 rest _ _ (constant_emits (suc d) operand 0 _ (omega (arith, h)))
         (plain 48 _ rest (omega arith) refl (omega (arith, value_there d ty (omega (arith, h)), value_there d operand (omega (arith, h)), value_there (suc d) operand (omega (arith, h)))) refl)
 
-    pub branch_emits : (op : BranchOp) (d : ℕ) (ty : PlainType) (name : ℕ) (rest : List CodeItem) → Has locals d 1 → Emits 1096 rest (code.branch_code locals op d ty name rest)
+    pub branch_emits : (op : VmBranchOp) (d : ℕ) (ty : PlainType) (name : ℕ) (rest : List CodeItem) → Has locals d 1 → Emits 1096 rest (code.branch_code locals op d ty name rest)
     branch_emits op d ty name rest h = branch op _ _ name rest (value_there d ty h)
 
     -- ---- operators

@@ -19,11 +19,11 @@ use Rattle.c_typed_tree.specs.TypingStatements.{Jumps, in_loop, in_switch, is_va
 use Rattle.c_typed_tree.specs.Lawful.{IsLawfulStruct, is_lawful_local}
 use Rattle.c_typed_tree.specs.Weight.{expr_weight, copy_weight, optional_weight, init_weight, declared_weight, first_weight, label_weight, stmt_weight, stmts_weight, sections_weight}
 use Rattle.suifvm_ir.specs.declared.types.VmType.TheVariants.{S32}
-use Rattle.suifvm_ir.specs.declared.insn.BranchOp.TheVariants.{IfTrue, IfFalse}
+use Rattle.suifvm_ir.specs.declared.insn.VmBranchOp.TheVariants.{IfTrue, IfFalse}
 use Rattle.suifvm_ir.specs.declared.insn.CompareOp.TheVariants.{Equal}
-use Rattle.suifvm_ir.specs.declared.insn.Place.TheVariants as p
+use Rattle.suifvm_ir.specs.declared.insn.VmObject.TheVariants as p
 use Rattle.suifvm_ir.specs.declared.insn.VmInsn.TheVariants as n
-use Rattle.suifvm_ir.specs.declared.function.Object.{Object}
+use Rattle.suifvm_ir.specs.declared.function.MemoryLocal.{MemoryLocal}
 use Rattle.suifvm_ir.specs.Programs.{VmFunction, place_reaches}
 use Rattle.lowering_code.specs.declared.item.CodeItem.{CodeItem}
 use Rattle.lowering_code.specs.declared.item.CodeItem.TheVariants.{Start, Jump, Loop, Enter, Again}
@@ -90,7 +90,7 @@ module _ (most : ℕ) (fs : List VmFunction) (c : Context) (structs : All (IsLaw
   abbrev Has : (d k : ℕ) → Type 0
   Has d j = w.Has most fs c structs lawful calls d j
 
-  abbrev os : List Object
+  abbrev os : List MemoryLocal
   os = f.objects_of c.structs c.locals
 
   next : (j k i : ℕ) (rest mid is : List CodeItem) → j + k ≤ i → E j mid is → E k rest mid → E i rest is

@@ -24,8 +24,8 @@ use Rattle.c_typed_tree.specs.Weight.{expr_weight, copy_weight, exprs_count}
 use Rattle.c_semantics.specs.Objects.{members_of, member_place}
 use Rattle.suifvm_ir.specs.declared.types.Alignment.{Alignment}
 use Rattle.suifvm_ir.specs.declared.types.Alignment.TheVariants.{One, Two, Four, Eight}
-use Rattle.suifvm_ir.specs.declared.function.Object.{Object}
-use Rattle.suifvm_ir.specs.declared.insn.Place.TheVariants as p
+use Rattle.suifvm_ir.specs.declared.function.MemoryLocal.{MemoryLocal}
+use Rattle.suifvm_ir.specs.declared.insn.VmObject.TheVariants as p
 use Rattle.suifvm_ir.specs.Programs.{place_reaches, global_reaches, local_reaches, alignment_bytes}
 use Rattle.lowering_code.specs.Registers.{object_of}
 use Rattle.lowering_code.specs.Functions.{object_for, objects_of}
@@ -117,7 +117,7 @@ global_there ds ty plus (Some o) h small =
     let size : size_of ds ty ≡ o.size = eqb-true (size_of ds ty) o.size (back (is_object ds ty) (size_of ds ty == o.size) h) in
     le-leb plus o.size (omega (arith, size, small))
 
-pub global_reached : (ds : List StructDef) (gs : List DataObject) (os : List Object) (ty : PlainType) (k plus : ℕ) → IsTrue (has_global_type ds (slice_get gs k) ty) → plus ≤ size_of ds ty → IsTrue (place_reaches gs os plus (p.Global k))
+pub global_reached : (ds : List StructDef) (gs : List DataObject) (os : List MemoryLocal) (ty : PlainType) (k plus : ℕ) → IsTrue (has_global_type ds (slice_get gs k) ty) → plus ≤ size_of ds ty → IsTrue (place_reaches gs os plus (p.Global k))
 global_reached ds gs os ty k plus h small = global_there ds ty plus (slice_get gs k) h small
 
 -- ---- copies

@@ -14,11 +14,11 @@ use Rattle.c_typed_tree.specs.declared.expressions.Callee.TheVariants.{Builtin}
 use Rattle.c_typed_tree.specs.Types.{PlainType, Void}
 use Rattle.c_typed_tree.specs.Expressions.{Expr, Call, no_exprs, more_exprs, type_of}
 use Rattle.c_semantics.specs.Reasons.{UsesNoValue}
-use Rattle.c_semantics.specs.Runs.{State, Run, and_then, in_world, with_outer, use_value, number, pure, turn, trap, exit}
+use Rattle.c_semantics.specs.Runs.{CallState, Run, and_then, in_world, with_outer, use_value, number, pure, turn, trap, exit}
 use Rattle.c_semantics.specs.Objects.{call_result}
 use Rattle.c_semantics.specs.Evaluates.{eval, builtin, byte_or_end, put, get}
-use Rattle.suifvm_ir.specs.declared.insn.Builtin.TheVariants as vi
-use Rattle.suifvm_ir.specs.declared.insn.Callee.TheVariants as vk
+use Rattle.suifvm_ir.specs.declared.insn.VmBuiltin.TheVariants as vi
+use Rattle.suifvm_ir.specs.declared.insn.VmCallee.TheVariants as vk
 use Rattle.suifvm_ir.specs.declared.insn.VmInsn.{VmInsn}
 use Rattle.suifvm_ir.specs.declared.insn.VmInsn.TheVariants as n
 use Rattle.vm_meaning.specs.Operations as vm
@@ -28,7 +28,7 @@ use Rattle.lowering_code.specs.declared.item.CodeItem.TheVariants.{Plain}
 use Rattle.lowering_code.specs.Registers.{register_type, value_register}
 use Rattle.lowering_code.specs.Expressions.{plain_of}
 use Rattle.lowering_states.specs.Places.{next_place}
-use Rattle.lowering_states.specs.Runs.{opens, Observation, finish}
+use Rattle.lowering_states.specs.Runs.{opens, CodeObservation, finish}
 use Rattle.lowering_states.proofs.Steps.{meets_same, used_meets, number_meets, turn_meets, turn_less, no_turn, turning, turning_over}
 use Rattle.lowering_states.proofs.States.{kept_all, kept_temporary, value_at, after_on, fits_temporary, fits_after}
 use Rattle.lowering_values.proofs.Integers.{integer_of-plain, residue_small, signed_word}
@@ -69,7 +69,7 @@ module _ (c : Setting) (found : slice_get c.functions c.number ≡ Some c.code) 
   T = plain_of i.Int
 
   -- the value of a call as `int` holds it
-  result_is : (k : ℕ) (s : State) (K : Value → State → Observation) → extension i.Int k ≡ k → finish (call_result T (Word k) s) K ≡ K (Word k) s
+  result_is : (k : ℕ) (s : CallState) (K : Value → CallState → CodeObservation) → extension i.Int k ≡ k → finish (call_result T (Word k) s) K ≡ K (Word k) s
   unfolding opens
   result_is k s K e = ap (λ z. K (Word (extension z k)) s) (integer_of-plain i.Int) ∙ ap (λ z. K (Word z) s) e
 
@@ -79,15 +79,15 @@ module _ (c : Setting) (found : slice_get c.functions c.number ≡ Some c.code) 
     by = λ d rest heads p f scope r s m K at fit low next.
         let reg = value_register L d T in
         let insn : VmInsn = n.Call (Some reg) (vk.Builtin vi.GetChar) [] in
-        let K1 : Value → State → Observation = λ v u. finish (call_result T v u) K in
+        let K1 : Value → CallState → CodeObservation = λ v u. finish (call_result T v u) K in
         let k = byte_or_end (next_byte s.world.outer) in
         let word : extension i.Int k ≡ k = next_word s.world.outer.input fit.bytes in
         bound c found (and_then (turn s) (λ _. get)) (call_result T) K p r s.world m
         (bound c found (turn s) (λ _. get) K1 p r s.world m
         (turn_meets c.rooms c.functions s (λ _ t. finish (get t) K1) _
         (λ mt some.
-        let t : State = in_world s (with_meter s.world mt) in
-        let t1 : State = with_outer t (take_byte s.world.outer) in
+        let t : CallState = in_world s (with_meter s.world mt) in
+        let t1 : CallState = with_outer t (take_byte s.world.outer) in
         let less = turn_less s.world.meter mt some in
         let aft : Aft c f s m f t1 m = record { names = λ o q e. e; lives = λ o. refl; sizes = λ o l. refl; locals = λ q size h. h; turned = omega (arith, less) } in
         let fit1 : Fit c f scope r t1 m = fits_after aft fit.memory (bytes_left s.world.outer.input fit.bytes) fit in
@@ -106,8 +106,8 @@ module _ (c : Setting) (found : slice_get c.functions c.number ≡ Some c.code) 
         let reg = value_register L d T in
         let from = value_register L d (type_of x) in
         let insn : VmInsn = n.Call (Some reg) (vk.Builtin vi.PutChar) (from ∷ []) in
-        let K1 : Value → State → Observation = λ v u. finish (call_result T v u) K in
-        let K2 : List Value → State → Observation = λ vs u. finish (builtin Putchar vs u) K1 in
+        let K1 : Value → CallState → CodeObservation = λ v u. finish (call_result T v u) K in
+        let K2 : List Value → CallState → CodeObservation = λ vs u. finish (builtin Putchar vs u) K1 in
         let more : Value → Run (List Value) = λ v. pure (v ∷ []) in
         bound c found (and_then (and_then (and_then (eval c.structs c.locals c.calls scope x s) (use_value UsesNoValue)) more) (builtin Putchar)) (call_result T) K p r s.world m
         (bound c found (and_then (and_then (eval c.structs c.locals c.calls scope x s) (use_value UsesNoValue)) more) (builtin Putchar) K1 p r s.world m
@@ -124,7 +124,7 @@ module _ (c : Setting) (found : slice_get c.functions c.number ≡ Some c.code) 
         (turn_meets c.rooms c.functions t (λ _ u. finish (put k u) K1) _
         (λ mt some.
         let b = k % 256 in
-        let t1 : State = with_outer (in_world t (with_meter t.world mt)) (put_byte t.world.outer b) in
+        let t1 : CallState = with_outer (in_world t (with_meter t.world mt)) (put_byte t.world.outer b) in
         let less = turn_less t.world.meter mt some in
         let aft1 : Aft c g t m1 g t1 m1 = record { names = λ o a e. e; lives = λ o. refl; sizes = λ o l. refl; locals = λ a size h. h; turned = omega (arith, less) } in
         let fit2 : Fit c g scope q1 t1 m1 = fits_after aft1 fit1.memory fit1.bytes fit1 in
@@ -142,7 +142,7 @@ module _ (c : Setting) (found : slice_get c.functions c.number ≡ Some c.code) 
   abort = record {
     by = λ d rest heads p f scope r s m K at fit low next.
         let insn : VmInsn = n.Call None (vk.Builtin vi.Abort) [] in
-        let K1 : Value → State → Observation = λ v u. finish (call_result Void v u) K in
+        let K1 : Value → CallState → CodeObservation = λ v u. finish (call_result Void v u) K in
         bound c found (and_then (turn s) (λ _. trap 2)) (call_result Void) K p r s.world m
         (bound c found (turn s) (λ _. trap 2) K1 p r s.world m
         (turn_meets c.rooms c.functions s (λ _ t. finish (trap {A = Value} 2 t) K1) _
@@ -156,8 +156,8 @@ module _ (c : Setting) (found : slice_get c.functions c.number ≡ Some c.code) 
     by = λ d rest heads p f scope r s m K at fit low next.
         let from = value_register L d (type_of x) in
         let insn : VmInsn = n.Call None (vk.Builtin vi.Exit) (from ∷ []) in
-        let K1 : Value → State → Observation = λ v u. finish (call_result Void v u) K in
-        let K2 : List Value → State → Observation = λ vs u. finish (builtin Exit vs u) K1 in
+        let K1 : Value → CallState → CodeObservation = λ v u. finish (call_result Void v u) K in
+        let K2 : List Value → CallState → CodeObservation = λ vs u. finish (builtin Exit vs u) K1 in
         let more : Value → Run (List Value) = λ v. pure (v ∷ []) in
         bound c found (and_then (and_then (and_then (eval c.structs c.locals c.calls scope x s) (use_value UsesNoValue)) more) (builtin Exit)) (call_result Void) K p r s.world m
         (bound c found (and_then (and_then (eval c.structs c.locals c.calls scope x s) (use_value UsesNoValue)) more) (builtin Exit) K1 p r s.world m

@@ -15,11 +15,11 @@ use Rattle.c_typed_tree.specs.declared.expressions.Callee.TheVariants.{Function}
 use Rattle.c_typed_tree.specs.Types.{PlainType, Void, Pointer}
 use Rattle.c_typed_tree.specs.Expressions.{Call, Exprs, no_exprs, more_exprs, type_of}
 use Rattle.c_semantics.specs.Reasons.{UsesNoValue}
-use Rattle.c_semantics.specs.Runs.{State, Run, and_then, use_value, pure, turn}
+use Rattle.c_semantics.specs.Runs.{CallState, Run, and_then, use_value, pure, turn}
 use Rattle.c_semantics.specs.Objects.{Scope, call_result}
 use Rattle.c_semantics.specs.Evaluates.{eval, evals}
 use Rattle.c_semantics.specs.Executes.{within_call, enter_function, leave_function}
-use Rattle.suifvm_ir.specs.declared.insn.Callee.TheVariants as vk
+use Rattle.suifvm_ir.specs.declared.insn.VmCallee.TheVariants as vk
 use Rattle.suifvm_ir.specs.declared.insn.VmInsn.{VmInsn}
 use Rattle.suifvm_ir.specs.declared.insn.VmInsn.TheVariants as n
 use Rattle.vm_meaning.specs.Operations as vm
@@ -29,8 +29,8 @@ use Rattle.lowering_code.specs.declared.item.CodeItem.{CodeItem}
 use Rattle.lowering_code.specs.declared.item.CodeItem.TheVariants.{Plain}
 use Rattle.lowering_code.specs.Registers.{register_type, value_register}
 use Rattle.lowering_code.specs.Expressions.{plain_of, destination_of, argument_registers, exprs_code}
-use Rattle.lowering_states.specs.Places.{Place, next_place}
-use Rattle.lowering_states.specs.Runs.{opens, Observation, finish, frame_of}
+use Rattle.lowering_states.specs.Places.{CodePlace, next_place}
+use Rattle.lowering_states.specs.Runs.{opens, CodeObservation, finish, frame_of}
 use Rattle.lowering_states.specs.States.{IsHeld, IsIn, KeepsLower}
 use Rattle.lowering_states.proofs.Steps.{meets_same, used_meets, turn_meets, turn_less, no_turn, calling, resume_meets}
 use Rattle.lowering_states.proofs.States.{kept_all, kept_on, kept_temporary, kept_reads, is_in, is_at, after_same, after_on, fits_temporary, fits_after}
@@ -61,7 +61,7 @@ all_set f (ty ∷ tys) (v ∷ vs) [] h = absurd h
 all_set f (ty ∷ tys) (v ∷ vs) (w ∷ ws) h = ap (λ z. z && list_all vm.is_set ws) h.0 ∙ all_set f tys vs ws h.3
 
 -- the value of a call, as its type holds it
-result_is : (ty : PlainType) (v : Value) (s : State) (K : Value → State → Observation) → IsScalarType ty → IsHeld ty v → finish (call_result ty v s) K ≡ K v s
+result_is : (ty : PlainType) (v : Value) (s : CallState) (K : Value → CallState → CodeObservation) → IsScalarType ty → IsHeld ty v → finish (call_result ty v s) K ≡ K v s
 unfolding opens
 result_is ty v s K (inl t) held = subst (λ z. finish (call_result z v s) K ≡ K v s) (sym t.1) (words v (subst (λ z. IsHeld z v) t.1 held))
   where
@@ -87,12 +87,12 @@ module _ (c : Setting) (found : slice_get c.functions c.number ≡ Some c.code) 
 
   -- ---- arguments
 
-  abbrev ArgumentsFollow : (d : ℕ) → List PlainType → Exprs → (heads : List ℕ) → (rest : List CodeItem) → Names → Scope → Registers → State → Memory → (List Value → State → Observation) → Type 0
+  abbrev ArgumentsFollow : (d : ℕ) → List PlainType → Exprs → (heads : List ℕ) → (rest : List CodeItem) → Names → Scope → Registers → CallState → Memory → (List Value → CallState → CodeObservation) → Type 0
   ArgumentsFollow d tys xs heads rest f scope r s m K =
-      (q : Place) (vs : List Value) (g : Names) (t : State) (q1 : Registers) (m1 : Memory) → Stands c heads q rest → Aft c f s m g t m1 → Fit c g scope q1 t m1 → KeepsLower L d r q1
+      (q : CodePlace) (vs : List Value) (g : Names) (t : CallState) (q1 : Registers) (m1 : Memory) → Stands c heads q rest → Aft c f s m g t m1 → Fit c g scope q1 t m1 → KeepsLower L d r q1
       → AreArguments g tys vs (map q1 (argument_registers L c.structs c.locals d xs)) → EndsSo c (K vs t) q q1 t.world m1
 
-  arguments : (tys : List PlainType) (xs : Exprs) → ArgumentsMeet c tys xs → (d : ℕ) (rest : List CodeItem) (heads : List ℕ) (p : Place) (f : Names) (scope : Scope) (r : Registers) (s : State) (m : Memory) (K : List Value → State → Observation)
+  arguments : (tys : List PlainType) (xs : Exprs) → ArgumentsMeet c tys xs → (d : ℕ) (rest : List CodeItem) (heads : List ℕ) (p : CodePlace) (f : Names) (scope : Scope) (r : Registers) (s : CallState) (m : Memory) (K : List Value → CallState → CodeObservation)
       → Stands c heads p (exprs_code L c.structs c.locals d xs rest) → Fit c f scope r s m → s.world.meter.turns ≤ c.level → ArgumentsFollow d tys xs heads rest f scope r s m K
       → EndsSo c (finish (evals c.structs c.locals c.calls scope xs s) K) p r s.world m
   unfolding opens
@@ -118,10 +118,10 @@ module _ (c : Setting) (found : slice_get c.functions c.number ≡ Some c.code) 
 
   module _ (ty : PlainType) (k : ℕ) (tys : List PlainType) (xs : Exprs) (callee : FunctionMeets c k tys ty) where
     -- once the arguments stand in registers
-    call_leads : (destination : Option ℕ) (d : ℕ) (rest : List CodeItem) (heads : List ℕ) (scope : Scope) (K : Value → State → Observation)
-        (q : Place) (vs : List Value) (g : Names) (t : State) (q1 : Registers) (m1 : Memory) → Stands c heads q (Plain (n.Call destination (vk.Function k) (argument_registers L c.structs c.locals d xs)) ∷ rest)
+    call_leads : (destination : Option ℕ) (d : ℕ) (rest : List CodeItem) (heads : List ℕ) (scope : Scope) (K : Value → CallState → CodeObservation)
+        (q : CodePlace) (vs : List Value) (g : Names) (t : CallState) (q1 : Registers) (m1 : Memory) → Stands c heads q (Plain (n.Call destination (vk.Function k) (argument_registers L c.structs c.locals d xs)) ∷ rest)
         → Fit c g scope q1 t m1 → AreArguments g tys vs (map q1 (argument_registers L c.structs c.locals d xs)) → t.world.meter.turns ≤ c.level
-        → ((v : Value) (us : List Value) (h : Names) (t2 : State) (n1 : Memory) → Stands c heads (next_place q) rest → IsHeld ty v → IsValueOf h v (first_or_unset us) → Aft c g t m1 h t2 n1 → Fit c h scope q1 t2 n1
+        → ((v : Value) (us : List Value) (h : Names) (t2 : CallState) (n1 : Memory) → Stands c heads (next_place q) rest → IsHeld ty v → IsValueOf h v (first_or_unset us) → Aft c g t m1 h t2 n1 → Fit c h scope q1 t2 n1
         → EndsSo c (finish (call_result ty v t2) K) (next_place q) (set_registers (writes_of (n.Call destination (vk.Function k) (argument_registers L c.structs c.locals d xs))) us q1) t2.world n1)
         → EndsSo c (finish (c.calls k vs t) (λ v u. finish (call_result ty v u) K)) q q1 t.world m1
     unfolding opens
@@ -129,21 +129,21 @@ module _ (c : Setting) (found : slice_get c.functions c.number ≡ Some c.code) 
         let registers = argument_registers L c.structs c.locals d xs in
         let insn : VmInsn = n.Call destination (vk.Function k) registers in
         let ws = map q1 registers in
-        let K1 : Value → State → Observation = λ v u. finish (call_result ty v u) K in
+        let K1 : Value → CallState → CodeObservation = λ v u. finish (call_result ty v u) K in
         meets_same c.rooms c.functions (ap (λ z. finish (z t) K1) (callee.is vs))
         (bound c found (turn t) (λ _. within_call c.rooms k (callee.body vs)) K1 q q1 t.world m1
         (turn_meets c.rooms c.functions t (λ _ t1. finish (within_call c.rooms k (callee.body vs) t1) K1) _
         (λ mt some.
         let less = turn_less t.world.meter mt some in
         let w : World = enter_function c.rooms k (with_meter t.world mt) in
-        let inner : State = record { registers = λ j. Unset; world = w } in
+        let inner : CallState = record { registers = λ j. Unset; world = w } in
         let back : Value → Run Value = λ v u. Gives v (record { registers = t.registers; world = leave_function c.rooms k u.world }) in
         bound c found (callee.body vs inner) back K1 q q1 t.world m1
         (calling c.rooms c.functions c.number c.code found c.own c.waiting insn q q1 t.world m1 mt k callee.code ws at.has.0 refl some callee.found
         (ap (λ z. if z then machine.Calls k ws (outer_with_memory t.world.outer m1) else machine.Stops machine.HasNoMeaning (outer_with_memory t.world.outer m1)) (all_set g tys vs ws rels))
         (callee.by vs ws g inner m1 (frame_of c.number c.own q q1 ∷ c.waiting) (λ v u. finish (back v u) K1) rels fit.statics fit.memory fit.small fit.bytes (omega (arith, less, low))
         (λ v us h u n1 held rel aft1 mem bytes.
-        let t2 : State = record { registers = t.registers; world = leave_function c.rooms k u.world } in
+        let t2 : CallState = record { registers = t.registers; world = leave_function c.rooms k u.world } in
         let aft2 : Aft c g t m1 h t2 n1 = record { names = aft1.names; lives = aft1.lives; sizes = aft1.sizes; locals = aft1.locals; turned = omega (arith, aft1.turned, less) } in
         resume_meets c.rooms c.functions c.number c.code found c.own c.waiting insn q q1 t2.world n1 us at.has.0
         (next v us h t2 n1 (at_plain c.code.blocks c.last c.end insn at) held rel aft2 (fits_after aft2 mem bytes fit))))))
@@ -185,7 +185,7 @@ module _ (c : Setting) (found : slice_get c.functions c.number ≡ Some c.code) 
         (next (next_place q) v h t2 q1 n1 at3 (after_on {n1 = m1} aft aft2) fit2 kept held tt)))));
   }
     where
-      nothing_is : (v : Value) (s : State) (K : Value → State → Observation) → finish (call_result Void v s) K ≡ K v s
+      nothing_is : (v : Value) (s : CallState) (K : Value → CallState → CodeObservation) → finish (call_result Void v s) K ≡ K v s
       nothing_is (Word j) s K = refl
       nothing_is (Address a) s K = refl
       nothing_is Unset s K = refl

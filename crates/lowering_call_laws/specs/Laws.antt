@@ -12,10 +12,10 @@ use Rattle.vm_meaning.specs.Behave.{FunctionCode, Registers, registers_of, first
 use Rattle.c_typed_tree.specs.declared.expressions.Callee.TheVariants.{Function}
 use Rattle.c_typed_tree.specs.Types.{PlainType, Void}
 use Rattle.c_typed_tree.specs.Expressions.{Call, Exprs, no_exprs, more_exprs, type_of}
-use Rattle.c_semantics.specs.Runs.{State, Run, turn, ◌>>◌}
+use Rattle.c_semantics.specs.Runs.{CallState, Run, turn, ◌>>◌}
 use Rattle.c_semantics.specs.Executes.{within_call}
 use Rattle.lowering_states.specs.Places.{start_of_block}
-use Rattle.lowering_states.specs.Runs.{Observation, finish, Meets, Resumes, config}
+use Rattle.lowering_states.specs.Runs.{CodeObservation, finish, Meets, Resumes, config}
 use Rattle.lowering_states.specs.States.{IsHeld, After, is_live, size_in}
 use Rattle.lowering_expression_laws.specs.Parts.{Setting, ExprMeets}
 use Rattle.lowering_expression_laws.specs.Laws.{IsScalarType}
@@ -42,12 +42,12 @@ pub record FunctionMeets (c : Setting) (k : ℕ) (tys : List PlainType) (ty : Pl
   pub found : slice_get c.functions k ≡ Some code
   pub body : List Value → Run Value
   pub is : (vs : List Value) → c.calls k vs ≡ (turn >> within_call c.rooms k (body vs))
-  pub by : (vs ws : List Value) (f : Names) (s : State) (n : Memory) (waiting : List (Frame Registers))
-      (K : Value → State → Observation) → AreArguments f tys vs ws → ((j : ℕ) → j < c.statics → f j ≡ Some j)
+  pub by : (vs ws : List Value) (f : Names) (s : CallState) (n : Memory) (waiting : List (Frame Registers))
+      (K : Value → CallState → CodeObservation) → AreArguments f tys vs ws → ((j : ℕ) → j < c.statics → f j ≡ Some j)
       → IsMemoryOf f s.world.outer.memory n
       → ((o : ℕ) → is_live s.world.outer.memory o ≡ true → size_in s.world.outer.memory o ≤ MOST_DATA)
       → All (λ b. b < 256) s.world.outer.input → s.world.meter.turns < c.level →
-      ((v : Value) (us : List Value) (g : Names) (t : State) (n1 : Memory) → IsHeld ty v
+      ((v : Value) (us : List Value) (g : Names) (t : CallState) (n1 : Memory) → IsHeld ty v
       → IsValueOf g v (first_or_unset us)
       → After f s.world.outer.memory n s.world.meter.turns g t.world.outer.memory n1 t.world.meter.turns
       → IsMemoryOf g t.world.outer.memory n1 → All (λ b. b < 256) t.world.outer.input →

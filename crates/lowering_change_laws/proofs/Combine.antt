@@ -16,7 +16,7 @@ use Rattle.c_arithmetic.specs.Operations.{conversion}
 use Rattle.c_arithmetic.proofs.Results.{is_word-extension}
 use Rattle.c_tree.specs.declared.expressions.BinaryOp.{BinaryOp}
 use Rattle.c_typed_tree.specs.Constants.{integers_with}
-use Rattle.c_semantics.specs.Runs.{State, Run, and_then, number, pure}
+use Rattle.c_semantics.specs.Runs.{CallState, Run, and_then, number, pure}
 use Rattle.c_semantics.specs.Objects.{Scope}
 use Rattle.c_semantics.specs.Operators.{outcome, integers, convert_word, combined_in}
 use Rattle.suifvm_ir.specs.declared.types.VmType.{VmType}
@@ -32,8 +32,8 @@ use Rattle.lowering_code.specs.declared.operation.RegisterOperation.{RegisterOpe
 use Rattle.lowering_code.specs.declared.operation.RegisterOperation.TheVariants.{Calculates, Shifts, Compares, ComparesBack}
 use Rattle.lowering_code.specs.Registers.{register_type, temporary, value_register}
 use Rattle.lowering_code.specs.Expressions.{plain_of, is_kept, narrow_type, operation_of, operation_insn, convert_code, combine_in}
-use Rattle.lowering_states.specs.Places.{Place, next_place}
-use Rattle.lowering_states.specs.Runs.{opens, Observation, finish}
+use Rattle.lowering_states.specs.Places.{CodePlace, next_place}
+use Rattle.lowering_states.specs.Runs.{opens, CodeObservation, finish}
 use Rattle.lowering_states.specs.States.{IsHeld, IsIn, KeepsLower}
 use Rattle.lowering_states.proofs.Steps.{traps, number_meets, outcome_meets}
 use Rattle.lowering_states.proofs.States.{set_same, set_other, other_depth, fits_temporary}
@@ -86,13 +86,13 @@ puts (Shifts op) ty d l r = refl
 puts (Compares op) ty d l r = refl
 puts (ComparesBack op) ty d l r = refl
 
-module _ (c : Setting) (found : slice_get c.functions c.number ≡ Some c.code) (heads : List ℕ) (g : Names) (scope : Scope) (s : State) (m : Memory) where
+module _ (c : Setting) (found : slice_get c.functions c.number ≡ Some c.code) (heads : List ℕ) (g : Names) (scope : Scope) (s : CallState) (m : Memory) where
   abbrev L : ℕ
   L = count c
 
   -- an integer at a depth becomes one of another type
-  pub convert_leads : {e : Observation} (o : ℕ) (t u : IntegerType) (k : ℕ) (tail : List CodeItem) (q : Place) (r : Registers) → Stands c heads q (convert_code L o (plain_of t) (plain_of u) tail) → Fit c g scope r s m → WordIn L o t k r
-      → ((q1 : Place) (r1 : Registers) → Stands c heads q1 tail → Fit c g scope r1 s m → KeepsBut L o r r1 → WordIn L o u (conversion t u k) r1 → EndsSo c e q1 r1 s.world m) → EndsSo c e q r s.world m
+  pub convert_leads : {e : CodeObservation} (o : ℕ) (t u : IntegerType) (k : ℕ) (tail : List CodeItem) (q : CodePlace) (r : Registers) → Stands c heads q (convert_code L o (plain_of t) (plain_of u) tail) → Fit c g scope r s m → WordIn L o t k r
+      → ((q1 : CodePlace) (r1 : Registers) → Stands c heads q1 tail → Fit c g scope r1 s m → KeepsBut L o r r1 → WordIn L o u (conversion t u k) r1 → EndsSo c e q1 r1 s.world m) → EndsSo c e q r s.world m
   convert_leads {e = e} o t u k tail q r at fit one next = by_kept (is_kept (plain_of t) (plain_of u)) refl at
     where
       k1 : ℕ
@@ -117,8 +117,8 @@ module _ (c : Setting) (found : slice_get c.functions c.number ≡ Some c.code) 
     insn = operation_insn (operation_of op (is_signed t)) (register_type (plain_of t)) (value_register L o (plain_of t)) (value_register L o (plain_of t)) (value_register L d (plain_of right))
 
     -- the old value at one depth, and the right side at another one, whose words are known
-    words_lead : (x y : ℕ) (K : Value → State → Observation) (q : Place) (r : Registers) → Stands c heads q (combine_in L op t o d (plain_of left) (plain_of right) rest) → Fit c g scope r s m → WordIn L o left x r → WordIn L d right y r
-        → ((q1 : Place) (z : ℕ) (r1 : Registers) → Stands c heads q1 rest → Fit c g scope r1 s m → KeepsBut L o r r1 → WordIn L o left z r1 → EndsSo c (K (Word z) s) q1 r1 s.world m)
+    words_lead : (x y : ℕ) (K : Value → CallState → CodeObservation) (q : CodePlace) (r : Registers) → Stands c heads q (combine_in L op t o d (plain_of left) (plain_of right) rest) → Fit c g scope r s m → WordIn L o left x r → WordIn L d right y r
+        → ((q1 : CodePlace) (z : ℕ) (r1 : Registers) → Stands c heads q1 rest → Fit c g scope r1 s m → KeepsBut L o r r1 → WordIn L o left z r1 → EndsSo c (K (Word z) s) q1 r1 s.world m)
         → EndsSo c (finish (outcome (integers_with op t right (conversion left t x) y) s) (λ w u. finish (convert_word t left w u) K)) q r s.world m
     unfolding opens
     words_lead x y K q r at fit wx wy next =
@@ -147,9 +147,9 @@ module _ (c : Setting) (found : slice_get c.functions c.number ≡ Some c.code) 
         trap_defined z k e bad = cc
 
     -- the same with values, of which each has to be a word
-    pub values_lead : (v w : Value) (K : Value → State → Observation) (q : Place) (r : Registers) → Stands c heads q (combine_in L op t o d (plain_of left) (plain_of right) rest) → Fit c g scope r s m
+    pub values_lead : (v w : Value) (K : Value → CallState → CodeObservation) (q : CodePlace) (r : Registers) → Stands c heads q (combine_in L op t o d (plain_of left) (plain_of right) rest) → Fit c g scope r s m
         → IsHeld (plain_of left) v → IsIn g (plain_of left) v (r (value_register L o (plain_of left))) → IsHeld (plain_of right) w → IsIn g (plain_of right) w (r (value_register L d (plain_of right)))
-        → ((q1 : Place) (z : ℕ) (r1 : Registers) → Stands c heads q1 rest → Fit c g scope r1 s m → KeepsBut L o r r1 → WordIn L o left z r1 → EndsSo c (K (Word z) s) q1 r1 s.world m)
+        → ((q1 : CodePlace) (z : ℕ) (r1 : Registers) → Stands c heads q1 rest → Fit c g scope r1 s m → KeepsBut L o r r1 → WordIn L o left z r1 → EndsSo c (K (Word z) s) q1 r1 s.world m)
         → EndsSo c (finish (combined_in op t left right v w s) K) q r s.world m
     unfolding opens
     values_lead v w K q r at fit hv iv hw iw next =

@@ -19,7 +19,7 @@ use Rattle.c_tree.specs.declared.expressions.BinaryOp.{BinaryOp}
 use Rattle.c_tree.specs.declared.expressions.BinaryOp.TheVariants as b
 use Rattle.c_typed_tree.specs.Types.{PlainType, Pointer}
 use Rattle.c_typed_tree.specs.Layout.{size_of}
-use Rattle.c_semantics.specs.Runs.{State, Run, number}
+use Rattle.c_semantics.specs.Runs.{CallState, Run, number}
 use Rattle.c_semantics.specs.Objects as obj
 use Rattle.c_semantics.specs.Objects.{Scope, move_reason, move_elements, move_by, element_plus}
 use Rattle.c_semantics.specs.Operators.{operator_of, operation_type, pointer_and_integer, combine, combined_in, step_operator, step_value}
@@ -30,8 +30,8 @@ use Rattle.vm_meaning.specs.Behave.{Registers, set_register}
 use Rattle.lowering_code.specs.declared.item.CodeItem.{CodeItem}
 use Rattle.lowering_code.specs.Registers.{register_type, value_register}
 use Rattle.lowering_code.specs.Expressions.{plain_of, constant_code, combine_in, combine_code, stepped_code}
-use Rattle.lowering_states.specs.Places.{Place, next_place}
-use Rattle.lowering_states.specs.Runs.{opens, Observation, finish}
+use Rattle.lowering_states.specs.Places.{CodePlace, next_place}
+use Rattle.lowering_states.specs.Runs.{opens, CodeObservation, finish}
 use Rattle.lowering_states.specs.States.{IsHeld, IsIn, KeepsLower}
 use Rattle.lowering_states.proofs.Steps.{meets_same, number_meets, known_meets}
 use Rattle.lowering_states.proofs.States.{set_other, other_depth, kept_all, kept_on, kept_temporary, is_at, fits_temporary}
@@ -103,25 +103,25 @@ module _ (c : Setting) where
   L = count c
 
   -- what follows a change, where the code behind stands: the new value stands at the depth
-  abbrev pub Goes : (heads : List ℕ) → Names → Scope → State → Memory → (low o : ℕ) → PlainType → (r : Registers) → List CodeItem → (Value → State → Observation) → Type 0
+  abbrev pub Goes : (heads : List ℕ) → Names → Scope → CallState → Memory → (low o : ℕ) → PlainType → (r : Registers) → List CodeItem → (Value → CallState → CodeObservation) → Type 0
   Goes heads g scope u m low o ty r rest K =
-      (q : Place) (z : Value) (r1 : Registers) → Stands c heads q rest → Fit c g scope r1 u m → KeepsLower L low r r1 → IsHeld ty z → IsIn g ty z (r1 (value_register L o ty)) → EndsSo c (K z u) q r1 u.world m
+      (q : CodePlace) (z : Value) (r1 : Registers) → Stands c heads q rest → Fit c g scope r1 u m → KeepsLower L low r r1 → IsHeld ty z → IsIn g ty z (r1 (value_register L o ty)) → EndsSo c (K z u) q r1 u.world m
 
   -- a change of the value at a depth, from registers that are as some were but at this depth
-  abbrev pub Leads : (heads : List ℕ) → Names → Scope → State → Memory → (change : Value → Run Value) → (code : List CodeItem → List CodeItem) → (o low : ℕ) → PlainType → Registers → Type 0
+  abbrev pub Leads : (heads : List ℕ) → Names → Scope → CallState → Memory → (change : Value → Run Value) → (code : List CodeItem → List CodeItem) → (o low : ℕ) → PlainType → Registers → Type 0
   Leads heads g scope u m change code o low ty q1 =
-      (rest : List CodeItem) (K : Value → State → Observation) (q : Place) (r : Registers) (old : Value) → Stands c heads q (code rest) → Fit c g scope r u m → KeepsBut L o q1 r → IsHeld ty old → IsIn g ty old (r (value_register L o ty))
+      (rest : List CodeItem) (K : Value → CallState → CodeObservation) (q : CodePlace) (r : Registers) (old : Value) → Stands c heads q (code rest) → Fit c g scope r u m → KeepsBut L o q1 r → IsHeld ty old → IsIn g ty old (r (value_register L o ty))
       → Goes heads g scope u m low o ty r rest K → EndsSo c (finish (change old u) K) q r u.world m
 
   -- an operator between an old value and a right side
   abbrev pub CombinesLead : BinaryOp → (ty right : PlainType) → Type 0
   CombinesLead op ty right =
-      (o d free low : ℕ) → d ≢ o → d < free → low ≤ o → low ≤ d → (heads : List ℕ) (g : Names) (scope : Scope) (u : State) (m : Memory) (w : Value) (q1 : Registers) → IsHeld right w → IsIn g right w (q1 (value_register L d right))
+      (o d free low : ℕ) → d ≢ o → d < free → low ≤ o → low ≤ d → (heads : List ℕ) (g : Names) (scope : Scope) (u : CallState) (m : Memory) (w : Value) (q1 : Registers) → IsHeld right w → IsIn g right w (q1 (value_register L d right))
       → Leads heads g scope u m (λ old. combine c.structs op ty right old w) (combine_code L c.structs op o d free ty right) o low ty q1
 
   -- `++` and `--`
   abbrev pub StepsLead : StepOp → PlainType → Type 0
-  StepsLead sop ty = (o : ℕ) (heads : List ℕ) (g : Names) (scope : Scope) (u : State) (m : Memory) (q1 : Registers) → Leads heads g scope u m (step_value c.structs sop ty) (stepped_code L c.structs sop o ty) o o ty q1
+  StepsLead sop ty = (o : ℕ) (heads : List ℕ) (g : Names) (scope : Scope) (u : CallState) (m : Memory) (q1 : Registers) → Leads heads g scope u m (step_value c.structs sop ty) (stepped_code L c.structs sop o ty) o o ty q1
 
 module _ (c : Setting) (found : slice_get c.functions c.number ≡ Some c.code) where
   -- ---- integers
@@ -147,7 +147,7 @@ module _ (c : Setting) (found : slice_get c.functions c.number ≡ Some c.code) 
 
   -- ---- `++` and `--`, by the type of the 1
 
-  steps_by : (sop : StepOp) (ty : PlainType) (t : IntegerType) → is_word t 1 ≡ true → CombinesLead c (step_operator sop) ty (plain_of t) → (o : ℕ) (heads : List ℕ) (g : Names) (scope : Scope) (u : State) (m : Memory) (q1 : Registers)
+  steps_by : (sop : StepOp) (ty : PlainType) (t : IntegerType) → is_word t 1 ≡ true → CombinesLead c (step_operator sop) ty (plain_of t) → (o : ℕ) (heads : List ℕ) (g : Names) (scope : Scope) (u : CallState) (m : Memory) (q1 : Registers)
       → Leads c heads g scope u m (λ old. combine c.structs (step_operator sop) ty (plain_of t) old (Word 1)) (λ rest. constant_code (count c) (suc o) (plain_of t) 1 (combine_code (count c) c.structs (step_operator sop) o (suc o) (suc (suc o)) ty (plain_of t) rest)) o o ty q1
   unfolding opens
   steps_by sop ty t one lead o heads g scope u m q1 rest K q r old at fit kept held stands next =

@@ -16,13 +16,13 @@ use Rattle.c_tree.specs.declared.expressions.BinaryOp.{BinaryOp}
 use Rattle.c_typed_tree.specs.declared.types.StructDef.{StructDef}
 use Rattle.c_typed_tree.specs.Types.{PlainType}
 use Rattle.c_typed_tree.specs.Expressions.{Expr, Assign, Unary, Postfix, type_of}
-use Rattle.c_semantics.specs.Runs.{State, Run, and_then, pure}
+use Rattle.c_semantics.specs.Runs.{CallState, Run, and_then, pure}
 use Rattle.c_semantics.specs.Objects as obj
 use Rattle.c_semantics.specs.Objects.{Scope, read_at, write_at}
 use Rattle.c_semantics.specs.Operators.{operator_of, combine, step_value}
 use Rattle.c_semantics.specs.Evaluates.{eval, place, assign, update, new_value, old_value}
 use Rattle.suifvm_ir.specs.declared.types.VmType.TheVariants.{P64}
-use Rattle.suifvm_ir.specs.declared.insn.UnaryOp.TheVariants.{Move}
+use Rattle.suifvm_ir.specs.declared.insn.VmUnaryOp.TheVariants.{Move}
 use Rattle.suifvm_ir.specs.declared.insn.VmInsn.TheVariants as n
 use Rattle.vm_meaning.specs.Operations as vm
 use Rattle.vm_meaning.specs.Effect.{writes}
@@ -30,8 +30,8 @@ use Rattle.vm_meaning.specs.Behave.{Registers, set_register}
 use Rattle.lowering_code.specs.declared.item.CodeItem.{CodeItem}
 use Rattle.lowering_code.specs.Registers.{register_type, value_register, address_register}
 use Rattle.lowering_code.specs.Expressions.{load_from, store_code, move_code, combine_code, combine_memory_code, stepped_code, step_register_code, step_memory_code, change_code, register_of, assign_code, expr_code, place_code}
-use Rattle.lowering_states.specs.Places.{Place, next_place}
-use Rattle.lowering_states.specs.Runs.{opens, Observation, NotDefined, finish}
+use Rattle.lowering_states.specs.Places.{CodePlace, next_place}
+use Rattle.lowering_states.specs.Runs.{opens, CodeObservation, NotDefined, finish}
 use Rattle.lowering_states.specs.States.{IsHeld, IsIn, KeepsLower}
 use Rattle.lowering_states.proofs.Steps.{meets_anything, meets_same}
 use Rattle.lowering_states.proofs.States.{set_same, set_other, other_depth, kept_all, kept_on, kept_temporary, kept_reads, is_in, is_at, after_on, fits_temporary}
@@ -50,7 +50,7 @@ use Rattle.lowering_change_laws.proofs.Combine.{kept_but, kept_set}
 use Rattle.lowering_change_laws.proofs.Leads.{Leads, CombinesLead, StepsLead}
 
 -- a value that is not set ends the run
-unset_write : (ds : List StructDef) (ty : PlainType) (at z v : Value) (t : State) (K : Value → State → Observation) → IsScalarType ty → vm.is_set z ≡ false → finish (and_then (write_at ds ty at z t) (λ _. pure v)) K ≡ NotDefined
+unset_write : (ds : List StructDef) (ty : PlainType) (at z v : Value) (t : CallState) (K : Value → CallState → CodeObservation) → IsScalarType ty → vm.is_set z ≡ false → finish (and_then (write_at ds ty at z t) (λ _. pure v)) K ≡ NotDefined
 unfolding opens
 unset_write ds ty at (Word k) v t K scalar e = absurd (cc)
 unset_write ds ty at (Address k) v t K scalar e = absurd (cc)
@@ -62,7 +62,7 @@ module _ (c : Setting) (found : slice_get c.functions c.number ≡ Some c.code) 
   L = count c
 
   -- a scalar is loaded to a register from where a pointer in another register leads
-  scalars_lead : (to pointer left : ℕ) (rest : List CodeItem) (heads : List ℕ) (g : Names) (scope : Scope) (t : State) (m1 : Memory) (K : Value → State → Observation) (q : Place) (q1 : Registers) (base at : Value) → Fit c g scope q1 t m1
+  scalars_lead : (to pointer left : ℕ) (rest : List CodeItem) (heads : List ℕ) (g : Names) (scope : Scope) (t : CallState) (m1 : Memory) (K : Value → CallState → CodeObservation) (q : CodePlace) (q1 : Registers) (base at : Value) → Fit c g scope q1 t m1
       → IsValueOf g base (q1 pointer) → IsMoved t.world.outer.memory base left at → Stands c heads q (load_from ty to pointer left rest)
       → ((v w : Value) → IsHeld ty v → vm.is_set v ≡ true → IsValueOf g v w → Stands c heads (next_place q) rest → EndsSo c (K v t) (next_place q) (set_register to w q1) t.world m1) → EndsSo c (finish (read_at ty at t) K) q q1 t.world m1
   scalars_lead to pointer left rest heads g scope t m1 K q q1 base at fit rel moved stands next = by_type scalar
@@ -78,7 +78,7 @@ module _ (c : Setting) (found : slice_get c.functions c.number ≡ Some c.code) 
           (λ stands1 next1. pointers_lead c found p.0 to pointer left rest heads g scope t m1 K q q1 base at fit rel moved stands1 next1) stands next
 
   -- a value that stands at one depth is stored, and one at another one is moved to the depth of the place
-  put_on : (d o e plus : ℕ) (rest : List CodeItem) (heads : List ℕ) (f g : Names) (scope : Scope) (r r1 : Registers) (s t : State) (m m1 : Memory) (K : Value → State → Observation) (q : Place) (base at z v : Value)
+  put_on : (d o e plus : ℕ) (rest : List CodeItem) (heads : List ℕ) (f g : Names) (scope : Scope) (r r1 : Registers) (s t : CallState) (m m1 : Memory) (K : Value → CallState → CodeObservation) (q : CodePlace) (base at z v : Value)
       → Stands c heads q (store_code ty (address_register L d) plus (value_register L o ty) (move_code ty (value_register L d ty) (value_register L e ty) rest))
       → Aft c f s m g t m1 → Fit c g scope r1 t m1 → KeepsLower L d r r1 → IsHeld ty z → IsIn g ty z (r1 (value_register L o ty)) → IsHeld ty v → IsIn g ty v (r1 (value_register L e ty)) → (vm.is_set z ≡ true → vm.is_set v ≡ true)
       → IsValueOf g base (r1 (address_register L d)) → IsMoved t.world.outer.memory base plus at → Follows c d ty heads rest f scope r s m K
@@ -102,7 +102,7 @@ module _ (c : Setting) (found : slice_get c.functions c.number ≡ Some c.code) 
           (kept_temporary d (register_type ty) (r1 from) (omega arith) kept) heldv (is_at g ty v (r1 from) r1 (value_register L d ty) inv))))
 
   -- the new value is the value: the old one is loaded to a depth above the place
-  changed_on : (d o plus : ℕ) → d < o → (rest : List CodeItem) (heads : List ℕ) (f g : Names) (scope : Scope) (r r1 : Registers) (s t : State) (m m1 : Memory) (K : Value → State → Observation) (q : Place) (base at : Value) (change : Value → Run Value) (code : List CodeItem → List CodeItem)
+  changed_on : (d o plus : ℕ) → d < o → (rest : List CodeItem) (heads : List ℕ) (f g : Names) (scope : Scope) (r r1 : Registers) (s t : CallState) (m m1 : Memory) (K : Value → CallState → CodeObservation) (q : CodePlace) (base at : Value) (change : Value → Run Value) (code : List CodeItem → List CodeItem)
       → Leads c heads g scope t m1 change code o (suc d) ty r1
       → Stands c heads q (load_from ty (value_register L o ty) (address_register L d) plus (code (store_code ty (address_register L d) plus (value_register L o ty) (move_code ty (value_register L d ty) (value_register L o ty) rest))))
       → Aft c f s m g t m1 → Fit c g scope r1 t m1 → KeepsLower L d r r1 → IsValueOf g base (r1 (address_register L d)) → IsMoved t.world.outer.memory base plus at → Follows c d ty heads rest f scope r s m K
@@ -126,7 +126,7 @@ module _ (c : Setting) (found : slice_get c.functions c.number ≡ Some c.code) 
       (subst (λ x. IsValueOf g base x) (sym same_base) rel) moved next))))
 
   -- the old value is the value
-  behind_on : (sop : StepOp) → StepsLead c sop ty → (d plus : ℕ) (rest : List CodeItem) (heads : List ℕ) (f g : Names) (scope : Scope) (r r1 : Registers) (s t : State) (m m1 : Memory) (K : Value → State → Observation) (q : Place) (base at : Value)
+  behind_on : (sop : StepOp) → StepsLead c sop ty → (d plus : ℕ) (rest : List CodeItem) (heads : List ℕ) (f g : Names) (scope : Scope) (r r1 : Registers) (s t : CallState) (m m1 : Memory) (K : Value → CallState → CodeObservation) (q : CodePlace) (base at : Value)
       → Stands c heads q (step_memory_code L c.structs sop true d plus ty rest) → Aft c f s m g t m1 → Fit c g scope r1 t m1 → KeepsLower L d r r1
       → IsValueOf g base (r1 (address_register L d)) → IsMoved t.world.outer.memory base plus at → Follows c d ty heads rest f scope r s m K
       → EndsSo c (finish (update c.structs ty (step_value c.structs sop ty) old_value (obj.At at) t) K) q r1 t.world m1
@@ -174,7 +174,7 @@ module _ (c : Setting) (found : slice_get c.functions c.number ≡ Some c.code) 
         ap (λ z. assign_code L c.structs c.locals d z ty (type_of y) plus (register_of L c.structs c.locals x) at_place of_y rest) eo
         ∙ ap (λ z. assign_code L c.structs c.locals d (Some o) ty (type_of y) plus z at_place of_y rest) none
         ∙ ap (λ z. at_place (of_y (suc d) (combine_memory_code L c.structs o d plus ty z rest))) ey in
-        let run : obj.Place → Run Value = λ z t. and_then (eval c.structs c.locals c.calls scope y t) (assign c.structs ty right (Some o) z) in
+        let run : obj.ValuePlace → Run Value = λ z t. and_then (eval c.structs c.locals c.calls scope y t) (assign c.structs ty right (Some o) z) in
         meets_same c.rooms c.functions
         (ap (λ v. finish (and_then (place c.structs c.locals c.calls scope x s) (λ z t. and_then (eval c.structs c.locals c.calls scope y t) (assign c.structs ty (type_of y) v z))) K) eo
         ∙ ap (λ v. finish (and_then (place c.structs c.locals c.calls scope x s) (λ z t. and_then (eval c.structs c.locals c.calls scope y t) (assign c.structs ty v (Some o) z))) K) ey)
@@ -203,7 +203,7 @@ module _ (c : Setting) (found : slice_get c.functions c.number ≡ Some c.code) 
     increments lead = record {
       by = λ d rest heads p1 f scope r s m K at fit low next.
           let plus : ℕ = left_of c x 0 in
-          let run : obj.Place → Run Value = update c.structs ty (step_value c.structs step.Increment ty) new_value in
+          let run : obj.ValuePlace → Run Value = update c.structs ty (step_value c.structs step.Increment ty) new_value in
           bound c found (place c.structs c.locals c.calls scope x s) run K p1 r s.world m
           (hx.by d 0 (step_memory_code L c.structs step.Increment false d plus ty rest) heads p1 f scope r s m (λ z t. finish (run z t) K) (omega arith) (omega arith) (subst (λ z. Stands c heads p1 z) (in_memory step.Increment false d rest) at) fit low
           (λ q base there g t q1 m1 at1 aft fit1 kept held stands small is_base.
@@ -216,7 +216,7 @@ module _ (c : Setting) (found : slice_get c.functions c.number ≡ Some c.code) 
     decrements lead = record {
       by = λ d rest heads p1 f scope r s m K at fit low next.
           let plus : ℕ = left_of c x 0 in
-          let run : obj.Place → Run Value = update c.structs ty (step_value c.structs step.Decrement ty) new_value in
+          let run : obj.ValuePlace → Run Value = update c.structs ty (step_value c.structs step.Decrement ty) new_value in
           bound c found (place c.structs c.locals c.calls scope x s) run K p1 r s.world m
           (hx.by d 0 (step_memory_code L c.structs step.Decrement false d plus ty rest) heads p1 f scope r s m (λ z t. finish (run z t) K) (omega arith) (omega arith) (subst (λ z. Stands c heads p1 z) (in_memory step.Decrement false d rest) at) fit low
           (λ q base there g t q1 m1 at1 aft fit1 kept held stands small is_base.
@@ -229,7 +229,7 @@ module _ (c : Setting) (found : slice_get c.functions c.number ≡ Some c.code) 
     postfixes sop lead = record {
       by = λ d rest heads p1 f scope r s m K at fit low next.
           let plus : ℕ = left_of c x 0 in
-          let run : obj.Place → Run Value = update c.structs ty (step_value c.structs sop ty) old_value in
+          let run : obj.ValuePlace → Run Value = update c.structs ty (step_value c.structs sop ty) old_value in
           bound c found (place c.structs c.locals c.calls scope x s) run K p1 r s.world m
           (hx.by d 0 (step_memory_code L c.structs sop true d plus ty rest) heads p1 f scope r s m (λ z t. finish (run z t) K) (omega arith) (omega arith) (subst (λ z. Stands c heads p1 z) (in_memory sop true d rest) at) fit low
           (λ q base there g t q1 m1 at1 aft fit1 kept held stands small is_base.

@@ -18,12 +18,12 @@ use Rattle.c_typed_tree.specs.View.{type_view}
 use Rattle.c_typed_tree.specs.Expressions.{Expr, Assign, Unary, Postfix, type_of}
 use Rattle.c_typed_tree.specs.Expressions as e
 use Rattle.c_semantics.specs.Reasons.{ReadsUnwritten, UsesNoValue}
-use Rattle.c_semantics.specs.Runs.{State, Run, and_then, with_registers, with_register, use_value, pure, write_register}
+use Rattle.c_semantics.specs.Runs.{CallState, Run, and_then, with_registers, with_register, use_value, pure, write_register}
 use Rattle.c_semantics.specs.Objects as obj
 use Rattle.c_semantics.specs.Objects.{Scope, as_held, write}
 use Rattle.c_semantics.specs.Operators.{operator_of, combine, step_value}
 use Rattle.c_semantics.specs.Evaluates.{eval, assign, update, new_value, old_value}
-use Rattle.suifvm_ir.specs.declared.insn.UnaryOp.TheVariants.{Move}
+use Rattle.suifvm_ir.specs.declared.insn.VmUnaryOp.TheVariants.{Move}
 use Rattle.suifvm_ir.specs.declared.insn.VmInsn.TheVariants as n
 use Rattle.vm_meaning.specs.Operations as vm
 use Rattle.vm_meaning.specs.Effect.{writes}
@@ -31,8 +31,8 @@ use Rattle.vm_meaning.specs.Behave.{Registers, set_register}
 use Rattle.lowering_code.specs.declared.item.CodeItem.{CodeItem}
 use Rattle.lowering_code.specs.Registers.{register_type, value_register}
 use Rattle.lowering_code.specs.Expressions.{move_code, combine_code, stepped_code, step_register_code, step_memory_code, change_code, assign_code, register_if, plus_of, expr_code, place_code}
-use Rattle.lowering_states.specs.Places.{Place, next_place}
-use Rattle.lowering_states.specs.Runs.{opens, Observation, finish}
+use Rattle.lowering_states.specs.Places.{CodePlace, next_place}
+use Rattle.lowering_states.specs.Runs.{opens, CodeObservation, finish}
 use Rattle.lowering_states.specs.States.{IsHeld, IsIn, KeepsLower, type_at}
 use Rattle.lowering_states.proofs.Steps.{meets_same, used_meets}
 use Rattle.lowering_states.proofs.States.{set_same, set_other, temporary_past, kept_all, kept_on, kept_local, kept_temporary, kept_reads, is_in, is_at, after_same, fits_temporary, fits_local}
@@ -46,7 +46,7 @@ use Rattle.lowering_change_laws.proofs.Combine.{kept_but, kept_set}
 use Rattle.lowering_change_laws.proofs.Leads.{Leads, CombinesLead, StepsLead}
 
 -- a state in which a value was put into a local
-abbrev put_in : (k : ℕ) → Value → State → State
+abbrev put_in : (k : ℕ) → Value → CallState → CallState
 put_in k z u = with_registers u (with_register u.registers k z)
 
 module _ (c : Setting) (found : slice_get c.functions c.number ≡ Some c.code) (ty : PlainType) (scalar : IsScalarType ty) (k : ℕ) (l : Local) (el : slice_get c.locals k ≡ Some l) (em : l.in_memory ≡ false) (et : type_view l.ty ≡ ty) where
@@ -54,7 +54,7 @@ module _ (c : Setting) (found : slice_get c.functions c.number ≡ Some c.code) 
   L = count c
 
   -- the local is read into the register of a depth, and what it becomes is still to be found
-  read_on : (d : ℕ) (rest : List CodeItem) (heads : List ℕ) (g : Names) (scope : Scope) (q1 : Registers) (u : State) (m1 : Memory) (K : Value → State → Observation) (q : Place) (change : Value → Run Value) (pick : Value → Value → Value)
+  read_on : (d : ℕ) (rest : List CodeItem) (heads : List ℕ) (g : Names) (scope : Scope) (q1 : Registers) (u : CallState) (m1 : Memory) (K : Value → CallState → CodeObservation) (q : CodePlace) (change : Value → Run Value) (pick : Value → Value → Value)
       → Stands c heads q (move_code ty (value_register L d ty) k rest) → Fit c g scope q1 u m1
       → ((old w0 : Value) → IsHeld ty old → IsValueOf g old w0 → vm.is_set old ≡ true → Stands c heads (next_place q) rest → Fit c g scope (set_register (value_register L d ty) w0 q1) u m1
       → EndsSo c (finish (change old u) (λ w u1. finish (and_then (write c.structs ty (obj.Register k) w u1) (λ _. pure (pick old w))) K)) (next_place q) (set_register (value_register L d ty) w0 q1) u.world m1)
@@ -79,9 +79,9 @@ module _ (c : Setting) (found : slice_get c.functions c.number ≡ Some c.code) 
       (next old w0 held rel set (at_plain c.code.blocks c.last c.end _ at) (fits_temporary d (register_type ty) w0 fit)))))))
 
   -- the new value stands at a depth, and is put into the local; the registers of expressions stay
-  write_on : (d o : ℕ) → d ≤ o → (rest : List CodeItem) (heads : List ℕ) (g : Names) (scope : Scope) (r r3 : Registers) (u : State) (m1 : Memory) (K : Value → State → Observation) (q3 : Place) (z v : Value)
+  write_on : (d o : ℕ) → d ≤ o → (rest : List CodeItem) (heads : List ℕ) (g : Names) (scope : Scope) (r r3 : Registers) (u : CallState) (m1 : Memory) (K : Value → CallState → CodeObservation) (q3 : CodePlace) (z v : Value)
       → Stands c heads q3 (move_code ty k (value_register L o ty) rest) → Fit c g scope r3 u m1 → KeepsLower L d r r3 → IsHeld ty z → IsIn g ty z (r3 (value_register L o ty))
-      → ((q4 : Place) (r4 : Registers) → Stands c heads q4 rest → Fit c g scope r4 (put_in k z u) m1 → KeepsLower L d r r4 → r4 (value_register L d ty) ≡ r3 (value_register L d ty) → EndsSo c (K v (put_in k z u)) q4 r4 u.world m1)
+      → ((q4 : CodePlace) (r4 : Registers) → Stands c heads q4 rest → Fit c g scope r4 (put_in k z u) m1 → KeepsLower L d r r4 → r4 (value_register L d ty) ≡ r3 (value_register L d ty) → EndsSo c (K v (put_in k z u)) q4 r4 u.world m1)
       → EndsSo c (finish (and_then (write c.structs ty (obj.Register k) z u) (λ _. pure v)) K) q3 r3 u.world m1
   unfolding opens
   write_on d o le rest heads g scope r r3 u m1 K q3 z v at fit kept held stands next =
@@ -98,7 +98,7 @@ module _ (c : Setting) (found : slice_get c.functions c.number ≡ Some c.code) 
       (set_other r3 k (value_register L d ty) (r3 reg) (λ same. let past = temporary_past L d (register_type ty) in absurd (omega (arith, within, same, past))))))))
 
   -- the new value is the value
-  changed_on : (d : ℕ) (rest : List CodeItem) (heads : List ℕ) (f g : Names) (scope : Scope) (r q1 : Registers) (s u : State) (m m1 : Memory) (K : Value → State → Observation) (q : Place) (change : Value → Run Value) (code : List CodeItem → List CodeItem)
+  changed_on : (d : ℕ) (rest : List CodeItem) (heads : List ℕ) (f g : Names) (scope : Scope) (r q1 : Registers) (s u : CallState) (m m1 : Memory) (K : Value → CallState → CodeObservation) (q : CodePlace) (change : Value → Run Value) (code : List CodeItem → List CodeItem)
       → Leads c heads g scope u m1 change code d d ty q1 → Stands c heads q (move_code ty (value_register L d ty) k (code (move_code ty k (value_register L d ty) rest))) → Aft c f s m g u m1 → Fit c g scope q1 u m1 → KeepsLower L d r q1
       → Follows c d ty heads rest f scope r s m K → EndsSo c (finish (update c.structs ty change new_value (obj.Register k) u) K) q q1 u.world m1
   unfolding opens
@@ -115,7 +115,7 @@ module _ (c : Setting) (found : slice_get c.functions c.number ≡ Some c.code) 
       next q4 z g (put_in k z u) r4 m1 at4 aft fit4 (kept_on (omega arith) (kept_temporary d (register_type ty) w0 (omega arith) kept) kept4) heldz (subst (λ x. IsIn g ty z x) (sym same4) inz))))
 
   -- the old value is the value, and stays below
-  behind_on : (sop : StepOp) → StepsLead c sop ty → (d : ℕ) (rest : List CodeItem) (heads : List ℕ) (f : Names) (scope : Scope) (r : Registers) (u : State) (m : Memory) (K : Value → State → Observation) (q : Place)
+  behind_on : (sop : StepOp) → StepsLead c sop ty → (d : ℕ) (rest : List CodeItem) (heads : List ℕ) (f : Names) (scope : Scope) (r : Registers) (u : CallState) (m : Memory) (K : Value → CallState → CodeObservation) (q : CodePlace)
       → Stands c heads q (step_register_code L c.structs sop true d ty k rest) → Fit c f scope r u m → Follows c d ty heads rest f scope r u m K
       → EndsSo c (finish (update c.structs ty (step_value c.structs sop ty) old_value (obj.Register k) u) K) q r u.world m
   unfolding opens

@@ -28,22 +28,22 @@ use Rattle.suifvm_ir.specs.declared.types.VmType.TheVariants.{S32, U32, S64, U64
 use Rattle.suifvm_ir.specs.declared.types.MemoryType.{MemoryType}
 use Rattle.suifvm_ir.specs.declared.types.Alignment.{Alignment}
 use Rattle.suifvm_ir.specs.declared.types.Alignment.TheVariants.{One, Two, Four, Eight}
-use Rattle.suifvm_ir.specs.declared.insn.UnaryOp as vu
-use Rattle.suifvm_ir.specs.declared.insn.UnaryOp.TheVariants.{Move, Negate, Complement}
-use Rattle.suifvm_ir.specs.declared.insn.BinaryOp as vb
-use Rattle.suifvm_ir.specs.declared.insn.BinaryOp.TheVariants.{Add, Subtract, Multiply, Divide, Remainder, And, Or, ExclusiveOr}
+use Rattle.suifvm_ir.specs.declared.insn.VmUnaryOp as vu
+use Rattle.suifvm_ir.specs.declared.insn.VmUnaryOp.TheVariants.{Move, Negate, Complement}
+use Rattle.suifvm_ir.specs.declared.insn.VmBinaryOp as vb
+use Rattle.suifvm_ir.specs.declared.insn.VmBinaryOp.TheVariants.{Add, Subtract, Multiply, Divide, Remainder, And, Or, ExclusiveOr}
 use Rattle.suifvm_ir.specs.declared.insn.ShiftOp.{ShiftOp}
 use Rattle.suifvm_ir.specs.declared.insn.ShiftOp.TheVariants.{ArithmeticRight, Left, LogicalRight}
 use Rattle.suifvm_ir.specs.declared.insn.CompareOp.{CompareOp}
 use Rattle.suifvm_ir.specs.declared.insn.CompareOp.TheVariants.{Equal, NotEqual, Less, LessOrEqual}
-use Rattle.suifvm_ir.specs.declared.insn.BranchOp.{BranchOp}
-use Rattle.suifvm_ir.specs.declared.insn.BranchOp.TheVariants.{IfTrue, IfFalse}
-use Rattle.suifvm_ir.specs.declared.insn.Builtin as vi
-use Rattle.suifvm_ir.specs.declared.insn.Builtin.TheVariants.{PutChar, GetChar, Abort, Exit}
-use Rattle.suifvm_ir.specs.declared.insn.Callee as vc
-use Rattle.suifvm_ir.specs.declared.insn.Callee.TheVariants as vk
-use Rattle.suifvm_ir.specs.declared.insn.Place.{Place}
-use Rattle.suifvm_ir.specs.declared.insn.Place.TheVariants as p
+use Rattle.suifvm_ir.specs.declared.insn.VmBranchOp.{VmBranchOp}
+use Rattle.suifvm_ir.specs.declared.insn.VmBranchOp.TheVariants.{IfTrue, IfFalse}
+use Rattle.suifvm_ir.specs.declared.insn.VmBuiltin as vi
+use Rattle.suifvm_ir.specs.declared.insn.VmBuiltin.TheVariants.{PutChar, GetChar, Abort, Exit}
+use Rattle.suifvm_ir.specs.declared.insn.VmCallee as vc
+use Rattle.suifvm_ir.specs.declared.insn.VmCallee.TheVariants as vk
+use Rattle.suifvm_ir.specs.declared.insn.VmObject.{VmObject}
+use Rattle.suifvm_ir.specs.declared.insn.VmObject.TheVariants as p
 use Rattle.suifvm_ir.specs.declared.insn.VmInsn as vm
 use Rattle.suifvm_ir.specs.declared.insn.VmInsn.TheVariants as n
 use Rattle.lowering_code.specs.declared.operation.RegisterOperation.{RegisterOperation}
@@ -55,13 +55,13 @@ use Rattle.lowering_code.specs.Items.{count}
 
 -- ---- names in the other language
 
-abbrev pub vm_builtin : Builtin → vi.Builtin
+abbrev pub vm_builtin : Builtin → vi.VmBuiltin
 vm_builtin i.Putchar = PutChar
 vm_builtin i.Getchar = GetChar
 vm_builtin i.Abort = Abort
 vm_builtin i.Exit = Exit
 
-abbrev pub vm_callee : Callee → vc.Callee
+abbrev pub vm_callee : Callee → vc.VmCallee
 vm_callee (c.Function k) = vk.Function k
 vm_callee (c.Builtin f) = vk.Builtin (vm_builtin f)
 
@@ -228,10 +228,10 @@ module _ (locals : ℕ) where
       ∷ rest
 
   -- the address of an object, moved by so many bytes, at a depth
-  abbrev pub address_code : (depth : ℕ) → Place → (plus : ℕ) → List CodeItem → List CodeItem
+  abbrev pub address_code : (depth : ℕ) → VmObject → (plus : ℕ) → List CodeItem → List CodeItem
   address_code d place plus rest = Plain (n.LoadAddress (address_register locals d) place plus) ∷ rest
 
-  abbrev pub unary_code : vu.UnaryOp → (depth : ℕ) → PlainType → List CodeItem → List CodeItem
+  abbrev pub unary_code : vu.VmUnaryOp → (depth : ℕ) → PlainType → List CodeItem → List CodeItem
   unary_code op d ty rest =
       Plain (n.Unary op (register_type ty) (value_register locals d ty) (value_register locals d ty)) ∷ rest
 
@@ -244,7 +244,7 @@ module _ (locals : ℕ) where
       ∷ rest)
 
   -- a branch by the value at the depth
-  abbrev pub branch_code : BranchOp → (depth : ℕ) → PlainType → (name : ℕ) → List CodeItem → List CodeItem
+  abbrev pub branch_code : VmBranchOp → (depth : ℕ) → PlainType → (name : ℕ) → List CodeItem → List CodeItem
   branch_code op d ty name rest = Branch op (register_type ty) (value_register locals d ty) name ∷ rest
 
   -- ---- operators

@@ -8,10 +8,10 @@ use Rattle.c_typed_tree.specs.View.{type_view, stmt_view}
 use Rattle.c_typed_tree.specs.Layout.{size_of, align_of}
 use Rattle.c_typed_tree.specs.Lawful.{is_main}
 use Rattle.suifvm_ir.specs.declared.types.VmType.TheVariants.{S32}
-use Rattle.suifvm_ir.specs.declared.insn.Place.TheVariants as p
+use Rattle.suifvm_ir.specs.declared.insn.VmObject.TheVariants as p
 use Rattle.suifvm_ir.specs.declared.insn.VmInsn as vm
 use Rattle.suifvm_ir.specs.declared.insn.VmInsn.TheVariants as n
-use Rattle.suifvm_ir.specs.declared.function.Object.{Object}
+use Rattle.suifvm_ir.specs.declared.function.MemoryLocal.{MemoryLocal}
 use Rattle.lowering_code.specs.declared.item.CodeItem.{CodeItem}
 use Rattle.lowering_code.specs.Registers.{temporary, address_register, object_of}
 use Rattle.lowering_code.specs.Expressions.{constant_code, store_code, address_code}
@@ -19,10 +19,10 @@ use Rattle.lowering_code.specs.Statements.{stmt_code}
 use Rattle.lowering_code.specs.Layout.{blocks_of}
 
 -- the object of a memory local
-abbrev pub object_for : List StructDef → Local → Object
+abbrev pub object_for : List StructDef → Local → MemoryLocal
 object_for ds l = record { size = size_of ds (type_view l.ty); align = align_of ds (type_view l.ty) }
 
-abbrev pub objects_of : List StructDef → List Local → List Object
+abbrev pub objects_of : List StructDef → List Local → List MemoryLocal
 objects_of ds ls = map (object_for ds) (filter (λ l. l.in_memory) ls)
 
 module _ (locals : ℕ) (ds : List StructDef) (ls : List Local) where

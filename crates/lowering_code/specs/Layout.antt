@@ -2,7 +2,7 @@
 --
 -- Items are laid out from the first one on. The block with a name is that which stands as many blocks before the end.
 use Rattle.std.specs.Prelude.{ℕ, suc, ◌-◌, List, [], ◌∷◌, ◌++◌, length}
-use Rattle.suifvm_ir.specs.declared.insn.BranchOp.TheVariants.{IfTrue}
+use Rattle.suifvm_ir.specs.declared.insn.VmBranchOp.TheVariants.{IfTrue}
 use Rattle.suifvm_ir.specs.declared.insn.VmInsn as vm
 use Rattle.suifvm_ir.specs.declared.insn.VmInsn.TheVariants as n
 use Rattle.lowering_code.specs.declared.item.CodeItem.{CodeItem}

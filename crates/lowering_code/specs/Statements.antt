@@ -13,9 +13,9 @@ use Rattle.c_typed_tree.specs.Expressions.{Expr, type_of}
 use Rattle.c_typed_tree.specs.Statements.{LocalDeclaration, First, Stmt, Else, no_else, else_stmt, Stmts, no_stmts, more_stmts, Sections, no_sections, more_sections}
 use Rattle.c_typed_tree.specs.Statements as q
 use Rattle.suifvm_ir.specs.declared.types.VmType.TheVariants.{S32}
-use Rattle.suifvm_ir.specs.declared.insn.BranchOp.TheVariants.{IfTrue, IfFalse}
+use Rattle.suifvm_ir.specs.declared.insn.VmBranchOp.TheVariants.{IfTrue, IfFalse}
 use Rattle.suifvm_ir.specs.declared.insn.CompareOp.TheVariants.{Equal}
-use Rattle.suifvm_ir.specs.declared.insn.Place.TheVariants as p
+use Rattle.suifvm_ir.specs.declared.insn.VmObject.TheVariants as p
 use Rattle.suifvm_ir.specs.declared.insn.VmInsn.TheVariants as n
 use Rattle.lowering_code.specs.declared.item.CodeItem.{CodeItem}
 use Rattle.lowering_code.specs.declared.item.CodeItem.TheVariants.{Start, Plain, Jump, Loop, Enter, Again, Repeat, Return}

@@ -2,7 +2,7 @@
 use Rattle.std.specs.Prelude.{ℕ, List, map}
 use Rattle.mem_model.specs.World.{Rooms}
 use Rattle.machine_model.specs.Machine.{Next, Goes, Over}
-use Rattle.c_mean.specs.Behaviour.{Behaviour, More}
+use Rattle.c_mean.specs.Behaviour.{CBehaviour, More}
 use Rattle.c_typed_tree.specs.declared.types.StructDef.{StructDef}
 use Rattle.c_typed_tree.specs.declared.units.TypedFn.{TypedFn}
 use Rattle.c_typed_tree.specs.declared.units.TypedUnit.{TypedUnit}
@@ -20,12 +20,12 @@ abbrev pub unit_code : TypedUnit → List FunctionCode
 unit_code unit = map (function_code unit.structs) unit.functions
 
 -- what a run has come to; one that goes on has put nothing yet
-abbrev pub behaviour_so_far : Next Registers → Behaviour
+abbrev pub behaviour_so_far : Next Registers → CBehaviour
 behaviour_so_far (Goes k) = More k.world.outer.output
 behaviour_so_far (Over e) = behaviour_of e
 
 -- so many steps of the code of a unit
-abbrev pub unit_behaviour : TypedUnit → (input : List ℕ) → (turns steps : ℕ) → Behaviour
+abbrev pub unit_behaviour : TypedUnit → (input : List ℕ) → (turns steps : ℕ) → CBehaviour
 unit_behaviour unit input turns steps =
     behaviour_so_far
     (vm_run (rooms_of unit) (unit_code unit) (main_of unit) (start_world unit.globals input turns) steps)

@@ -1,6 +1,6 @@
 //! The items of code that is emitted from its end to its start.
 
-use suifvm_ir::insn::{BranchOp, TypedRegister, VmInsn};
+use suifvm_ir::insn::{TypedRegister, VmBranchOp, VmInsn};
 use suifvm_ir::types::VmType;
 
 /// A piece of the code of a function. Code is emitted in front of what follows it, so the name of a block is the
@@ -15,7 +15,7 @@ pub enum CodeItem {
     Jump(usize),
     /// A branch to the block with a name. A block begins behind it.
     Branch {
-        op: BranchOp,
+        op: VmBranchOp,
         ty: VmType,
         source: u32,
         name: usize,

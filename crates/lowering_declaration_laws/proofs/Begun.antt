@@ -9,14 +9,14 @@ use Rattle.mem_model.specs.Related.{Names, with_name}
 use Rattle.c_typed_tree.specs.declared.units.Local.{Local}
 use Rattle.c_typed_tree.specs.View.{type_view}
 use Rattle.c_typed_tree.specs.Layout.{size_of}
-use Rattle.c_semantics.specs.Runs.{State, Run, and_then, in_world, with_registers, with_register, write_register, ◌>>◌}
+use Rattle.c_semantics.specs.Runs.{CallState, Run, and_then, in_world, with_registers, with_register, write_register, ◌>>◌}
 use Rattle.c_semantics.specs.Objects.{Scope, with_object, with_locals, with_local, with_local_object}
-use Rattle.c_semantics.specs.Executes.{Flow, Returns}
+use Rattle.c_semantics.specs.Executes.{StatementFlow, Returns}
 use Rattle.vm_meaning.specs.Behave.{Registers}
 use Rattle.lowering_code.specs.declared.item.CodeItem.{CodeItem}
 use Rattle.lowering_code.specs.Registers.{object_of}
-use Rattle.lowering_states.specs.Places.{Place, start_of_block}
-use Rattle.lowering_states.specs.Runs.{opens, Observation, Resumes}
+use Rattle.lowering_states.specs.Places.{CodePlace, start_of_block}
+use Rattle.lowering_states.specs.Runs.{opens, CodeObservation, Resumes}
 use Rattle.lowering_states.proofs.States.{ne_eqb, fits_unset}
 use Rattle.lowering_expression_laws.specs.Parts.{Setting, EndsSo, Stands, Fit, Aft}
 use Rattle.lowering_object_laws.proofs.Objects.{objects_begin_and_end}
@@ -26,11 +26,11 @@ use Rattle.lowering_declaration_laws.proofs.Counts.{times}
 
 -- ---- runs that change a state behind themselves
 
-gives_same : {A : Type 0} (e : Evaluation A State) → e ≡ and_then e (λ a t. Gives a t)
+gives_same : {A : Type 0} (e : Evaluation A CallState) → e ≡ and_then e (λ a t. Gives a t)
 gives_same (Gives a t) = refl
 gives_same (Ends x) = refl
 
-gives_on : {A : Type 0} (e : Evaluation A State) (f g : State → State) → and_then (and_then e (λ a t. Gives a (f t))) (λ a t. Gives a (g t)) ≡ and_then e (λ a t. Gives a (g (f t)))
+gives_on : {A : Type 0} (e : Evaluation A CallState) (f g : CallState → CallState) → and_then (and_then e (λ a t. Gives a (f t))) (λ a t. Gives a (g t)) ≡ and_then e (λ a t. Gives a (g (f t)))
 gives_on (Gives a t) f g = refl
 gives_on (Ends x) f g = refl
 
@@ -42,18 +42,18 @@ Remembers w v = (x : Memory) × (v ≡ with_memory w x)
 
 module _ (c : Setting) where
   -- the states in which a run stands whose locals began, and how it leaves them
-  pub record Begun (scope : Scope) (f : Names) (r : Registers) (s : State) (m : Memory) (ks : List ℕ) : Type 0 where
+  pub record Begun (scope : Scope) (f : Names) (r : Registers) (s : CallState) (m : Memory) (ks : List ℕ) : Type 0 where
     pub names : Names
     pub inner : Scope
-    pub start : State
-    pub left : State → State
-    pub is : (run : Scope → Run Flow) → with_locals c.structs c.locals ks run scope s ≡ and_then (run inner start) (λ a t. Gives a (left t))
+    pub start : CallState
+    pub left : CallState → CallState
+    pub is : (run : Scope → Run StatementFlow) → with_locals c.structs c.locals ks run scope s ≡ and_then (run inner start) (λ a t. Gives a (left t))
     pub fit : Fit c names inner r start m
     pub begins : Remembers s.world start.world
-    pub leaves : (t : State) → Remembers t.world (left t).world
+    pub leaves : (t : CallState) → Remembers t.world (left t).world
     pub outside : (j : ℕ) → times j ks ≡ zero → inner j ≡ scope j
-    pub after : (g : Names) (t : State) (n : Memory) → Aft c names start m g t n → Aft c f s m g (left t) n
-    pub fits : (g : Names) (t : State) (q : Registers) (n : Memory) → Fit c g inner q t n → Fit c g scope q (left t) n
+    pub after : (g : Names) (t : CallState) (n : Memory) → Aft c names start m g t n → Aft c f s m g (left t) n
+    pub fits : (g : Names) (t : CallState) (q : Registers) (n : Memory) → Fit c g inner q t n → Fit c g scope q (left t) n
 
   one_more : (k j : ℕ) (ks : List ℕ) → times j (k ∷ ks) ≡ cond (k == j) 1 0 + times j ks
   one_more k j ks = refl
@@ -62,8 +62,8 @@ module _ (c : Setting) where
   this_one k j same = ap (λ b. cond b (suc zero) zero) (eq-eqb k j (sym same))
 
   -- one local more, where the others begin in every state
-  module _ (k : ℕ) (ks : List ℕ) (may : MayDeclareAll c.structs c.locals (k ∷ ks)) (once : (j : ℕ) → times j (k ∷ ks) ≤ 1) (scope : Scope) (apart : (j : ℕ) → 0 < times j (k ∷ ks) → scope j ≡ None) (f : Names) (r : Registers) (s : State) (m : Memory) (fit : Fit c f scope r s m)
-      (others : (scope1 : Scope) → ((j : ℕ) → 0 < times j ks → scope1 j ≡ None) → (f1 : Names) (s1 : State) → Fit c f1 scope1 r s1 m → Begun scope1 f1 r s1 m ks) where
+  module _ (k : ℕ) (ks : List ℕ) (may : MayDeclareAll c.structs c.locals (k ∷ ks)) (once : (j : ℕ) → times j (k ∷ ks) ≤ 1) (scope : Scope) (apart : (j : ℕ) → 0 < times j (k ∷ ks) → scope j ≡ None) (f : Names) (r : Registers) (s : CallState) (m : Memory) (fit : Fit c f scope r s m)
+      (others : (scope1 : Scope) → ((j : ℕ) → 0 < times j ks → scope1 j ≡ None) → (f1 : Names) (s1 : CallState) → Fit c f1 scope1 r s1 m → Begun scope1 f1 r s1 m ks) where
     abbrev l : Local
     l = may.0.local
 
@@ -79,19 +79,19 @@ module _ (c : Setting) where
     no_more : (j : ℕ) → times j (k ∷ ks) ≡ zero → (times j ks ≡ zero) × (j ≢ k)
     no_more j e = let one = one_more k j ks in (omega (arith, e, one), λ same. let this = this_one k j same in absurd (omega (arith, e, one, this)))
 
-    abbrev more : (Scope → Run Flow) → Scope → Run Flow
+    abbrev more : (Scope → Run StatementFlow) → Scope → Run StatementFlow
     more run = with_locals c.structs c.locals ks run
 
-    by_place : (run : Scope → Run Flow) (b : Bool) → l.in_memory ≡ b → with_locals c.structs c.locals (k ∷ ks) run scope s ≡ if◌then◌else◌ {A = Run Flow} b (with_local_object size k (more run) scope) (write_register k Unset >> more run scope) s
+    by_place : (run : Scope → Run StatementFlow) (b : Bool) → l.in_memory ≡ b → with_locals c.structs c.locals (k ∷ ks) run scope s ≡ if◌then◌else◌ {A = Run StatementFlow} b (with_local_object size k (more run) scope) (write_register k Unset >> more run scope) s
     unfolding opens
     by_place run b e =
         ap (λ z. with_local c.structs k z (more run) scope s) may.0.found
-        ∙ ap (λ z. if◌then◌else◌ {A = Run Flow} z (with_local_object size k (more run) scope) (write_register k Unset >> more run scope) s) e
+        ∙ ap (λ z. if◌then◌else◌ {A = Run StatementFlow} z (with_local_object size k (more run) scope) (write_register k Unset >> more run scope) s) e
 
     register_begun : l.in_memory ≡ false → Begun scope f r s m (k ∷ ks)
     unfolding opens
     register_begun e =
-        let s1 : State = with_registers s (with_register s.registers k Unset) in
+        let s1 : CallState = with_registers s (with_register s.registers k Unset) in
         let b : Begun scope f r s1 m ks = others scope kept f s1 (fits_unset k fit) in
         record {
           names = b.names;
@@ -114,14 +114,14 @@ module _ (c : Setting) where
         let name : ℕ = c.own + object_of c.locals k in
         let scope1 : Scope = with_object scope k o in
         let f1 : Names = with_name f o name in
-        let s1 : State = in_world s (with_memory s.world (begin_object s.world.outer.memory size true)) in
+        let s1 : CallState = in_world s (with_memory s.world (begin_object s.world.outer.memory size true)) in
         let none : scope k ≡ None = apart k (let one = one_more k k ks in let this = this_one k k refl in omega (arith, one, this)) in
         let fit1 : Fit c f1 scope1 r s1 m =
         (objects_begin_and_end.begin c.statics c.structs c.locals c.own f scope r s.registers s.world.outer.memory m s.world.outer.input k l (record { found = may.0.found; inside = e; none = none; small = may.0.small e }) fit).fits in
         let other : (j : ℕ) → j ≢ k → scope1 j ≡ scope j = (λ j ne. ap (λ z. if z then Some o else scope j) (ne_eqb j k ne)) in
         let kept1 : (j : ℕ) → 0 < times j ks → scope1 j ≡ None = (λ j lt. other j (λ same. absurd (let z : times j ks ≡ zero = ap (λ i. times i ks) same ∙ here in omega (arith, lt, z))) ∙ kept j lt) in
         let b : Begun scope1 f1 r s1 m ks = others scope1 kept1 f1 s1 fit1 in
-        let ended : State → State = (λ t. in_world t (with_memory t.world (end_object t.world.outer.memory o))) in
+        let ended : CallState → CallState = (λ t. in_world t (with_memory t.world (end_object t.world.outer.memory o))) in
         record {
           names = b.names;
           inner = b.inner;
@@ -142,7 +142,7 @@ module _ (c : Setting) where
     one_begun false e = register_begun e
     one_begun true e = object_begun e
 
-  pub begun : (ks : List ℕ) → MayDeclareAll c.structs c.locals ks → ((j : ℕ) → times j ks ≤ 1) → (scope : Scope) → ((j : ℕ) → 0 < times j ks → scope j ≡ None) → (f : Names) (r : Registers) (s : State) (m : Memory) → Fit c f scope r s m → Begun scope f r s m ks
+  pub begun : (ks : List ℕ) → MayDeclareAll c.structs c.locals ks → ((j : ℕ) → times j ks ≤ 1) → (scope : Scope) → ((j : ℕ) → 0 < times j ks → scope j ≡ None) → (f : Names) (r : Registers) (s : CallState) (m : Memory) → Fit c f scope r s m → Begun scope f r s m ks
   begun [] may once scope apart f r s m fit = record {
     names = f;
     inner = scope;
@@ -163,18 +163,18 @@ module _ (c : Setting) where
 
   -- ---- what follows
 
-  module _ {scope : Scope} {f : Names} {r : Registers} {s : State} {m : Memory} {ks : List ℕ} (b : Begun scope f r s m ks) where
+  module _ {scope : Scope} {f : Names} {r : Registers} {s : CallState} {m : Memory} {ks : List ℕ} (b : Begun scope f r s m ks) where
     -- the run goes on from the states in which its locals began
-    pub starts : {o : Observation} (p : Place) → EndsSo c o p r b.start.world m → EndsSo c o p r s.world m
+    pub starts : {o : CodeObservation} (p : CodePlace) → EndsSo c o p r b.start.world m → EndsSo c o p r s.world m
     starts {o = o} p h = subst (λ w. EndsSo c o p r w m) b.begins.1 h
 
     pub low_enough : (n : ℕ) → s.world.meter.turns ≤ n → b.start.world.meter.turns ≤ n
     low_enough n low = subst (λ w. w.meter.turns ≤ n) (sym b.begins.1) low
 
-    stays : {o : Observation} (t : State) (q : Place) (r1 : Registers) (n : Memory) → EndsSo c o q r1 (b.left t).world n → EndsSo c o q r1 t.world n
+    stays : {o : CodeObservation} (t : CallState) (q : CodePlace) (r1 : Registers) (n : Memory) → EndsSo c o q r1 (b.left t).world n → EndsSo c o q r1 t.world n
     stays {o = o} t q r1 n h = subst (λ w. EndsSo c o q r1 w n) (b.leaves t).1 h
 
-    pub onward_begun : {K : Flow → State → Observation} {heads : List ℕ} {rest : List CodeItem} {brk con : ℕ} → Onward c scope f s m K heads rest brk con → Onward c b.inner b.names b.start m (λ z t. K z (b.left t)) heads rest brk con
+    pub onward_begun : {K : StatementFlow → CallState → CodeObservation} {heads : List ℕ} {rest : List CodeItem} {brk con : ℕ} → Onward c scope f s m K heads rest brk con → Onward c b.inner b.names b.start m (λ z t. K z (b.left t)) heads rest brk con
     onward_begun {K = K} {brk = brk} {con = con} way = record {
       goes = λ q g t r1 n at a fit. stays t q r1 n (way.goes q g (b.left t) r1 n at (b.after g t n a) (b.fits g t r1 n fit));
       breaks = λ g t r1 n a fit. stays t (start_of_block (c.last - brk)) r1 n (way.breaks g (b.left t) r1 n (b.after g t n a) (b.fits g t r1 n fit));

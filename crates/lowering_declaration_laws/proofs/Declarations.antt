@@ -14,14 +14,14 @@ use Rattle.c_typed_tree.specs.Expressions.{Expr, type_of}
 use Rattle.c_typed_tree.specs.Statements.{Stmt, Stmts, Block, Declare}
 use Rattle.c_typed_tree.specs.Declarations.{stmts_declarations}
 use Rattle.c_semantics.specs.Reasons.{UsesNoValue, UsesDeadObject}
-use Rattle.c_semantics.specs.Runs.{State, Run, and_then, with_registers, with_register, use_value, pure, or_undefined, write_register}
+use Rattle.c_semantics.specs.Runs.{CallState, Run, and_then, with_registers, with_register, use_value, pure, or_undefined, write_register}
 use Rattle.c_semantics.specs.Objects as obj
 use Rattle.c_semantics.specs.Objects.{Scope, start_of, write, write_at, local_place}
 use Rattle.c_semantics.specs.Evaluates.{eval}
-use Rattle.c_semantics.specs.Executes.{Flow, Goes, declared_in, initialise, execs}
+use Rattle.c_semantics.specs.Executes.{StatementFlow, Goes, declared_in, initialise, execs}
 use Rattle.suifvm_ir.specs.declared.types.VmType.TheVariants.{P64}
-use Rattle.suifvm_ir.specs.declared.insn.Place.TheVariants as vp
-use Rattle.suifvm_ir.specs.declared.insn.UnaryOp.TheVariants.{Move}
+use Rattle.suifvm_ir.specs.declared.insn.VmObject.TheVariants as vp
+use Rattle.suifvm_ir.specs.declared.insn.VmUnaryOp.TheVariants.{Move}
 use Rattle.suifvm_ir.specs.declared.insn.VmInsn.TheVariants as n
 use Rattle.vm_meaning.specs.Effect.{writes}
 use Rattle.vm_meaning.specs.Behave.{Registers, set_register}
@@ -29,8 +29,8 @@ use Rattle.lowering_code.specs.declared.item.CodeItem.{CodeItem}
 use Rattle.lowering_code.specs.Registers.{register_type, value_register, address_register, object_of}
 use Rattle.lowering_code.specs.Expressions.{move_code, store_code, address_code, copy_code, expr_code}
 use Rattle.lowering_code.specs.Statements.{put_code, put_local_code}
-use Rattle.lowering_states.specs.Places.{Place, next_place}
-use Rattle.lowering_states.specs.Runs.{opens, Observation, finish}
+use Rattle.lowering_states.specs.Places.{CodePlace, next_place}
+use Rattle.lowering_states.specs.Runs.{opens, CodeObservation, finish}
 use Rattle.lowering_states.specs.States.{IsHeld, IsIn, type_at}
 use Rattle.lowering_states.proofs.Steps.{meets_same, used_meets, known_meets}
 use Rattle.lowering_states.proofs.States.{set_same, set_other, other_depth, after_on, fits_temporary, fits_local}
@@ -52,7 +52,7 @@ scalar_in : (f : Names) (ty : PlainType) (v w : Value) → IsScalarType ty → I
 scalar_in f ty v w (inl t) h = subst (λ z. IsIn f z v w) t.1 h
 scalar_in f ty v w (inr t) h = subst (λ z. IsIn f z v w) t.1 h
 
-module _ (c : Setting) (found : slice_get c.functions c.number ≡ Some c.code) (again : Scope → Stmt → Run Flow) where
+module _ (c : Setting) (found : slice_get c.functions c.number ≡ Some c.code) (again : Scope → Stmt → Run StatementFlow) where
   abbrev L : ℕ
   L = count c
 
@@ -64,7 +64,7 @@ module _ (c : Setting) (found : slice_get c.functions c.number ≡ Some c.code) 
         let b : Begun c scope f r s m (declared_in ss) = begun c (declared_in ss) may each scope kept f r s m fit in
         let inside : AreApart b.inner ss =
         (λ j lt. let all = all_declared j ss in let h = once j in b.outside j (omega (arith, all, h, lt)) ∙ apart j (omega (arith, all, lt))) in
-        let run : Scope → Run Flow = (λ inner. execs c.structs c.locals c.calls again inner ss) in
+        let run : Scope → Run StatementFlow = (λ inner. execs c.structs c.locals c.calls again inner ss) in
         meets_same c.rooms c.functions (ap (λ z. finish z K) (b.is run))
         (bound c found (run b.inner b.start) (λ a t. Gives a (b.left t)) K p r s.world m
         (starts c b p (hss.by brk con rest heads p b.names b.inner r b.start m (λ z t. K z (b.left t)) inside at b.fit (low_enough c b c.level low) (onward_begun c b way))));
@@ -92,9 +92,9 @@ module _ (c : Setting) (found : slice_get c.functions c.number ≡ Some c.code) 
     put scope v = λ t. and_then (local_place scope k (Some l) t) (λ z. write c.structs ty z v)
 
     -- the value was computed
-    evaluated : (tail : List CodeItem → List CodeItem) (brk con : ℕ) (rest : List CodeItem) (heads : List ℕ) (p : Place) (f : Names) (scope : Scope) (r : Registers) (s : State) (m : Memory) (K : Flow → State → Observation) → put_local_code L c.structs c.locals k (slice_get c.locals k) rest ≡ tail rest
+    evaluated : (tail : List CodeItem → List CodeItem) (brk con : ℕ) (rest : List CodeItem) (heads : List ℕ) (p : CodePlace) (f : Names) (scope : Scope) (r : Registers) (s : CallState) (m : Memory) (K : StatementFlow → CallState → CodeObservation) → put_local_code L c.structs c.locals k (slice_get c.locals k) rest ≡ tail rest
         → Stands c heads p (expr_code L c.structs c.locals 0 x (put_local_code L c.structs c.locals k (slice_get c.locals k) rest)) → Fit c f scope r s m → s.world.meter.turns ≤ c.level
-        → ((q : Place) (v : Value) (g : Names) (t : State) (q1 : Registers) (m1 : Memory) → Stands c heads q (tail rest) → Aft c f s m g t m1 → Fit c g scope q1 t m1 → IsHeld ty v → IsIn g ty v (q1 reg) → EndsSo c (finish (put scope v t) (λ _ u. K Goes u)) q q1 t.world m1)
+        → ((q : CodePlace) (v : Value) (g : Names) (t : CallState) (q1 : Registers) (m1 : Memory) → Stands c heads q (tail rest) → Aft c f s m g t m1 → Fit c g scope q1 t m1 → IsHeld ty v → IsIn g ty v (q1 reg) → EndsSo c (finish (put scope v t) (λ _ u. K Goes u)) q q1 t.world m1)
         → EndsSo c (finish (and_then (initialise c.structs c.locals c.calls scope k (slice_get c.locals k) (Some x) s) (λ _. pure Goes)) K) p r s.world m
     unfolding opens
     evaluated tail brk con rest heads p f scope r s m K code_e at fit low next =
@@ -111,11 +111,11 @@ module _ (c : Setting) (found : slice_get c.functions c.number ≡ Some c.code) 
       by = λ brk con rest heads p f scope r s m K apart at fit low way.
           let code_e : put_local_code L c.structs c.locals k (slice_get c.locals k) rest ≡ move_code ty k reg rest =
           ap (λ z. put_local_code L c.structs c.locals k z rest) here ∙ ap (λ z. if◌then◌else◌ {A = List CodeItem} z (put_code L c.structs c.locals ty k rest) (move_code ty k reg rest)) em in
-          let place_e : local_place scope k (Some l) ≡ pure (obj.Register k) = ap (λ z. if◌then◌else◌ {A = Run obj.Place} z (λ t. and_then (or_undefined UsesDeadObject (scope k) t) (λ o. pure (obj.At (start_of o)))) (pure (obj.Register k))) em in
+          let place_e : local_place scope k (Some l) ≡ pure (obj.Register k) = ap (λ z. if◌then◌else◌ {A = Run obj.ValuePlace} z (λ t. and_then (or_undefined UsesDeadObject (scope k) t) (λ o. pure (obj.At (start_of o)))) (pure (obj.Register k))) em in
           evaluated (λ is. move_code ty k reg is) brk con rest heads p f scope r s m K code_e at fit low
           (λ q v g t q1 m1 at1 aft fit1 held stands.
           let rel = scalar_in g ty v (q1 reg) scalar stands in
-          let t1 : State = with_registers t (with_register t.registers k v) in
+          let t1 : CallState = with_registers t (with_register t.registers k v) in
           meets_same c.rooms c.functions (ap (λ z. finish (and_then (z t) (λ a. write c.structs ty a v)) (λ _ u. K Goes u)) place_e)
           (bound c found (use_value UsesNoValue v t) (write_register k) (λ _ u. K Goes u) q q1 t.world m1
           (used_meets c.rooms c.functions UsesNoValue v t (λ v1 u. K Goes (with_registers u (with_register u.registers k v1))) _ (λ set.
@@ -127,9 +127,9 @@ module _ (c : Setting) (found : slice_get c.functions c.number ≡ Some c.code) 
 
     -- the address of the object stands above the value, which is then put there
     in_object : (tail : List CodeItem → List CodeItem) → l.in_memory ≡ true → ((rest : List CodeItem) → put_code L c.structs c.locals ty k rest ≡ address_code L 1 (vp.Local (object_of c.locals k)) 0 (tail rest))
-        → ((rest : List CodeItem) (heads : List ℕ) (q : Place) (o : ℕ) (v : Value) (g : Names) (scope : Scope) (t : State) (q1 : Registers) (m1 : Memory) (K1 : Unit {0} → State → Observation) → Stands c heads q (tail rest) → Fit c g scope q1 t m1 → IsHeld ty v → IsIn g ty v (q1 reg)
+        → ((rest : List CodeItem) (heads : List ℕ) (q : CodePlace) (o : ℕ) (v : Value) (g : Names) (scope : Scope) (t : CallState) (q1 : Registers) (m1 : Memory) (K1 : Unit {0} → CallState → CodeObservation) → Stands c heads q (tail rest) → Fit c g scope q1 t m1 → IsHeld ty v → IsIn g ty v (q1 reg)
         → IsValueOf g (start_of o) (q1 (address_register L 1))
-        → ((u : State) (m2 : Memory) → Stands c heads (next_place q) rest → Aft c g t m1 g u m2 → Fit c g scope q1 u m2 → EndsSo c (K1 tt u) (next_place q) q1 u.world m2) → EndsSo c (finish (write_at c.structs ty (start_of o) v t) K1) q q1 t.world m1)
+        → ((u : CallState) (m2 : Memory) → Stands c heads (next_place q) rest → Aft c g t m1 g u m2 → Fit c g scope q1 u m2 → EndsSo c (K1 tt u) (next_place q) q1 u.world m2) → EndsSo c (finish (write_at c.structs ty (start_of o) v t) K1) q q1 t.world m1)
         → StmtMeets c again (Declare (record { number = k; init = Some x }))
     unfolding opens
     in_object tail em put_e done = record {
@@ -140,7 +140,7 @@ module _ (c : Setting) (found : slice_get c.functions c.number ≡ Some c.code) 
           evaluated (λ is. address_code L 1 (vp.Local (object_of c.locals k)) 0 (tail is)) brk con rest heads p f scope r s m K code_e at fit low
           (λ q v g t q1 m1 at1 aft fit1 held stands.
           meets_same c.rooms c.functions
-          (ap (λ z. finish (and_then (if◌then◌else◌ {A = Run obj.Place} z (λ t1. and_then (or_undefined UsesDeadObject (scope k) t1) (λ o. pure (obj.At (start_of o)))) (pure (obj.Register k)) t) (λ a. write c.structs ty a v)) (λ _ u. K Goes u)) em)
+          (ap (λ z. finish (and_then (if◌then◌else◌ {A = Run obj.ValuePlace} z (λ t1. and_then (or_undefined UsesDeadObject (scope k) t1) (λ o. pure (obj.At (start_of o)))) (pure (obj.Register k)) t) (λ a. write c.structs ty a v)) (λ _ u. K Goes u)) em)
           (bound c found (and_then (or_undefined UsesDeadObject (scope k) t) (λ o. pure (obj.At (start_of o)))) (λ a. write c.structs ty a v) (λ _ u. K Goes u) q q1 t.world m1
           (bound c found (or_undefined UsesDeadObject (scope k) t) (λ o. pure (obj.At (start_of o))) (λ a u. finish (write c.structs ty a v u) (λ _ u1. K Goes u1)) q q1 t.world m1
           (known_meets c.rooms c.functions UsesDeadObject (scope k) t (λ o u. finish (write_at c.structs ty (start_of o) v u) (λ _ u1. K Goes u1)) _ (λ o scoped.

@@ -8,18 +8,18 @@ use Rattle.c_typed_tree.specs.Expressions.{Expr}
 use Rattle.c_typed_tree.specs.Statements.{LocalDeclaration, Stmt, Declare, For, Locals}
 use Rattle.c_typed_tree.specs.Statements as q
 use Rattle.c_typed_tree.specs.Declarations.{declarations}
-use Rattle.c_semantics.specs.Runs.{State, Run, and_then, turn, pure, ◌>>◌, ◌>>=◌}
+use Rattle.c_semantics.specs.Runs.{CallState, Run, and_then, turn, pure, ◌>>◌, ◌>>=◌}
 use Rattle.c_semantics.specs.Objects.{Scope}
 use Rattle.c_semantics.specs.Evaluates.{choose}
 use Rattle.c_semantics.specs.Executes as executes
-use Rattle.c_semantics.specs.Executes.{Flow, Goes, Breaks, Continues, Returns, after_body, declare, declares, declared_first, exec}
+use Rattle.c_semantics.specs.Executes.{StatementFlow, Goes, Breaks, Continues, Returns, after_body, declare, declares, declared_first, exec}
 use Rattle.vm_meaning.specs.Behave.{Registers}
 use Rattle.lowering_code.specs.declared.item.CodeItem.{CodeItem}
 use Rattle.lowering_code.specs.declared.item.CodeItem.TheVariants.{Start, Loop}
 use Rattle.lowering_code.specs.Items as items
 use Rattle.lowering_code.specs.Statements.{declares_code, after_code, test_code, stmt_code}
-use Rattle.lowering_states.specs.Places.{Place}
-use Rattle.lowering_states.specs.Runs.{opens, Observation, NotDefined, finish}
+use Rattle.lowering_states.specs.Places.{CodePlace}
+use Rattle.lowering_states.specs.Runs.{opens, CodeObservation, NotDefined, finish}
 use Rattle.lowering_states.proofs.Steps.{meets_anything, meets_same}
 use Rattle.lowering_states.proofs.States.{after_same, after_on}
 use Rattle.lowering_expression_laws.specs.Parts.{Setting, count, EndsSo, Stands, Fit, Aft}
@@ -27,7 +27,7 @@ use Rattle.lowering_expression_laws.proofs.Forms.{bound}
 use Rattle.lowering_statement_laws.specs.Parts.{IsApart, Onward, StmtMeets}
 use Rattle.lowering_statement_laws.proofs.Apart.{inner_least}
 use Rattle.lowering_statement_laws.proofs.Statements.{onward_on}
-use Rattle.lowering_loop_laws.specs.Laws.{Levels, at_level, AreLevels}
+use Rattle.lowering_loop_laws.specs.Laws.{LevelMeanings, at_level, AreLevels}
 use Rattle.lowering_for_laws.specs.Laws.{StepMeets, ConditionMeets}
 use Rattle.lowering_for_laws.proofs.ForLoops.{enters}
 use Rattle.lowering_declaration_laws.specs.Laws.{MayDeclareAll, AllMeet, DeclaringForLoopsMeet}
@@ -35,29 +35,29 @@ use Rattle.lowering_declaration_laws.proofs.Counts.{times, first_declared}
 use Rattle.lowering_declaration_laws.proofs.Begun.{Begun, begun, starts, low_enough, onward_begun}
 
 -- a declaration goes on
-on_going : Observation → Flow → Observation
+on_going : CodeObservation → StatementFlow → CodeObservation
 on_going o Goes = o
 on_going o Breaks = NotDefined
 on_going o Continues = NotDefined
 on_going o (Returns v) = NotDefined
 
-goes_on : (e : Evaluation (Unit {0}) State) (next : State → Observation) → finish (and_then e (λ _. pure Goes)) (λ z t. on_going (next t) z) ≡ finish e (λ _ t. next t)
+goes_on : (e : Evaluation (Unit {0}) CallState) (next : CallState → CodeObservation) → finish (and_then e (λ _. pure Goes)) (λ z t. on_going (next t) z) ≡ finish e (λ _ t. next t)
 unfolding opens on_going
 goes_on (Gives a t) next = refl
 goes_on (Ends x) next = refl
 
-module _ (c : Setting) (found : slice_get c.functions c.number ≡ Some c.code) (again : Scope → Stmt → Run Flow) where
+module _ (c : Setting) (found : slice_get c.functions c.number ≡ Some c.code) (again : Scope → Stmt → Run StatementFlow) where
   abbrev L : ℕ
   L = count c
 
   -- declarations, one behind the other
-  declares_lead : (ds : List LocalDeclaration) → AllMeet c again ds → (is : List CodeItem) (heads : List ℕ) (p : Place) (f : Names) (scope : Scope) (r : Registers) (s : State) (m : Memory) (K : Unit {0} → State → Observation) → Stands c heads p (declares_code L c.structs c.locals ds is) → Fit c f scope r s m
-      → s.world.meter.turns ≤ c.level → ((q1 : Place) (g : Names) (t : State) (r1 : Registers) (m1 : Memory) → Stands c heads q1 is → Aft c f s m g t m1 → Fit c g scope r1 t m1 → EndsSo c (K tt t) q1 r1 t.world m1)
+  declares_lead : (ds : List LocalDeclaration) → AllMeet c again ds → (is : List CodeItem) (heads : List ℕ) (p : CodePlace) (f : Names) (scope : Scope) (r : Registers) (s : CallState) (m : Memory) (K : Unit {0} → CallState → CodeObservation) → Stands c heads p (declares_code L c.structs c.locals ds is) → Fit c f scope r s m
+      → s.world.meter.turns ≤ c.level → ((q1 : CodePlace) (g : Names) (t : CallState) (r1 : Registers) (m1 : Memory) → Stands c heads q1 is → Aft c f s m g t m1 → Fit c g scope r1 t m1 → EndsSo c (K tt t) q1 r1 t.world m1)
       → EndsSo c (finish (declares c.structs c.locals c.calls scope ds s) K) p r s.world m
   unfolding opens on_going
   declares_lead [] h is heads p f scope r s m K at fit low next = next p f s r m at after_same fit
   declares_lead (d ∷ ds) h is heads p f scope r s m K at fit low next =
-      let rest : State → Observation = (λ t. finish (declares c.structs c.locals c.calls scope ds t) K) in
+      let rest : CallState → CodeObservation = (λ t. finish (declares c.structs c.locals c.calls scope ds t) K) in
       bound c found (declare c.structs c.locals c.calls scope d s) (λ _. declares c.structs c.locals c.calls scope ds) K p r s.world m
       (meets_same c.rooms c.functions (sym (goes_on (declare c.structs c.locals c.calls scope d s) rest))
       (h.0.by 0 0 (declares_code L c.structs c.locals ds is) heads p f scope r s m (λ z t. on_going (rest t) z) (λ j lt. absurd (omega (arith, lt))) at fit low
@@ -69,11 +69,11 @@ module _ (c : Setting) (found : slice_get c.functions c.number ≡ Some c.code) 
         returns = λ v ws g t r1 m1 aft fit1 ret. record { by = λ ne. absurd (ne refl) };
       })))
 
-module _ (c : Setting) (levels : Levels) (found : slice_get c.functions c.number ≡ Some c.code) (are : AreLevels c levels) (ds : List LocalDeclaration) (test step : Option Expr) (body : Stmt) (may : MayDeclareAll c.structs c.locals (declared_first (Locals ds)))
+module _ (c : Setting) (levels : LevelMeanings) (found : slice_get c.functions c.number ≡ Some c.code) (are : AreLevels c levels) (ds : List LocalDeclaration) (test step : Option Expr) (body : Stmt) (may : MayDeclareAll c.structs c.locals (declared_first (Locals ds)))
     (once : (j : ℕ) → declarations j (For (Locals ds) test step body) ≤ 1) (hd : (k : ℕ) → AllMeet (at_level c levels k) (levels.statements k) ds) (ht : (k : ℕ) → ConditionMeets (at_level c levels k) test) (hs : (k : ℕ) → StepMeets (at_level c levels k) step)
     (hb : (k : ℕ) → StmtMeets (at_level c levels k) (levels.statements k) body) where
   -- what the loop does behind its declarations
-  abbrev loop_run : ℕ → Scope → Run Flow
+  abbrev loop_run : ℕ → Scope → Run StatementFlow
   loop_run k scope =
       executes.condition c.structs c.locals (levels.functions k) scope test
       >>= choose (turn >> (exec c.structs c.locals (levels.functions k) (levels.statements k) scope body >>= after_body (executes.step c.structs c.locals (levels.functions k) scope step >> levels.statements k scope (For q.Nothing test step body)))) (pure Goes)
@@ -91,10 +91,10 @@ module _ (c : Setting) (levels : Levels) (found : slice_get c.functions c.number
         let b : Begun c1 scope f r s m numbers = begun c1 numbers may each scope kept f r s m fit in
         let inside : IsApart b.inner body =
         (λ j lt. let all = first_declared j ds in let h = once j in let least = inner_least j body in b.outside j (omega (arith, all, h, lt, least)) ∙ apart j (omega (arith, lt, least))) in
-        let K1 : Flow → State → Observation = (λ z t. K z (b.left t)) in
+        let K1 : StatementFlow → CallState → CodeObservation = (λ z t. K z (b.left t)) in
         let way1 : Onward c1 b.inner b.names b.start m K1 heads rest brk con = onward_begun c1 b way in
         let low1 = low_enough c1 b k low in
-        let run : Scope → Run Flow = (λ inner. declares c.structs c.locals (levels.functions k) inner ds >> loop_run k inner) in
+        let run : Scope → Run StatementFlow = (λ inner. declares c.structs c.locals (levels.functions k) inner ds >> loop_run k inner) in
         meets_same c.rooms c.functions (ap (λ z. finish z K) (b.is run))
         (bound c1 found (run b.inner b.start) (λ a t. Gives a (b.left t)) K p r s.world m
         (starts c1 b p

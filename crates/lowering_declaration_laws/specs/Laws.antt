@@ -11,12 +11,12 @@ use Rattle.c_typed_tree.specs.Statements.{LocalDeclaration, Stmt, Stmts, Block, 
 use Rattle.c_typed_tree.specs.Declarations.{declarations, stmts_declarations}
 use Rattle.c_semantics.specs.Runs.{Run}
 use Rattle.c_semantics.specs.Objects.{Scope}
-use Rattle.c_semantics.specs.Executes.{Flow, declared_in, declared_first}
+use Rattle.c_semantics.specs.Executes.{StatementFlow, declared_in, declared_first}
 use Rattle.lowering_expression_laws.specs.Parts.{Setting, ExprMeets}
 use Rattle.lowering_expression_laws.specs.Laws.{IsScalarType}
 use Rattle.lowering_access_laws.specs.Laws.{IsWholeStruct}
 use Rattle.lowering_statement_laws.specs.Parts.{StmtMeets, StmtsMeet}
-use Rattle.lowering_loop_laws.specs.Laws.{Levels, at_level, AreLevels}
+use Rattle.lowering_loop_laws.specs.Laws.{LevelMeanings, at_level, AreLevels}
 use Rattle.lowering_for_laws.specs.Laws.{StepMeets, ConditionMeets}
 
 -- a local is there, and no larger than the data may be where it is an object
@@ -30,11 +30,11 @@ MayDeclareAll structs locals [] = Unit {0}
 MayDeclareAll structs locals (k ∷ ks) = MayDeclare structs locals k × MayDeclareAll structs locals ks
 
 -- the code of each declaration does what it does
-abbrev pub AllMeet : (c : Setting) → (Scope → Stmt → Run Flow) → List LocalDeclaration → Type 0
+abbrev pub AllMeet : (c : Setting) → (Scope → Stmt → Run StatementFlow) → List LocalDeclaration → Type 0
 AllMeet c again [] = Unit {0}
 AllMeet c again (d ∷ ds) = StmtMeets c again (Declare d) × AllMeet c again ds
 
-pub record Declarations (c : Setting) (again : Scope → Stmt → Run Flow) : Type 0 where
+pub record Declarations (c : Setting) (again : Scope → Stmt → Run StatementFlow) : Type 0 where
   -- a block declares each local once at most
   pub blocks : (ss : Stmts) → MayDeclareAll c.structs c.locals (declared_in ss) → ((k : ℕ) → stmts_declarations k ss ≤ 1)
       → StmtsMeet c again ss → StmtMeets c again (Block ss)
@@ -50,13 +50,13 @@ pub record Declarations (c : Setting) (again : Scope → Stmt → Run Flow) : Ty
 
 abbrev pub DeclarationsMeet : Type 0
 DeclarationsMeet =
-    (c : Setting) (again : Scope → Stmt → Run Flow) → slice_get c.functions c.number ≡ Some c.code
+    (c : Setting) (again : Scope → Stmt → Run StatementFlow) → slice_get c.functions c.number ≡ Some c.code
     → Declarations c again
 
 -- a `for` whose first part declares locals, each once at most in the whole of it
 abbrev pub DeclaringForLoopsMeet : Type 0
 DeclaringForLoopsMeet =
-    (c : Setting) (levels : Levels) → slice_get c.functions c.number ≡ Some c.code → AreLevels c levels →
+    (c : Setting) (levels : LevelMeanings) → slice_get c.functions c.number ≡ Some c.code → AreLevels c levels →
     (ds : List LocalDeclaration) (condition step : Option Expr) (body : Stmt) →
     MayDeclareAll c.structs c.locals (declared_first (Locals ds)) →
     ((k : ℕ) → declarations k (For (Locals ds) condition step body) ≤ 1) →

@@ -4,7 +4,7 @@ ghost use Rattle.std.specs.Prelude.{◌≡◌, ◌+◌, ◌*◌, ◌^◌, ◌<�
 ghost use Rattle.c_typed_tree.specs.View.{type_view};
 ghost use Rattle.lowering_code.specs.Expressions.{stepped_code, step_register_code, step_memory_code, set_scalar_code, set_memory_code, combine_memory_code, place_moved_code};
 
-use crate::code::Code;
+use crate::code::EmittedCode;
 use crate::operations::{one_type, step_operator};
 use crate::operators::Depths;
 use crate::registers::Registers;
@@ -12,7 +12,7 @@ use c_tree::{BinaryOp, StepOp};
 use c_typed_tree::{CType, StructDef};
 use std::alloc::AllocError;
 
-impl Code {
+impl EmittedCode {
     /// `++` and `--`: the old value at a depth becomes the new one.
     fn step(
         &mut self,

@@ -1,4 +1,4 @@
-//! Code that is made from its end to its start.
+//! EmittedCode that is made from its end to its start.
 
 ghost use Rattle.std.specs.Prelude.{◌≡◌, [], ◌∷◌, reverse, OnOk};
 ghost use Rattle.lowering_code.specs.Items.{count};
@@ -6,19 +6,19 @@ ghost use Rattle.lowering_code.specs.Items.{count};
 use lowering_code::CodeItem;
 use std::alloc::{AllocError, Global};
 use std::marker::Model;
-use suifvm_ir::insn::{BranchOp, TypedRegister, VmInsn};
+use suifvm_ir::insn::{TypedRegister, VmBranchOp, VmInsn};
 use suifvm_ir::types::VmType;
 
 /// The code so far. Contracts see its items from the first one on; each call puts one in front of them.
 #[derive(Drop)]
-pub struct Code {
+pub struct EmittedCode {
     /// From the last one on.
     items: Vec<CodeItem>,
     /// How many blocks begin in it.
     blocks: usize,
 }
 
-impl Model for Code {
+impl Model for EmittedCode {
     ghost use Rattle.std.specs.Prelude.{◌≡◌, List, reverse};
     ghost use Rattle.lowering_code.specs.declared.item.CodeItem.{CodeItem};
     ghost use Rattle.lowering_code.specs.Items.{count};
@@ -30,12 +30,12 @@ impl Model for Code {
     ghost invariant = { λ c. c.blocks ≡ count (reverse c.items.items) };
 }
 
-impl Code {
+impl EmittedCode {
     /// No code. Takes no memory.
-    pub fn new(alloc: Global) -> Code
+    pub fn new(alloc: Global) -> EmittedCode
         ensures { result ≡ [] }
     {
-        Code {
+        EmittedCode {
             items: Vec::new(alloc),
             blocks: 0,
         }
@@ -83,7 +83,7 @@ impl Code {
     /// A branch to the block with a name.
     pub fn branch(
         &mut self,
-        op: BranchOp,
+        op: VmBranchOp,
         ty: VmType,
         source: u32,
         name: usize,
@@ -137,7 +137,7 @@ impl Code {
     pub fn into_items(self) -> Vec<CodeItem>
         ensures { reverse result.items ≡ self }
     {
-        let Code { items, .. } = self;
+        let EmittedCode { items, .. } = self;
         items
     }
 }

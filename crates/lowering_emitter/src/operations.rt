@@ -10,7 +10,7 @@ use c_arithmetic::integer_type::IntegerType;
 use c_tree::{AssignOp, BinaryOp, StepOp};
 use c_typed_tree::CType;
 use lowering_code::RegisterOperation;
-use suifvm_ir::insn::{BinaryOp as Calculation, CompareOp, ShiftOp, VmInsn};
+use suifvm_ir::insn::{CompareOp, ShiftOp, VmBinaryOp as Calculation, VmInsn};
 use suifvm_ir::types::{Alignment, VmType};
 
 /// What an operator between integers, or a comparison of pointers, becomes.

@@ -4,7 +4,7 @@ ghost use Rattle.std.specs.Prelude.{◌≡◌, ◌+◌, ◌*◌, ◌^◌, ◌<�
 ghost use Rattle.c_typed_tree.specs.View.{type_view};
 ghost use Rattle.lowering_code.specs.Expressions.{step_code, step_back_code, pointers_code, operate_code, integers_code, binary_code, combine_in, combine_code, element_code, integer_code, converted_code, copy_code};
 
-use crate::code::Code;
+use crate::code::EmittedCode;
 use crate::operations::{
     alignment_of, element_of, integer_of, is_signed_type, one_type, operation_insn, operation_of,
     operation_type, plain_of, step_operator,
@@ -16,7 +16,7 @@ use c_tree::{BinaryOp, StepOp};
 use c_typed_tree::layout::align_of;
 use c_typed_tree::{CType, StructDef};
 use std::alloc::AllocError;
-use suifvm_ir::insn::{BinaryOp as Calculation, UnaryOp, VmInsn};
+use suifvm_ir::insn::{VmBinaryOp as Calculation, VmInsn, VmUnaryOp};
 use suifvm_ir::types::VmType;
 
 /// The depths at which the operands of an operator stand, and one that is free.
@@ -28,7 +28,7 @@ pub struct Depths {
     pub free: u32,
 }
 
-impl Code {
+impl EmittedCode {
     /// The pointer on the left is moved by, or back by, as many elements as the integer on the right says.
     pub fn step_pointer(
         &mut self,
@@ -256,7 +256,7 @@ impl Code {
         match to {
             CType::Int { .. } => self.convert(r, depth, from, to),
             CType::Pointer(_) => self.plain(VmInsn::Unary {
-                op: UnaryOp::Move,
+                op: VmUnaryOp::Move,
                 ty: VmType::P64,
                 destination: r.address(depth),
                 source: r.value(depth, from),

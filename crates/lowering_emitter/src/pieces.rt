@@ -7,14 +7,14 @@ ghost use Rattle.c_typed_tree.specs.View.{type_view};
 ghost use Rattle.lowering_code.specs.Registers.{value_register, address_register};
 ghost use Rattle.lowering_code.specs.Expressions.{load_from, address_code, narrow_type, is_whole, is_kept, is_same_register, constant_code, move_code, moved_code, load_code, store_code, convert_code, sized_code, scaled_code, add_code, negate_code, divided_code, unary_code, not_code, branch_code};
 
-use crate::code::Code;
+use crate::code::EmittedCode;
 use crate::registers::{Registers, memory_type, register_type};
 use c_typed_tree::CType;
 use std::alloc::AllocError;
-use suifvm_ir::insn::{BinaryOp, BranchOp, CompareOp, Place, UnaryOp, VmInsn};
+use suifvm_ir::insn::{CompareOp, VmBinaryOp, VmBranchOp, VmInsn, VmObject, VmUnaryOp};
 use suifvm_ir::types::{MemoryType, VmType};
 
-impl Code {
+impl EmittedCode {
     /// A word as a value of a type.
     pub fn constant(
         &mut self,
@@ -38,7 +38,7 @@ impl Code {
         ensures { OnOk result (self.new ≡ move_code (type_view ty.now) to from self.old) }
     {
         self.plain(VmInsn::Unary {
-            op: UnaryOp::Move,
+            op: VmUnaryOp::Move,
             ty: register_type(ty),
             destination: to,
             source: from,
@@ -54,7 +54,7 @@ impl Code {
             return Ok(());
         }
         self.plain(VmInsn::Binary {
-            op: BinaryOp::Add,
+            op: VmBinaryOp::Add,
             ty: VmType::P64,
             destination: r.address(depth),
             left: r.address(depth),
@@ -148,7 +148,7 @@ impl Code {
         &mut self,
         r: Registers,
         depth: u32,
-        place: Place,
+        place: VmObject,
         plus: u64,
     ) -> Result<(), AllocError>
         requires { r.locals + 5 * (depth + 1) < 2 ^ 32 }
@@ -193,7 +193,7 @@ impl Code {
             return Ok(());
         }
         self.plain(VmInsn::Binary {
-            op: BinaryOp::Multiply,
+            op: VmBinaryOp::Multiply,
             ty: VmType::S64,
             destination: r.bytes(depth),
             left: r.bytes(depth),
@@ -233,7 +233,7 @@ impl Code {
         ensures { OnOk result (self.new ≡ add_code destination pointer bytes self.old) }
     {
         self.plain(VmInsn::Binary {
-            op: BinaryOp::Add,
+            op: VmBinaryOp::Add,
             ty: VmType::P64,
             destination,
             left: pointer,
@@ -246,7 +246,7 @@ impl Code {
         ensures { OnOk result (self.new ≡ negate_code bytes self.old) }
     {
         self.plain(VmInsn::Unary {
-            op: UnaryOp::Negate,
+            op: VmUnaryOp::Negate,
             ty: VmType::S64,
             destination: bytes,
             source: bytes,
@@ -269,7 +269,7 @@ impl Code {
             return Ok(());
         }
         self.plain(VmInsn::Binary {
-            op: BinaryOp::Divide,
+            op: VmBinaryOp::Divide,
             ty: VmType::S64,
             destination: r.bytes(depth),
             left: r.bytes(depth),
@@ -285,7 +285,7 @@ impl Code {
     /// An operation on the value at a depth.
     pub fn unary(
         &mut self,
-        op: UnaryOp,
+        op: VmUnaryOp,
         r: Registers,
         depth: u32,
         ty: &CType,
@@ -325,7 +325,7 @@ impl Code {
     /// A branch by the value at a depth.
     pub fn branch_by(
         &mut self,
-        op: BranchOp,
+        op: VmBranchOp,
         r: Registers,
         depth: u32,
         ty: &CType,

@@ -17,12 +17,12 @@ use Rattle.c_tree.specs.declared.expressions.BinaryOp.TheVariants as b
 use Rattle.c_typed_tree.specs.Types.{PlainType, Pointer}
 use Rattle.c_typed_tree.specs.Expressions.{Expr, Binary, Conditional, type_of}
 use Rattle.c_semantics.specs.Reasons.{UsesDeadObject}
-use Rattle.c_semantics.specs.Runs.{State, Run, and_then, pure, undefined}
+use Rattle.c_semantics.specs.Runs.{CallState, Run, and_then, pure, undefined}
 use Rattle.c_semantics.specs.Objects.{Scope}
 use Rattle.c_semantics.specs.Operators.{test, pure_truth}
 use Rattle.c_semantics.specs.Evaluates.{eval, choose}
-use Rattle.suifvm_ir.specs.declared.insn.BranchOp.{BranchOp}
-use Rattle.suifvm_ir.specs.declared.insn.BranchOp.TheVariants.{IfTrue, IfFalse}
+use Rattle.suifvm_ir.specs.declared.insn.VmBranchOp.{VmBranchOp}
+use Rattle.suifvm_ir.specs.declared.insn.VmBranchOp.TheVariants.{IfTrue, IfFalse}
 use Rattle.suifvm_ir.specs.declared.insn.VmInsn.TheVariants as n
 use Rattle.vm_meaning.specs.declared.answer.Answer.TheVariants.{Gives, Fails}
 use Rattle.vm_meaning.specs.Operations as vm
@@ -33,8 +33,8 @@ use Rattle.lowering_code.specs.declared.item.CodeItem.TheVariants.{Start, Jump}
 use Rattle.lowering_code.specs.Items as items
 use Rattle.lowering_code.specs.Registers.{register_type, value_register}
 use Rattle.lowering_code.specs.Expressions.{plain_of, constant_code, branch_code, expr_code}
-use Rattle.lowering_states.specs.Places.{Place, next_place, next_block, start_of_block}
-use Rattle.lowering_states.specs.Runs.{opens, Observation, finish, Meets}
+use Rattle.lowering_states.specs.Places.{CodePlace, next_place, next_block, start_of_block}
+use Rattle.lowering_states.specs.Runs.{opens, CodeObservation, finish, Meets}
 use Rattle.lowering_states.specs.States.{IsHeld, IsIn, KeepsLower}
 use Rattle.lowering_states.proofs.Steps.{meets_anything, meets_same, fall, jump, branch_taken, branch_passed}
 use Rattle.lowering_states.proofs.States.{kept_on, kept_temporary, value_at, after_on, fits_temporary}
@@ -87,7 +87,7 @@ module _ (c : Setting) (found : slice_get c.functions c.number ≡ Some c.code) 
   abbrev T : PlainType
   T = plain_of i.Int
 
-  pub test_meets : (v : Value) (s : State) (K : Bool → State → Observation) (k : Config Registers) → ((x : Bool) → TestIs s.world.outer.memory v x → Meets c.rooms c.functions (K x s) k) → Meets c.rooms c.functions (finish (test v s) K) k
+  pub test_meets : (v : Value) (s : CallState) (K : Bool → CallState → CodeObservation) (k : Config Registers) → ((x : Bool) → TestIs s.world.outer.memory v x → Meets c.rooms c.functions (K x s) k) → Meets c.rooms c.functions (finish (test v s) K) k
   unfolding opens
   test_meets (Word k) s K cf h = h (not (k == 0)) refl
   test_meets (Address p) s K cf h = (elim (pointers.is_live s.world.outer.memory p) as (λ x. pointers.is_live s.world.outer.memory p ≡ x → Meets c.rooms c.functions (finish (if◌then◌else◌ {A = Run Bool} x (pure true) (undefined UsesDeadObject) s) K) cf) [
@@ -97,31 +97,31 @@ module _ (c : Setting) (found : slice_get c.functions c.number ≡ Some c.code) 
   test_meets Unset s K cf h = meets_anything c.rooms c.functions refl
 
   -- to the block that begins with code which stands there
-  pub at_block : {o : Observation} (r : Registers) (w : World) (m : Memory) (x y : ℕ) → x ≡ y → EndsSo c o (start_of_block x) r w m → EndsSo c o (start_of_block y) r w m
+  pub at_block : {o : CodeObservation} (r : Registers) (w : World) (m : Memory) (x y : ℕ) → x ≡ y → EndsSo c o (start_of_block x) r w m → EndsSo c o (start_of_block y) r w m
   at_block {o = o} r w m x y e h = subst (λ z. EndsSo c o (start_of_block z) r w m) e h
 
   -- a truth value comes into the register of `int` at the depth
-  constant_on : {o : Observation} (d : ℕ) (x : Bool) (rest : List CodeItem) (heads : List ℕ) (q : Place) (r : Registers) (w : World) (m : Memory) → Stands c heads q (constant_code L d T (truth x) rest)
+  constant_on : {o : CodeObservation} (d : ℕ) (x : Bool) (rest : List CodeItem) (heads : List ℕ) (q : CodePlace) (r : Registers) (w : World) (m : Memory) → Stands c heads q (constant_code L d T (truth x) rest)
       → EndsSo c o (next_place q) (set_register (value_register L d T) (Word (truth x)) r) w m → EndsSo c o q r w m
   constant_on d x rest heads q r w m at next =
       insn_on c found (n.LoadConstant (register_type T) (value_register L d T) (truth x)) q r w m (Word (truth x) ∷ []) at.has.0 refl
       (ap (λ z. writes (if z then Gives (Word (truth x)) else Fails) (outer_with_memory w.outer m)) (value_of_word i.Int (truth x) (truth_word x))) next
 
   -- a branch by a value that was tested
-  module _ (op : BranchOp) (d : ℕ) (ty : PlainType) (scalar : IsScalarType ty) (name : ℕ) (rest : List CodeItem) (heads : List ℕ) (q : Place) (f : Names) (scope : Scope) (r : Registers) (s : State) (m : Memory) (v : Value) (x : Bool)
+  module _ (op : VmBranchOp) (d : ℕ) (ty : PlainType) (scalar : IsScalarType ty) (name : ℕ) (rest : List CodeItem) (heads : List ℕ) (q : CodePlace) (f : Names) (scope : Scope) (r : Registers) (s : CallState) (m : Memory) (v : Value) (x : Bool)
       (at : Stands c heads q (branch_code L op d ty name rest)) (fit : Fit c f scope r s m) (held : IsHeld ty v) (stands : IsIn f ty v (r (value_register L d ty))) (is : TestIs s.world.outer.memory v x) where
     holds : vm.value_holds m (register_type ty) (r (value_register L d ty)) ≡ Some x
     holds = holds_there f s.world.outer.memory m ty v (r (value_register L d ty)) x scalar fit.memory held stands is
 
-    pub goes : {o : Observation} (block : ℕ) → block + name ≡ c.last → is_taken op x ≡ true → EndsSo c o (start_of_block block) r s.world m → EndsSo c o q r s.world m
+    pub goes : {o : CodeObservation} (block : ℕ) → block + name ≡ c.last → is_taken op x ≡ true → EndsSo c o (start_of_block block) r s.world m → EndsSo c o q r s.world m
     goes block e taken next =
         branch_taken c.rooms c.functions c.number c.code found c.own c.waiting op (register_type ty) (value_register L d ty) (c.last - name) x q r s.world m at.has.0 holds taken
         (at_block r s.world m block (c.last - name) (omega (arith, e)) next)
 
-    pub passes : {o : Observation} → is_taken op x ≡ false → EndsSo c o (next_block q) r s.world m → EndsSo c o q r s.world m
+    pub passes : {o : CodeObservation} → is_taken op x ≡ false → EndsSo c o (next_block q) r s.world m → EndsSo c o q r s.world m
     passes passed next = branch_passed c.rooms c.functions c.number c.code found c.own c.waiting op (register_type ty) (value_register L d ty) (c.last - name) x q r s.world m at.has.0 holds passed at.has.1 next
 
-  module _ (op : BranchOp) (stop : Bool) (taken : is_taken op stop ≡ true) (passed : is_taken op (not stop) ≡ false) (x y : Expr) (sx : IsScalarType (type_of x)) (sy : IsScalarType (type_of y)) (hx : ExprMeets c x) (hy : ExprMeets c y) where
+  module _ (op : VmBranchOp) (stop : Bool) (taken : is_taken op stop ≡ true) (passed : is_taken op (not stop) ≡ false) (x y : Expr) (sx : IsScalarType (type_of x)) (sy : IsScalarType (type_of y)) (hx : ExprMeets c x) (hy : ExprMeets c y) where
     module _ (d : ℕ) (rest : List CodeItem) (heads : List ℕ) where
       abbrev stops : List CodeItem
       stops = constant_code L d T (truth stop) (Start ∷ rest)
@@ -130,25 +130,25 @@ module _ (c : Setting) (found : slice_get c.functions c.number ≡ Some c.code) 
       ends = branch_code L op d (type_of y) (items.count stops) (constant_code L d T (truth (not stop)) (Jump (items.count rest) ∷ stops))
 
       -- where the code for the value that ends the evaluation stands, and what comes behind
-      stops_at : (q : Place) → Stands c heads q ends → Stands c heads (next_block (next_place (next_block q))) stops
+      stops_at : (q : CodePlace) → Stands c heads q ends → Stands c heads (next_block (next_place (next_block q))) stops
       stops_at q at = at_jump c.code.blocks c.last c.end (items.count rest) (at_plain c.code.blocks c.last c.end _ (at_branch c.code.blocks c.last c.end op _ _ _ at))
 
-      module _ (f : Names) (scope : Scope) (r : Registers) (s : State) (m : Memory) (K : Value → State → Observation) (next : Follows c d T heads rest f scope r s m K) where
+      module _ (f : Names) (scope : Scope) (r : Registers) (s : CallState) (m : Memory) (K : Value → CallState → CodeObservation) (next : Follows c d T heads rest f scope r s m K) where
         -- the value comes into the register, and the code goes on behind
-        value_meets : (z : Bool) (q : Place) (g : Names) (t : State) (q1 : Registers) (m1 : Memory) → Stands c heads q rest → Aft c f s m g t m1 → Fit c g scope q1 t m1 → KeepsLower L d r q1
+        value_meets : (z : Bool) (q : CodePlace) (g : Names) (t : CallState) (q1 : Registers) (m1 : Memory) → Stands c heads q rest → Aft c f s m g t m1 → Fit c g scope q1 t m1 → KeepsLower L d r q1
             → EndsSo c (K (Word (truth z)) t) q (set_register (value_register L d T) (Word (truth z)) q1) t.world m1
         value_meets z q g t q1 m1 at aft fit kept =
             next q (Word (truth z)) g t (set_register (value_register L d T) (Word (truth z)) q1) m1 at aft (fits_temporary d (register_type T) (Word (truth z)) fit)
             (kept_temporary d (register_type T) (Word (truth z)) (omega arith) kept) (held_word i.Int (truth z) (truth_word z)) (value_at g (Word (truth z)) (Word (truth z)) q1 (value_register L d T) refl)
 
-        stop_meets : (q : Place) (g : Names) (t : State) (q1 : Registers) (m1 : Memory) → Stands c heads q stops → Aft c f s m g t m1 → Fit c g scope q1 t m1 → KeepsLower L d r q1 → EndsSo c (K (Word (truth stop)) t) q q1 t.world m1
+        stop_meets : (q : CodePlace) (g : Names) (t : CallState) (q1 : Registers) (m1 : Memory) → Stands c heads q stops → Aft c f s m g t m1 → Fit c g scope q1 t m1 → KeepsLower L d r q1 → EndsSo c (K (Word (truth stop)) t) q q1 t.world m1
         stop_meets q g t q1 m1 at aft fit kept =
             let at2 = at_plain c.code.blocks c.last c.end _ at in
             constant_on d stop (Start ∷ rest) heads q q1 t.world m1 at
             (fall c.rooms c.functions c.number c.code found c.own c.waiting (next_place q) (set_register (value_register L d T) (Word (truth stop)) q1) t.world m1 at2.has.0
             (value_meets stop (next_block (next_place q)) g t q1 m1 (at_start c.code.blocks c.last c.end at2) aft fit kept))
 
-        end_meets : (q : Place) (g : Names) (t : State) (q1 : Registers) (m1 : Memory) → Stands c heads q (constant_code L d T (truth (not stop)) (Jump (items.count rest) ∷ stops)) → Aft c f s m g t m1 → Fit c g scope q1 t m1 → KeepsLower L d r q1
+        end_meets : (q : CodePlace) (g : Names) (t : CallState) (q1 : Registers) (m1 : Memory) → Stands c heads q (constant_code L d T (truth (not stop)) (Jump (items.count rest) ∷ stops)) → Aft c f s m g t m1 → Fit c g scope q1 t m1 → KeepsLower L d r q1
             → EndsSo c (K (Word (truth (not stop))) t) q q1 t.world m1
         end_meets q g t q1 m1 at aft fit kept =
             let at2 = at_plain c.code.blocks c.last c.end _ at in
@@ -161,7 +161,7 @@ module _ (c : Setting) (found : slice_get c.functions c.number ≡ Some c.code) 
             (value_meets (not stop) (start_of_block block) g t q1 m1 at4 aft fit kept)))
 
         -- the second operand
-        second : (q : Place) (g : Names) (t : State) (q1 : Registers) (m1 : Memory) → Stands c heads q (expr_code L c.structs c.locals d y ends) → Aft c f s m g t m1 → Fit c g scope q1 t m1 → KeepsLower L d r q1 → t.world.meter.turns ≤ c.level
+        second : (q : CodePlace) (g : Names) (t : CallState) (q1 : Registers) (m1 : Memory) → Stands c heads q (expr_code L c.structs c.locals d y ends) → Aft c f s m g t m1 → Fit c g scope q1 t m1 → KeepsLower L d r q1 → t.world.meter.turns ≤ c.level
             → EndsSo c (finish (and_then (and_then (eval c.structs c.locals c.calls scope y t) test) pure_truth) K) q q1 t.world m1
         unfolding opens
         second q g t q1 m1 at aft fit kept low =
@@ -172,7 +172,7 @@ module _ (c : Setting) (found : slice_get c.functions c.number ≡ Some c.code) 
             test_meets v u (λ z u. K (Word (truth z)) u) _ (λ z is.
             by_test q2 h u q3 m2 v z at2 (after_on aft aft2) fit2 (kept_on (omega arith) kept kept2) held stands is (either z stop)))))
           where
-            by_test : (q2 : Place) (h : Names) (u : State) (q3 : Registers) (m2 : Memory) (v : Value) (z : Bool) → Stands c heads q2 ends → Aft c f s m h u m2 → Fit c h scope q3 u m2 → KeepsLower L d r q3 → IsHeld (type_of y) v
+            by_test : (q2 : CodePlace) (h : Names) (u : CallState) (q3 : Registers) (m2 : Memory) (v : Value) (z : Bool) → Stands c heads q2 ends → Aft c f s m h u m2 → Fit c h scope q3 u m2 → KeepsLower L d r q3 → IsHeld (type_of y) v
                 → IsIn h (type_of y) v (q3 (value_register L d (type_of y))) → TestIs u.world.outer.memory v z → (z ≡ stop) ⊎ (z ≡ not stop) → EndsSo c (K (Word (truth z)) u) q2 q3 u.world m2
             by_test q2 h u q3 m2 v z at2 aft2 fit2 kept2 held stands is (inl e) =
                 let there = stops_at q2 at2 in
@@ -183,8 +183,8 @@ module _ (c : Setting) (found : slice_get c.functions c.number ≡ Some c.code) 
                 (subst (λ k. EndsSo c (K (Word (truth k)) u) (next_block q2) q3 u.world m2) (sym e) (end_meets (next_block q2) h u q3 m2 (at_branch c.code.blocks c.last c.end op _ _ _ at2) aft2 fit2 kept2))
 
         -- both
-        first : (p : Place) (run : Bool → Run Value) → ((t : State) → finish (run stop t) K ≡ K (Word (truth stop)) t)
-            → ((t : State) → finish (run (not stop) t) K ≡ finish (and_then (and_then (eval c.structs c.locals c.calls scope y t) test) pure_truth) K)
+        first : (p : CodePlace) (run : Bool → Run Value) → ((t : CallState) → finish (run stop t) K ≡ K (Word (truth stop)) t)
+            → ((t : CallState) → finish (run (not stop) t) K ≡ finish (and_then (and_then (eval c.structs c.locals c.calls scope y t) test) pure_truth) K)
             → Stands c heads p (expr_code L c.structs c.locals d x (branch_code L op d (type_of x) (items.count stops) (expr_code L c.structs c.locals d y ends))) → Fit c f scope r s m → s.world.meter.turns ≤ c.level
             → EndsSo c (finish (and_then (and_then (eval c.structs c.locals c.calls scope x s) test) run) K) p r s.world m
         unfolding opens
@@ -195,7 +195,7 @@ module _ (c : Setting) (found : slice_get c.functions c.number ≡ Some c.code) 
             (λ q v g t q1 m1 at1 aft fit1 kept held stands.
             test_meets v t (λ z t. finish (run z t) K) _ (λ z is. by_test q g t q1 m1 v z at1 aft fit1 kept held stands is (either z stop)))))
           where
-            by_test : (q : Place) (g : Names) (t : State) (q1 : Registers) (m1 : Memory) (v : Value) (z : Bool) → Stands c heads q (branch_code L op d (type_of x) (items.count stops) (expr_code L c.structs c.locals d y ends)) → Aft c f s m g t m1 → Fit c g scope q1 t m1 → KeepsLower L d r q1
+            by_test : (q : CodePlace) (g : Names) (t : CallState) (q1 : Registers) (m1 : Memory) (v : Value) (z : Bool) → Stands c heads q (branch_code L op d (type_of x) (items.count stops) (expr_code L c.structs c.locals d y ends)) → Aft c f s m g t m1 → Fit c g scope q1 t m1 → KeepsLower L d r q1
                 → IsHeld (type_of x) v → IsIn g (type_of x) v (q1 (value_register L d (type_of x))) → TestIs t.world.outer.memory v z → (z ≡ stop) ⊎ (z ≡ not stop) → EndsSo c (finish (run z t) K) q q1 t.world m1
             by_test q g t q1 m1 v z at1 aft fit1 kept held stands is (inl e) =
                 let behind : Somewhere c.code.blocks c.last c.end heads ends = left_expr c.code.blocks c.last c.end L c.structs c.locals y d heads ends (record { place = next_block q; at = at_branch c.code.blocks c.last c.end op _ _ _ at1 }) in
@@ -227,14 +227,14 @@ module _ (c : Setting) (found : slice_get c.functions c.number ≡ Some c.code) 
   -- ---- `?:`
 
   module _ (ty : PlainType) (x y z : Expr) (sx : IsScalarType (type_of x)) (ey : type_of y ≡ ty) (ez : type_of z ≡ ty) (hx : ExprMeets c x) (hy : ExprMeets c y) (hz : ExprMeets c z) where
-    module _ (d : ℕ) (rest : List CodeItem) (heads : List ℕ) (f : Names) (scope : Scope) (r : Registers) (s : State) (m : Memory) (K : Value → State → Observation) (next : Follows c d ty heads rest f scope r s m K) where
+    module _ (d : ℕ) (rest : List CodeItem) (heads : List ℕ) (f : Names) (scope : Scope) (r : Registers) (s : CallState) (m : Memory) (K : Value → CallState → CodeObservation) (next : Follows c d ty heads rest f scope r s m K) where
       abbrev fails : List CodeItem
       fails = expr_code L c.structs c.locals d z (Start ∷ rest)
 
-      abbrev value : Expr → State → Evaluation Value State
+      abbrev value : Expr → CallState → Evaluation Value CallState
       value e t = eval c.structs c.locals c.calls scope e t
 
-      arm_fails : (q : Place) (g : Names) (t : State) (q1 : Registers) (m1 : Memory) → Stands c heads q fails → Aft c f s m g t m1 → Fit c g scope q1 t m1 → KeepsLower L d r q1 → t.world.meter.turns ≤ c.level → EndsSo c (finish (value z t) K) q q1 t.world m1
+      arm_fails : (q : CodePlace) (g : Names) (t : CallState) (q1 : Registers) (m1 : Memory) → Stands c heads q fails → Aft c f s m g t m1 → Fit c g scope q1 t m1 → KeepsLower L d r q1 → t.world.meter.turns ≤ c.level → EndsSo c (finish (value z t) K) q q1 t.world m1
       arm_fails q g t q1 m1 at aft fit kept low =
           hz.by d (Start ∷ rest) heads q g scope q1 t m1 K at fit low
           (λ q2 v h u q3 m2 at2 aft2 fit2 kept2 held stands.
@@ -242,7 +242,7 @@ module _ (c : Setting) (found : slice_get c.functions c.number ≡ Some c.code) 
           (next (next_block q2) v h u q3 m2 (at_start c.code.blocks c.last c.end at2) (after_on aft aft2) fit2 (kept_on (omega arith) kept kept2)
           (subst (λ k. IsHeld k v) ez held) (subst (λ k. IsIn h k v (q3 (value_register L d k))) ez stands)))
 
-      arm_holds : (q : Place) (g : Names) (t : State) (q1 : Registers) (m1 : Memory) → Stands c heads q (expr_code L c.structs c.locals d y (Jump (items.count rest) ∷ fails)) → Aft c f s m g t m1 → Fit c g scope q1 t m1 → KeepsLower L d r q1
+      arm_holds : (q : CodePlace) (g : Names) (t : CallState) (q1 : Registers) (m1 : Memory) → Stands c heads q (expr_code L c.structs c.locals d y (Jump (items.count rest) ∷ fails)) → Aft c f s m g t m1 → Fit c g scope q1 t m1 → KeepsLower L d r q1
           → t.world.meter.turns ≤ c.level → EndsSo c (finish (value y t) K) q q1 t.world m1
       arm_holds q g t q1 m1 at aft fit kept low =
           hy.by d (Jump (items.count rest) ∷ fails) heads q g scope q1 t m1 K at fit low
@@ -255,7 +255,7 @@ module _ (c : Setting) (found : slice_get c.functions c.number ≡ Some c.code) 
           (next (start_of_block block) v h u q3 m2 there (after_on aft aft2) fit2 (kept_on (omega arith) kept kept2)
           (subst (λ k. IsHeld k v) ey held) (subst (λ k. IsIn h k v (q3 (value_register L d k))) ey stands))))
 
-      choice_meets : (q : Place) (g : Names) (t : State) (q1 : Registers) (m1 : Memory) (v : Value) (k : Bool) → Stands c heads q (branch_code L IfFalse d (type_of x) (items.count fails) (expr_code L c.structs c.locals d y (Jump (items.count rest) ∷ fails)))
+      choice_meets : (q : CodePlace) (g : Names) (t : CallState) (q1 : Registers) (m1 : Memory) (v : Value) (k : Bool) → Stands c heads q (branch_code L IfFalse d (type_of x) (items.count fails) (expr_code L c.structs c.locals d y (Jump (items.count rest) ∷ fails)))
           → Aft c f s m g t m1 → Fit c g scope q1 t m1 → KeepsLower L d r q1 → IsHeld (type_of x) v → IsIn g (type_of x) v (q1 (value_register L d (type_of x))) → TestIs t.world.outer.memory v k → t.world.meter.turns ≤ c.level
           → EndsSo c (finish (choose (value y) (value z) k t) K) q q1 t.world m1
       choice_meets q g t q1 m1 v true at aft fit kept held stands is low =

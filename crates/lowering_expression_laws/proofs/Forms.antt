@@ -24,15 +24,15 @@ use Rattle.c_typed_tree.specs.Constants.{integers_with}
 use Rattle.c_typed_tree.specs.Types.{PlainType}
 use Rattle.c_typed_tree.specs.Expressions.{Expr, Number, Unary, Binary, Cast, Convert, type_of}
 use Rattle.c_semantics.specs.Reasons.{UsesNoValue}
-use Rattle.c_semantics.specs.Runs.{State, Run, and_then, use_value, number, pure}
+use Rattle.c_semantics.specs.Runs.{CallState, Run, and_then, use_value, number, pure}
 use Rattle.c_semantics.specs.Objects as objects
 use Rattle.c_semantics.specs.Objects.{Scope}
 use Rattle.c_semantics.specs.Operators.{outcome, unary, integers, binary, convert}
 use Rattle.c_semantics.specs.Evaluates.{eval, place, converted_from}
 use Rattle.suifvm_ir.specs.declared.insn.VmInsn.{VmInsn}
 use Rattle.suifvm_ir.specs.declared.insn.VmInsn.TheVariants as n
-use Rattle.suifvm_ir.specs.declared.insn.UnaryOp.{UnaryOp}
-use Rattle.suifvm_ir.specs.declared.insn.UnaryOp.TheVariants.{Negate, Complement}
+use Rattle.suifvm_ir.specs.declared.insn.VmUnaryOp.{VmUnaryOp}
+use Rattle.suifvm_ir.specs.declared.insn.VmUnaryOp.TheVariants.{Negate, Complement}
 use Rattle.suifvm_ir.specs.Insns.{writes_of}
 use Rattle.vm_meaning.specs.declared.answer.Answer.TheVariants.{Gives, Fails}
 use Rattle.vm_meaning.specs.Operations as vm
@@ -42,8 +42,8 @@ use Rattle.lowering_code.specs.declared.item.CodeItem.{CodeItem}
 use Rattle.lowering_code.specs.declared.item.CodeItem.TheVariants.{Plain}
 use Rattle.lowering_code.specs.Registers.{register_type, value_register, temporary}
 use Rattle.lowering_code.specs.Expressions.{plain_of, is_kept, narrow_type, operation_of, operation_insn, binary_code, conversion_code, convert_code, plus_of, expr_code, place_code}
-use Rattle.lowering_states.specs.Places.{Place, next_place, stands_at}
-use Rattle.lowering_states.specs.Runs.{opens, Observation, ObservesTrap, view, finish}
+use Rattle.lowering_states.specs.Places.{CodePlace, next_place, stands_at}
+use Rattle.lowering_states.specs.Runs.{opens, CodeObservation, ObservesTrap, view, finish}
 use Rattle.lowering_states.specs.States.{IsHeld, IsIn, KeepsLower}
 use Rattle.lowering_states.proofs.Steps.{finish-bind, meets_same, plain, traps, used_meets, number_meets, outcome_meets}
 use Rattle.lowering_states.proofs.States.{kept_all, kept_on, kept_temporary, kept_reads, value_at, after_same, after_on, fits_temporary}
@@ -114,17 +114,17 @@ module _ (c : Setting) (found : slice_get c.functions c.number ≡ Some c.code) 
   abbrev L : ℕ
   L = count c
 
-  pub insn_on : {o : Observation} (insn : VmInsn) (p : Place) (r : Registers) (w : World) (m : Memory) (vs : List Value) → stands_at c.code.blocks p ≡ Some (Some insn)
+  pub insn_on : {o : CodeObservation} (insn : VmInsn) (p : CodePlace) (r : Registers) (w : World) (m : Memory) (vs : List Value) → stands_at c.code.blocks p ≡ Some (Some insn)
       → takes_turn insn ≡ false → does_in c.own r (outer_with_memory w.outer m) insn ≡ Writes vs (outer_with_memory w.outer m)
       → EndsSo c o (next_place p) (set_registers (writes_of insn) vs r) w m → EndsSo c o p r w m
   insn_on insn p r w m vs e calm d next = plain c.rooms c.functions c.number c.code found c.own c.waiting insn p r w m vs m e calm d next
 
-  insn_traps : {o : Observation} (insn : VmInsn) (p : Place) (r : Registers) (w : World) (m : Memory) (code : ℕ) → stands_at c.code.blocks p ≡ Some (Some insn)
+  insn_traps : {o : CodeObservation} (insn : VmInsn) (p : CodePlace) (r : Registers) (w : World) (m : Memory) (code : ℕ) → stands_at c.code.blocks p ≡ Some (Some insn)
       → takes_turn insn ≡ false → does_in c.own r (outer_with_memory w.outer m) insn ≡ Stops (Traps code) (outer_with_memory w.outer m)
       → ObservesTrap (view w) code ≡ o → EndsSo c o p r w m
   insn_traps insn p r w m code e calm d same = traps c.rooms c.functions c.number c.code found c.own c.waiting insn p r w m code e calm d same
 
-  pub bound : {A B : Type 0} (x : Evaluation A State) (k : A → Run B) (K : B → State → Observation) (p : Place) (r : Registers) (w : World) (m : Memory)
+  pub bound : {A B : Type 0} (x : Evaluation A CallState) (k : A → Run B) (K : B → CallState → CodeObservation) (p : CodePlace) (r : Registers) (w : World) (m : Memory)
       → EndsSo c (finish x (λ a s. finish (k a s) K)) p r w m → EndsSo c (finish (and_then x k) K) p r w m
   bound x k K p r w m h = meets_same c.rooms c.functions (finish-bind x k K) h
 
@@ -152,7 +152,7 @@ module _ (c : Setting) (found : slice_get c.functions c.number ≡ Some c.code) 
   }
 
   -- an operator in front of an integer, whose instruction gives a word
-  pub unary_on : (op : UnaryOp) (d : ℕ) (t : IntegerType) (k : ℕ) (q1 : Registers) (w : World) (m : Memory) → promote t ≡ t → WordIn L d t k q1
+  pub unary_on : (op : VmUnaryOp) (d : ℕ) (t : IntegerType) (k : ℕ) (q1 : Registers) (w : World) (m : Memory) → promote t ≡ t → WordIn L d t k q1
       → does_in c.own q1 (outer_with_memory w.outer m) (n.Unary op (register_type (plain_of t)) (value_register L d (plain_of t)) (value_register L d (plain_of t))) ≡ writes (vm.unary_number op t k) (outer_with_memory w.outer m)
   unary_on op d t k q1 w m p word =
       ap (λ a. writes (vm.unary_answer op (register_type (plain_of t)) a) (outer_with_memory w.outer m)) word.stands
@@ -205,7 +205,7 @@ module _ (c : Setting) (found : slice_get c.functions c.number ≡ Some c.code) 
   -- ---- operators between integers
 
   -- the meaning, and the code, of an operator between two integers
-  eval_is : (op : BinaryOp) → is_logical op ≡ false → (ty : PlainType) (x y : Expr) (scope : Scope) (s : State)
+  eval_is : (op : BinaryOp) → is_logical op ≡ false → (ty : PlainType) (x y : Expr) (scope : Scope) (s : CallState)
       → eval c.structs c.locals c.calls scope (Binary ty op x y) s
       ≡ and_then (eval c.structs c.locals c.calls scope x s) (λ v t. and_then (eval c.structs c.locals c.calls scope y t) (λ w. binary c.structs op (type_of x) (type_of y) v w))
   unfolding opens
@@ -300,8 +300,8 @@ module _ (c : Setting) (found : slice_get c.functions c.number ≡ Some c.code) 
     R = plain_of (result_type op t)
 
     -- both operands are known
-    operator_meets : (d : ℕ) (rest : List CodeItem) (heads : List ℕ) (f : Names) (scope : Scope) (r : Registers) (s : State) (m : Memory) (K : Value → State → Observation) → Follows c d R heads rest f scope r s m K
-        → (q : Place) (x y : ℕ) (g : Names) (t1 : State) (q1 : Registers) (m1 : Memory) → Stands c heads q (Plain (insn_of op d R t o) ∷ rest) → Aft c f s m g t1 m1 → Fit c g scope q1 t1 m1
+    operator_meets : (d : ℕ) (rest : List CodeItem) (heads : List ℕ) (f : Names) (scope : Scope) (r : Registers) (s : CallState) (m : Memory) (K : Value → CallState → CodeObservation) → Follows c d R heads rest f scope r s m K
+        → (q : CodePlace) (x y : ℕ) (g : Names) (t1 : CallState) (q1 : Registers) (m1 : Memory) → Stands c heads q (Plain (insn_of op d R t o) ∷ rest) → Aft c f s m g t1 m1 → Fit c g scope q1 t1 m1
         → KeepsLower L d r q1 → WordIn L d t x q1 → WordIn L (suc d) o y q1
         → EndsSo c (finish (outcome (integers_with op t o x y) t1) K) q q1 t1.world m1
     unfolding opens
@@ -359,8 +359,8 @@ module _ (c : Setting) (found : slice_get c.functions c.number ≡ Some c.code) 
 
   module _ (t o : IntegerType) where
     -- a word is converted
-    conversion_meets : (d : ℕ) (rest : List CodeItem) (heads : List ℕ) (f : Names) (scope : Scope) (r : Registers) (s : State) (m : Memory) (K : Value → State → Observation) → Follows c d (plain_of o) heads rest f scope r s m K
-        → (q : Place) (k : ℕ) (g : Names) (t1 : State) (q1 : Registers) (m1 : Memory) → Stands c heads q (convert_code L d (plain_of t) (plain_of o) rest) → Aft c f s m g t1 m1 → Fit c g scope q1 t1 m1
+    conversion_meets : (d : ℕ) (rest : List CodeItem) (heads : List ℕ) (f : Names) (scope : Scope) (r : Registers) (s : CallState) (m : Memory) (K : Value → CallState → CodeObservation) → Follows c d (plain_of o) heads rest f scope r s m K
+        → (q : CodePlace) (k : ℕ) (g : Names) (t1 : CallState) (q1 : Registers) (m1 : Memory) → Stands c heads q (convert_code L d (plain_of t) (plain_of o) rest) → Aft c f s m g t1 m1 → Fit c g scope q1 t1 m1
         → KeepsLower L d r q1 → WordIn L d t k q1 → EndsSo c (K (Word (conversion t o k)) t1) q q1 t1.world m1
     conversion_meets d rest heads f scope r s m K next q k g t1 q1 m1 at1 aft fit1 kept word = by_kept (is_kept (plain_of t) (plain_of o)) refl at1
       where
@@ -384,7 +384,7 @@ module _ (c : Setting) (found : slice_get c.functions c.number ≡ Some c.code) 
 
     -- a conversion and a cast are one
     conversion_by : (x : Expr) (y : Expr) → type_of y ≡ plain_of o → type_of x ≡ plain_of t → ExprMeets c x
-        → ((scope : Scope) (s : State) → eval c.structs c.locals c.calls scope y s ≡ converted_from (type_of x) (plain_of o) (eval c.structs c.locals c.calls scope x) (place c.structs c.locals c.calls scope x) s)
+        → ((scope : Scope) (s : CallState) → eval c.structs c.locals c.calls scope y s ≡ converted_from (type_of x) (plain_of o) (eval c.structs c.locals c.calls scope x) (place c.structs c.locals c.calls scope x) s)
         → ((d : ℕ) (rest : List CodeItem) → expr_code L c.structs c.locals d y rest
         ≡ conversion_code L c.structs c.locals d (type_of x) (plain_of o) (plus_of L c.structs c.locals x 0) (λ is. place_code L c.structs c.locals d x 0 is) (λ is. expr_code L c.structs c.locals d x is) rest)
         → ExprMeets c y

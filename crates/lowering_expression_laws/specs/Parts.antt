@@ -15,14 +15,14 @@ use Rattle.c_typed_tree.specs.declared.types.StructDef.{StructDef}
 use Rattle.c_typed_tree.specs.declared.units.Local.{Local}
 use Rattle.c_typed_tree.specs.Types.{PlainType}
 use Rattle.c_typed_tree.specs.Expressions.{Expr, type_of}
-use Rattle.c_semantics.specs.Runs.{State}
+use Rattle.c_semantics.specs.Runs.{CallState}
 use Rattle.c_semantics.specs.Objects.{Scope}
 use Rattle.c_semantics.specs.Evaluates.{Functions, eval}
 use Rattle.lowering_code.specs.declared.item.CodeItem.{CodeItem}
 use Rattle.lowering_code.specs.Registers.{value_register}
 use Rattle.lowering_code.specs.Expressions.{expr_code}
-use Rattle.lowering_states.specs.Places.{Place, At}
-use Rattle.lowering_states.specs.Runs.{Observation, finish, Meets, config}
+use Rattle.lowering_states.specs.Places.{CodePlace, At}
+use Rattle.lowering_states.specs.Runs.{CodeObservation, finish, Meets, config}
 use Rattle.lowering_states.specs.States.{IsHeld, IsIn, Fits, KeepsLower, After}
 
 -- a call of a function of the code: its number, the number of its first object, its code, the number of its last block
@@ -45,17 +45,17 @@ pub record Setting : Type 0 where
   pub level : ℕ
 
 module _ (c : Setting) where
-  abbrev pub EndsSo : Observation → Place → Registers → World → Memory → Type 0
+  abbrev pub EndsSo : CodeObservation → CodePlace → Registers → World → Memory → Type 0
   EndsSo o p r w n = Meets c.rooms c.functions o (config c.number c.own c.waiting p r w n)
 
-  abbrev pub Stands : (heads : List ℕ) → Place → List CodeItem → Type 0
+  abbrev pub Stands : (heads : List ℕ) → CodePlace → List CodeItem → Type 0
   Stands heads p is = At c.code.blocks c.last c.end heads p is
 
-  abbrev pub Fit : Names → Scope → Registers → State → Memory → Type 0
+  abbrev pub Fit : Names → Scope → Registers → CallState → Memory → Type 0
   Fit f scope r s n =
       Fits c.statics c.structs c.locals c.own f scope r s.registers s.world.outer.memory n s.world.outer.input
 
-  abbrev pub Aft : Names → State → Memory → Names → State → Memory → Type 0
+  abbrev pub Aft : Names → CallState → Memory → Names → CallState → Memory → Type 0
   Aft f s n g t m =
       After f s.world.outer.memory n s.world.meter.turns g t.world.outer.memory m t.world.meter.turns
 
@@ -65,15 +65,15 @@ module _ (c : Setting) where
 
   -- what follows a value of a type at a depth
   abbrev pub Follows : (depth : ℕ) → PlainType → (heads : List ℕ) → (rest : List CodeItem) → Names → Scope → Registers
-      → State → Memory → (Value → State → Observation) → Type 0
+      → CallState → Memory → (Value → CallState → CodeObservation) → Type 0
   Follows d ty heads rest f scope r s n K =
-      (q : Place) (v : Value) (g : Names) (t : State) (q1 : Registers) (m : Memory) → Stands heads q rest
+      (q : CodePlace) (v : Value) (g : Names) (t : CallState) (q1 : Registers) (m : Memory) → Stands heads q rest
       → Aft f s n g t m → Fit g scope q1 t m → KeepsLower count d r q1 → IsHeld ty v
       → IsIn g ty v (q1 (value_register count d ty)) → EndsSo (K v t) q q1 t.world m
 
   pub record ExprMeets (x : Expr) : Type 0 where
-    pub by : (d : ℕ) (rest : List CodeItem) (heads : List ℕ) (p : Place) (f : Names) (scope : Scope) (r : Registers)
-        (s : State) (n : Memory) (K : Value → State → Observation) →
+    pub by : (d : ℕ) (rest : List CodeItem) (heads : List ℕ) (p : CodePlace) (f : Names) (scope : Scope) (r : Registers)
+        (s : CallState) (n : Memory) (K : Value → CallState → CodeObservation) →
         Stands heads p (expr_code count c.structs c.locals d x rest) → Fit f scope r s n
         → s.world.meter.turns ≤ c.level → Follows d (type_of x) heads rest f scope r s n K
         → EndsSo (finish (eval c.structs c.locals c.calls scope x s) K) p r s.world n

@@ -16,27 +16,27 @@ use Rattle.c_semantics.specs.Objects.{integer_of}
 use Rattle.c_semantics.specs.Operators.{operator_of, operation_type, step_operator, one_type}
 use Rattle.lowering_code.specs.Registers.{register_type, value_register}
 use Rattle.suifvm_ir.specs.declared.insn.VmInsn.{VmInsn}
-use Rattle.suifvm_ir.specs.declared.insn.BranchOp.{BranchOp}
-use Rattle.suifvm_ir.specs.declared.insn.BranchOp.TheVariants.{IfTrue, IfFalse}
+use Rattle.suifvm_ir.specs.declared.insn.VmBranchOp.{VmBranchOp}
+use Rattle.suifvm_ir.specs.declared.insn.VmBranchOp.TheVariants.{IfTrue, IfFalse}
 use Rattle.suifvm_ir.specs.declared.types.VmType.{VmType}
 use Rattle.lowering_code.specs.declared.item.CodeItem.{CodeItem}
 use Rattle.lowering_code.specs.declared.item.CodeItem.TheVariants.{Start, Plain, Jump, Branch}
 use Rattle.lowering_code.specs.Items.{count}
 use Rattle.lowering_code.specs.Expressions.{plain_of, operation_of, operation_insn, stride, member_plus, element_of, is_kept, moved_code, load_code, convert_code, sized_code, scaled_code, divided_code, integer_code, converted_code, place_moved_code, step_code, step_back_code, pointers_code, binary_by, combine_by, element_by, stepped_code, step_register_code, step_memory_code, set_memory_code, combine_memory_code, register_if, register_of, local_code, change_code, assign_code, conversion_code, expr_code, place_code, exprs_code, commas_code, constant_code, branch_code}
-use Rattle.lowering_states.specs.Places.{Place, next_place, next_block, At}
+use Rattle.lowering_states.specs.Places.{CodePlace, next_place, next_block, At}
 use Rattle.lowering_expression_places.specs.Behind.{IsLeft}
 
 module _ (blocks : List (List VmInsn)) (last : ℕ) (end : List VmInsn) where
-  pub at_plain : {heads : List ℕ} {p : Place} {is : List CodeItem} (i : VmInsn) → At blocks last end heads p (Plain i ∷ is) → At blocks last end heads (next_place p) is
+  pub at_plain : {heads : List ℕ} {p : CodePlace} {is : List CodeItem} (i : VmInsn) → At blocks last end heads p (Plain i ∷ is) → At blocks last end heads (next_place p) is
   at_plain i h = record { has = h.has.1; size = h.size }
 
-  pub at_start : {heads : List ℕ} {p : Place} {is : List CodeItem} → At blocks last end heads p (Start ∷ is) → At blocks last end heads (next_block p) is
+  pub at_start : {heads : List ℕ} {p : CodePlace} {is : List CodeItem} → At blocks last end heads p (Start ∷ is) → At blocks last end heads (next_block p) is
   at_start h = record { has = h.has.1; size = omega (arith, h.size) }
 
-  pub at_jump : {heads : List ℕ} {p : Place} {is : List CodeItem} (name : ℕ) → At blocks last end heads p (Jump name ∷ is) → At blocks last end heads (next_block p) is
+  pub at_jump : {heads : List ℕ} {p : CodePlace} {is : List CodeItem} (name : ℕ) → At blocks last end heads p (Jump name ∷ is) → At blocks last end heads (next_block p) is
   at_jump name h = record { has = h.has.1; size = omega (arith, h.size) }
 
-  pub at_branch : {heads : List ℕ} {p : Place} {is : List CodeItem} (op : BranchOp) (ty : VmType) (source name : ℕ) → At blocks last end heads p (Branch op ty source name ∷ is) → At blocks last end heads (next_block p) is
+  pub at_branch : {heads : List ℕ} {p : CodePlace} {is : List CodeItem} (op : VmBranchOp) (ty : VmType) (source name : ℕ) → At blocks last end heads p (Branch op ty source name ∷ is) → At blocks last end heads (next_block p) is
   at_branch op ty source name h = record { has = h.has.2; size = omega (arith, h.size) }
 
   abbrev Left : (List CodeItem → List CodeItem) → Type 0
@@ -51,7 +51,7 @@ module _ (blocks : List (List VmInsn)) (last : ℕ) (end : List VmInsn) where
   left_jump : (name : List CodeItem → ℕ) → Left (λ is. Jump (name is) ∷ is)
   left_jump name heads rest h = record { place = _; at = at_jump (name rest) h.at }
 
-  left_branch : (op : BranchOp) (ty : VmType) (source : ℕ) (name : ℕ) → Left (λ is. Branch op ty source name ∷ is)
+  left_branch : (op : VmBranchOp) (ty : VmType) (source : ℕ) (name : ℕ) → Left (λ is. Branch op ty source name ∷ is)
   left_branch op ty source name heads rest h = record { place = _; at = at_branch op ty source name h.at }
 
   left_none : Left (λ is. is)
@@ -218,7 +218,7 @@ module _ (blocks : List (List VmInsn)) (last : ℕ) (end : List VmInsn) where
         left_conversion d (Array t n) to plus place value p v = left_on p (left_moved d plus)
         left_conversion d (Struct n) to plus place value p v = left_on v (left_converted d (Struct n) to)
 
-        left_both : (op : BranchOp) (first second d : ℕ) (ty tx tz : PlainType) (f g : List CodeItem → List CodeItem) → Left f → Left g
+        left_both : (op : VmBranchOp) (first second d : ℕ) (ty tx tz : PlainType) (f g : List CodeItem → List CodeItem) → Left f → Left g
             → Left (λ is. f (branch_code L op d tx (count (constant_code L d ty first (Start ∷ is))) (g (branch_code L op d tz (count (constant_code L d ty first (Start ∷ is)))
             (constant_code L d ty second (Jump (count is) ∷ constant_code L d ty first (Start ∷ is)))))))
         left_both op first second d ty tx tz f g a c heads rest h =

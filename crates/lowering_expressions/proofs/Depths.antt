@@ -11,7 +11,7 @@ use Rattle.c_typed_tree.proofs.Views.{view_call, view_comma}
 use Rattle.std.proofs.lemmas.List.{take_more, length-take}
 use Rattle.c_typed_tree.specs.Expressions.{type_of}
 use Rattle.lowering_code.specs.Registers.{value_register}
-use Rattle.lowering_expressions.specs.declared.scope.Scope.{Scope}
+use Rattle.lowering_expressions.specs.declared.scope.LoweringScope.{LoweringScope}
 use Rattle.lowering_expressions.specs.Scopes.{argument_registers}
 use Rattle.lowering_expressions.specs.Levels.{levels, levels_above, levels_of_each}
 
@@ -54,7 +54,7 @@ pub comma_is : (v : e.TExpr) (ty : CType) (xs ys : List e.TExpr) → v ≡ e.Com
 comma_is v ty xs ys h same = ap expr_view h ∙ view_comma ty xs ∙ ap (λ l. p.Comma (type_view ty) (exprs_view l)) (sym same)
 
 -- one more argument
-registers_end : (s : Scope) (d : ℕ) (xs : List e.TExpr) (x : e.TExpr)
+registers_end : (s : LoweringScope) (d : ℕ) (xs : List e.TExpr) (x : e.TExpr)
     → argument_registers s d (exprs_view (xs ++ x ∷ [])) ≡ argument_registers s d (exprs_view xs) ++ value_register s.registers.locals (d + length xs) (type_of (expr_view x)) ∷ []
 registers_end s d [] x =
     let e : d ≡ d + 0 = omega arith in
@@ -64,13 +64,13 @@ registers_end s d (y ∷ xs) x =
     ap (λ l. value_register s.registers.locals d (type_of (expr_view y)) ∷ l)
     (registers_end s (suc d) xs x ∙ ap (λ k. argument_registers s (suc d) (exprs_view xs) ++ value_register s.registers.locals k (type_of (expr_view x)) ∷ []) e)
 
-pub registers_more : (s : Scope) (d at i : ℕ) (xs : List e.TExpr) (x : e.TExpr) → i < length xs → x ≡ get_or xs i x → at ≡ d + i
+pub registers_more : (s : LoweringScope) (d at i : ℕ) (xs : List e.TExpr) (x : e.TExpr) → i < length xs → x ≡ get_or xs i x → at ≡ d + i
     → argument_registers s d (exprs_view (take (i + 1) xs)) ≡ argument_registers s d (exprs_view (take i xs)) ++ value_register s.registers.locals at (type_of (expr_view x)) ∷ []
 registers_more s d at i xs x lt is h =
     let n : d + length (take i xs) ≡ at = omega (arith, length-take i xs, lt, h) in
     ap (λ l. argument_registers s d (exprs_view l)) (take_more xs i x lt ∙ ap (λ y. take i xs ++ y ∷ []) (sym is)) ∙ registers_end s d (take i xs) x
     ∙ ap (λ k. argument_registers s d (exprs_view (take i xs)) ++ value_register s.registers.locals k (type_of (expr_view x)) ∷ []) n
 
-pub register_there : (s : Scope) (d at i : ℕ) (xs : List e.TExpr) (x : e.TExpr) → i < length xs → x ≡ get_or xs i x → at ≡ d + i
+pub register_there : (s : LoweringScope) (d at i : ℕ) (xs : List e.TExpr) (x : e.TExpr) → i < length xs → x ≡ get_or xs i x → at ≡ d + i
     → s.registers.locals + 5 * (d + levels_above (exprs_view xs)) < 2 ^ 32 → s.registers.locals + 5 * (at + 1) < 2 ^ 32
 register_there s d at i xs x lt is h bound = omega (arith, above_at xs i x lt, own_levels (expr_view (get_or xs i x)), h, bound)

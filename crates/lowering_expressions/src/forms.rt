@@ -9,20 +9,20 @@ ghost use Rattle.lowering_expressions.specs.Levels.{levels_above};
 ghost use Rattle.lowering_expressions.specs.Scopes.{HasLevels, local_address, local_code, global_code, destination_of, argument_registers, call_code, combine_register_code, decided_code, both_code};
 
 use crate::places::register_if;
-use crate::scope::Scope;
+use crate::scope::LoweringScope;
 use c_tree::BinaryOp;
 use c_typed_tree::{Builtin, CType, Callee, TExpr};
-use lowering_emitter::code::Code;
+use lowering_emitter::code::EmittedCode;
 use lowering_emitter::operators::Depths;
 use lowering_emitter::registers::Registers;
 use std::alloc::{AllocError, Global};
-use suifvm_ir::insn::{Builtin as VmBuiltin, Callee as VmCallee, Place, VmInsn};
-use suifvm_ir::operands::Operands;
+use suifvm_ir::insn::{VmBuiltin, VmCallee, VmInsn, VmObject};
+use suifvm_ir::operands::ArgumentRegisters;
 
 /// The address of a memory local, moved by so many bytes. It fails only where memory is short.
 pub fn local_place(
-    code: &mut Code,
-    scope: &Scope<'_>,
+    code: &mut EmittedCode,
+    scope: &LoweringScope<'_>,
     depth: u32,
     number: u32,
     plus: u64,
@@ -31,13 +31,13 @@ pub fn local_place(
     ensures { OnOk result (code.new ≡ local_address scope.now depth number plus code.old) }
 {
     let object = scope.object(number);
-    code.address_of(scope.registers, depth, Place::Local(object), plus)
+    code.address_of(scope.registers, depth, VmObject::Local(object), plus)
 }
 
 /// The value of a local.
 pub(crate) fn local(
-    code: &mut Code,
-    scope: &Scope<'_>,
+    code: &mut EmittedCode,
+    scope: &LoweringScope<'_>,
     depth: u32,
     ty: &CType,
     number: u32,
@@ -59,8 +59,8 @@ pub(crate) fn local(
 
 /// The value of an object of static storage.
 pub(crate) fn global(
-    code: &mut Code,
-    scope: &Scope<'_>,
+    code: &mut EmittedCode,
+    scope: &LoweringScope<'_>,
     depth: u32,
     ty: &CType,
     number: u32,
@@ -69,7 +69,7 @@ pub(crate) fn global(
     ensures { OnOk result (code.new ≡ global_code scope.now depth (type_view ty.now) number code.old) }
 {
     code.load(scope.registers, depth, ty, 0)?;
-    code.address_of(scope.registers, depth, Place::Global(number), 0)
+    code.address_of(scope.registers, depth, VmObject::Global(number), 0)
 }
 
 fn vm_builtin(builtin: Builtin) -> VmBuiltin
@@ -94,7 +94,7 @@ fn vm_callee(callee: Callee) -> VmCallee
 
 /// Where the result of a call goes.
 #[tactic(auto, unfolding(c_typed_tree::specs::model::View::opens))]
-fn destination_of(scope: &Scope<'_>, depth: u32, ty: &CType) -> Option<u32>
+fn destination_of(scope: &LoweringScope<'_>, depth: u32, ty: &CType) -> Option<u32>
     requires { HasLevels scope.now depth 1 }
     ensures { result ≡ destination_of scope.now depth (type_view ty.now) }
 {
@@ -111,14 +111,14 @@ fn destination_of(scope: &Scope<'_>, depth: u32, ty: &CType) -> Option<u32>
 #[tactic(auto, using(crate::proofs::Depths::registers_more))]
 fn argument_registers(
     alloc: Global,
-    scope: &Scope<'_>,
+    scope: &LoweringScope<'_>,
     depth: u32,
     arguments: &[TExpr],
-) -> Result<Operands, AllocError>
+) -> Result<ArgumentRegisters, AllocError>
     requires { HasLevels scope.now depth (levels_above (exprs_view arguments.now)) }
     ensures { IfOk result (λ o. o ≡ argument_registers scope.now depth (exprs_view arguments.now)) }
 {
-    let mut registers = Operands::new(alloc);
+    let mut registers = ArgumentRegisters::new(alloc);
     let mut at = depth;
     for argument in arguments {
         registers.push(scope.registers.value(at, argument.ty()))?;
@@ -130,8 +130,8 @@ fn argument_registers(
 /// The call itself, behind its arguments.
 pub(crate) fn call(
     alloc: Global,
-    code: &mut Code,
-    scope: &Scope<'_>,
+    code: &mut EmittedCode,
+    scope: &LoweringScope<'_>,
     depth: u32,
     ty: &CType,
     callee: Callee,
@@ -152,8 +152,8 @@ pub(crate) fn call(
 
 /// What a compound assignment to a register does behind its right side, which stands one depth above.
 pub(crate) fn combine_register(
-    code: &mut Code,
-    scope: &Scope<'_>,
+    code: &mut EmittedCode,
+    scope: &LoweringScope<'_>,
     depth: u32,
     op: BinaryOp,
     ty: &CType,
@@ -178,7 +178,7 @@ pub(crate) fn combine_register(
 /// What stands behind the second operand of `&&` or `||`: the value where it does not decide, and then where one
 /// decided. Gives the name of the block of the latter.
 pub(crate) fn decided(
-    code: &mut Code,
+    code: &mut EmittedCode,
     r: Registers,
     depth: u32,
     ty: &CType,

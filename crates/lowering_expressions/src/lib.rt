@@ -9,5 +9,5 @@ pub mod scope;
 pub mod walk;
 
 pub use forms::local_place;
-pub use scope::Scope;
+pub use scope::LoweringScope;
 pub use walk::{expr, place};

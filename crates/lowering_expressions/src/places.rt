@@ -7,12 +7,12 @@ ghost use Rattle.c_semantics.specs.Evaluates.{target_of};
 ghost use Rattle.lowering_code.specs.Expressions.{member_plus};
 ghost use Rattle.lowering_expressions.specs.Scopes.{register_if, register_of, plus_of};
 
-use crate::scope::Scope;
+use crate::scope::LoweringScope;
 use c_typed_tree::{CType, StructDef, TExpr};
 use lowering_emitter::sizes::member_plus;
 
 /// The register of a local that one holds.
-pub(crate) fn register_if(scope: &Scope<'_>, number: u32) -> Option<u32>
+pub(crate) fn register_if(scope: &LoweringScope<'_>, number: u32) -> Option<u32>
     ensures { result ≡ register_if scope.now number }
 {
     match scope.locals.get(number as usize) {
@@ -36,7 +36,7 @@ pub(crate) fn is_array(ty: &CType) -> bool
 
 /// The register that holds a place, if one does.
 #[tactic(auto, unfolding(c_typed_tree::specs::model::View::opens))]
-pub(crate) fn register_of(scope: &Scope<'_>, e: &TExpr) -> Option<u32>
+pub(crate) fn register_of(scope: &LoweringScope<'_>, e: &TExpr) -> Option<u32>
     ensures { result ≡ register_of scope.now (expr_view e.now) }
 {
     match e {
@@ -83,7 +83,7 @@ pub(crate) fn target_member(structs: &[StructDef], ty: &CType, number: u32, plus
 
 /// By how many bytes the pointer that the code of a place gives is still to be moved.
 #[tactic(auto, unfolding(c_typed_tree::specs::model::View::opens))]
-pub(crate) fn plus_of(scope: &Scope<'_>, e: &TExpr, plus: u64) -> u64
+pub(crate) fn plus_of(scope: &LoweringScope<'_>, e: &TExpr, plus: u64) -> u64
     requires { plus < 2 ^ 63 }
     ensures is { result ≡ plus_of scope.now (expr_view e.now) plus }
     ensures small { result < 2 ^ 63 }

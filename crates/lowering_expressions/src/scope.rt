@@ -9,7 +9,7 @@ use std::alloc::{AllocError, Global};
 
 /// The structs of a unit, and the locals of a function with their registers and objects.
 #[derive(Drop)]
-pub struct Scope<'a> {
+pub struct LoweringScope<'a> {
     pub structs: &'a [StructDef],
     pub locals: &'a [Local],
     pub registers: Registers,
@@ -20,13 +20,13 @@ pub struct Scope<'a> {
     pub ghost objects_are: { (k : ℕ) → get_or objects.items k object_count ≡ object_of locals.now k },
 }
 
-impl<'a> Scope<'a> {
+impl<'a> LoweringScope<'a> {
     /// The scope of a function with these locals. It fails only where memory is short.
     pub fn new(
         alloc: Global,
         structs: &'a [StructDef],
         locals: &'a [Local],
-    ) -> Result<Scope<'a>, AllocError>
+    ) -> Result<LoweringScope<'a>, AllocError>
         requires { length locals.now < 2 ^ 32 }
         ensures structs { IfOk result (λ s. s.structs.now ≡ structs.now) }
         ensures locals { IfOk result (λ s. s.locals.now ≡ locals.now) }
@@ -38,7 +38,7 @@ impl<'a> Scope<'a> {
             objects.push(object_count)?;
             object_count += u32::from(local.in_memory);
         }
-        Ok(Scope {
+        Ok(LoweringScope {
             structs,
             locals,
             registers: Registers {

@@ -8,13 +8,13 @@ ghost use Rattle.lowering_expressions.specs.Scopes.{HasLevels, expr_code, place_
 
 use crate::forms::{call, combine_register, decided, global, local, local_place};
 use crate::places::{is_array, member, plus_of, register_of, target_member};
-use crate::scope::Scope;
+use crate::scope::LoweringScope;
 use c_tree::{BinaryOp, StepOp, UnaryOp};
 use c_typed_tree::{CType, TExpr};
-use lowering_emitter::code::Code;
+use lowering_emitter::code::EmittedCode;
 use lowering_emitter::operations::operator_of;
 use std::alloc::{AllocError, Global};
-use suifvm_ir::insn::{BranchOp, Place, UnaryOp as VmUnaryOp};
+use suifvm_ir::insn::{VmBranchOp, VmObject, VmUnaryOp};
 
 /// The code of an expression in front of the code so far: its value comes into the register of its type at the depth.
 /// It fails only where memory is short.
@@ -22,8 +22,8 @@ use suifvm_ir::insn::{BranchOp, Place, UnaryOp as VmUnaryOp};
 #[tactic(auto, unfolding(c_typed_tree::specs::model::View::opens))]
 pub fn expr(
     alloc: Global,
-    code: &mut Code,
-    scope: &Scope<'_>,
+    code: &mut EmittedCode,
+    scope: &LoweringScope<'_>,
     depth: u32,
     e: &TExpr,
 ) -> Result<(), AllocError>
@@ -53,16 +53,16 @@ pub fn expr(
         } => match op {
             BinaryOp::LogicalAnd => {
                 let fails = decided(code, r, depth, ty, 0, 1)?;
-                code.branch_by(BranchOp::IfFalse, r, depth, right.ty(), fails)?;
+                code.branch_by(VmBranchOp::IfFalse, r, depth, right.ty(), fails)?;
                 expr(alloc, code, scope, depth, right)?;
-                code.branch_by(BranchOp::IfFalse, r, depth, left.ty(), fails)?;
+                code.branch_by(VmBranchOp::IfFalse, r, depth, left.ty(), fails)?;
                 expr(alloc, code, scope, depth, left)
             }
             BinaryOp::LogicalOr => {
                 let holds = decided(code, r, depth, ty, 1, 0)?;
-                code.branch_by(BranchOp::IfTrue, r, depth, right.ty(), holds)?;
+                code.branch_by(VmBranchOp::IfTrue, r, depth, right.ty(), holds)?;
                 expr(alloc, code, scope, depth, right)?;
-                code.branch_by(BranchOp::IfTrue, r, depth, left.ty(), holds)?;
+                code.branch_by(VmBranchOp::IfTrue, r, depth, left.ty(), holds)?;
                 expr(alloc, code, scope, depth, left)
             }
             _ => {
@@ -111,7 +111,7 @@ pub fn expr(
             let name = code.name();
             code.jump(end)?;
             expr(alloc, code, scope, depth, holds)?;
-            code.branch_by(BranchOp::IfFalse, r, depth, condition.ty(), name)?;
+            code.branch_by(VmBranchOp::IfFalse, r, depth, condition.ty(), name)?;
             expr(alloc, code, scope, depth, condition)
         }
         TExpr::Cast { ty, operand } => conversion(alloc, code, scope, depth, operand, ty),
@@ -160,8 +160,8 @@ pub fn expr(
 #[tactic(auto, unfolding(c_typed_tree::specs::model::View::opens))]
 fn unary(
     alloc: Global,
-    code: &mut Code,
-    scope: &Scope<'_>,
+    code: &mut EmittedCode,
+    scope: &LoweringScope<'_>,
     depth: u32,
     operand: &TExpr,
     ty: &CType,
@@ -223,8 +223,8 @@ fn unary(
 #[tactic(auto, unfolding(c_typed_tree::specs::model::View::opens))]
 fn conversion(
     alloc: Global,
-    code: &mut Code,
-    scope: &Scope<'_>,
+    code: &mut EmittedCode,
+    scope: &LoweringScope<'_>,
     depth: u32,
     operand: &TExpr,
     ty: &CType,
@@ -249,8 +249,8 @@ fn conversion(
 #[tactic(auto, unfolding(c_typed_tree::specs::model::View::opens))]
 pub fn place(
     alloc: Global,
-    code: &mut Code,
-    scope: &Scope<'_>,
+    code: &mut EmittedCode,
+    scope: &LoweringScope<'_>,
     depth: u32,
     e: &TExpr,
     plus: u64,
@@ -262,7 +262,7 @@ pub fn place(
     let r = scope.registers;
     match e {
         TExpr::Local { number, .. } => local_place(code, scope, depth, *number, plus),
-        TExpr::Global { number, .. } => code.address_of(r, depth, Place::Global(*number), plus),
+        TExpr::Global { number, .. } => code.address_of(r, depth, VmObject::Global(*number), plus),
         TExpr::Unary { op, operand, .. } => match op {
             UnaryOp::Dereference => expr(alloc, code, scope, depth, operand),
             UnaryOp::Address => Ok(()),
@@ -304,8 +304,8 @@ pub fn place(
 #[tactic(auto, unfolding(c_typed_tree::specs::model::View::opens))]
 fn exprs(
     alloc: Global,
-    code: &mut Code,
-    scope: &Scope<'_>,
+    code: &mut EmittedCode,
+    scope: &LoweringScope<'_>,
     depth: u32,
     list: &[TExpr],
 ) -> Result<(), AllocError>
@@ -325,8 +325,8 @@ fn exprs(
 #[tactic(auto, unfolding(c_typed_tree::specs::model::View::opens))]
 fn commas(
     alloc: Global,
-    code: &mut Code,
-    scope: &Scope<'_>,
+    code: &mut EmittedCode,
+    scope: &LoweringScope<'_>,
     depth: u32,
     list: &[TExpr],
 ) -> Result<(), AllocError>

@@ -7,19 +7,19 @@ use Rattle.mem_model.specs.Related.{Names}
 use Rattle.c_typed_tree.specs.Expressions.{Expr}
 use Rattle.c_typed_tree.specs.Statements.{Stmt, For}
 use Rattle.c_typed_tree.specs.Statements as q
-use Rattle.c_semantics.specs.Runs.{State, Run, and_then, in_world, turn, pure, ◌>>◌, ◌>>=◌}
+use Rattle.c_semantics.specs.Runs.{CallState, Run, and_then, in_world, turn, pure, ◌>>◌, ◌>>=◌}
 use Rattle.c_semantics.specs.Objects.{Scope}
 use Rattle.c_semantics.specs.Evaluates.{eval, choose}
 use Rattle.c_semantics.specs.Executes as executes
-use Rattle.c_semantics.specs.Executes.{Flow, Goes, after_body, exec}
+use Rattle.c_semantics.specs.Executes.{StatementFlow, Goes, after_body, exec}
 use Rattle.suifvm_ir.specs.declared.insn.VmInsn.TheVariants as n
 use Rattle.vm_meaning.specs.Behave.{Registers}
 use Rattle.lowering_code.specs.declared.item.CodeItem.{CodeItem}
 use Rattle.lowering_code.specs.declared.item.CodeItem.TheVariants.{Start, Loop}
 use Rattle.lowering_code.specs.Items as items
 use Rattle.lowering_code.specs.Statements.{after_code, test_code, stmt_code}
-use Rattle.lowering_states.specs.Places.{Place, next_place, next_block, start_of_block, stands_at}
-use Rattle.lowering_states.specs.Runs.{opens, Observation, finish}
+use Rattle.lowering_states.specs.Places.{CodePlace, next_place, next_block, start_of_block, stands_at}
+use Rattle.lowering_states.specs.Runs.{opens, CodeObservation, finish}
 use Rattle.lowering_states.proofs.Steps.{meets_same, fall, jump, no_turn, turning, turn_meets, turn_less}
 use Rattle.lowering_states.proofs.States.{after_on}
 use Rattle.lowering_expression_places.specs.Behind.{Somewhere}
@@ -30,11 +30,11 @@ use Rattle.lowering_expression_laws.proofs.Choices.{at_block}
 use Rattle.lowering_statement_laws.specs.Parts.{IsApart, Onward, StmtMeets}
 use Rattle.lowering_statement_laws.proofs.Apart.{inner_least}
 use Rattle.lowering_statement_laws.proofs.Behind.{at_loop, left_stmt}
-use Rattle.lowering_loop_laws.specs.Laws.{Levels, at_level, AreLevels}
+use Rattle.lowering_loop_laws.specs.Laws.{LevelMeanings, at_level, AreLevels}
 use Rattle.lowering_for_laws.specs.Laws.{StepMeets, ConditionMeets, ForLoops, ForLoopsMeet}
 use Rattle.lowering_for_laws.proofs.Pieces.{left_condition, left_step, step_leads, condition_leads}
 
-module _ (c : Setting) (levels : Levels) (found : slice_get c.functions c.number ≡ Some c.code) (are : AreLevels c levels) (test step : Option Expr) (body : Stmt)
+module _ (c : Setting) (levels : LevelMeanings) (found : slice_get c.functions c.number ≡ Some c.code) (are : AreLevels c levels) (test step : Option Expr) (body : Stmt)
     (ht : (k : ℕ) → ConditionMeets (at_level c levels k) test) (hs : (k : ℕ) → StepMeets (at_level c levels k) step) (hb : (k : ℕ) → StmtMeets (at_level c levels k) (levels.statements k) body) where
   abbrev L : ℕ
   L = count c
@@ -43,19 +43,19 @@ module _ (c : Setting) (levels : Levels) (found : slice_get c.functions c.number
   loop = For q.Nothing test step body
 
   -- what the loop does behind its body
-  abbrev again_run : ℕ → Scope → Run Flow
+  abbrev again_run : ℕ → Scope → Run StatementFlow
   again_run k scope = executes.step c.structs c.locals (levels.functions k) scope step >> levels.statements k scope loop
 
   -- what it does from its mark on
-  abbrev round_run : ℕ → Scope → Run Flow
+  abbrev round_run : ℕ → Scope → Run StatementFlow
   round_run k scope = turn >> (exec c.structs c.locals (levels.functions k) (levels.statements k) scope body >>= after_body (again_run k scope))
 
   -- what it does from its condition on
-  abbrev loop_run : ℕ → Scope → Run Flow
+  abbrev loop_run : ℕ → Scope → Run StatementFlow
   loop_run k scope = executes.condition c.structs c.locals (levels.functions k) scope test >>= choose (round_run k scope) (pure Goes)
 
   -- what follows, from a later state
-  onward_on : {scope : Scope} {f g : Names} {s t : State} {m m1 : Memory} {K : Flow → State → Observation} {heads : List ℕ} {rest : List CodeItem} {brk con : ℕ} → Aft c f s m g t m1 → Onward c scope f s m K heads rest brk con → Onward c scope g t m1 K heads rest brk con
+  onward_on : {scope : Scope} {f g : Names} {s t : CallState} {m m1 : Memory} {K : StatementFlow → CallState → CodeObservation} {heads : List ℕ} {rest : List CodeItem} {brk con : ℕ} → Aft c f s m g t m1 → Onward c scope f s m K heads rest brk con → Onward c scope g t m1 K heads rest brk con
   onward_on x way = record {
     goes = λ p h u r n at a fit. way.goes p h u r n at (after_on x a) fit;
     breaks = λ h u r n a fit. way.breaks h u r n (after_on x a) fit;
@@ -85,33 +85,33 @@ module _ (c : Setting) (levels : Levels) (found : slice_get c.functions c.number
     -- what a loop does at a level, from its condition on
     abbrev Rounds : ℕ → Type 0
     Rounds k =
-        (p : Place) (f : Names) (scope : Scope) (r : Registers) (s : State) (m : Memory) (K : Flow → State → Observation) (brk con : ℕ) → IsApart scope body → Stands c (head ∷ heads) p test_items → Fit c f scope r s m → s.world.meter.turns ≤ k
+        (p : CodePlace) (f : Names) (scope : Scope) (r : Registers) (s : CallState) (m : Memory) (K : StatementFlow → CallState → CodeObservation) (brk con : ℕ) → IsApart scope body → Stands c (head ∷ heads) p test_items → Fit c f scope r s m → s.world.meter.turns ≤ k
         → Onward c scope f s m K heads rest brk con → EndsSo c (finish (loop_run k scope s) K) p r s.world m
 
     -- the step and the next round, one level down
-    again_meets : (k : ℕ) → ((i : ℕ) → suc i ≡ k → Rounds i) → (p : Place) (f : Names) (scope : Scope) (r : Registers) (s : State) (m : Memory) (K : Flow → State → Observation) (brk con : ℕ) → IsApart scope body → Stands c (head ∷ heads) p step_items → Fit c f scope r s m → s.world.meter.turns < k
+    again_meets : (k : ℕ) → ((i : ℕ) → suc i ≡ k → Rounds i) → (p : CodePlace) (f : Names) (scope : Scope) (r : Registers) (s : CallState) (m : Memory) (K : StatementFlow → CallState → CodeObservation) (brk con : ℕ) → IsApart scope body → Stands c (head ∷ heads) p step_items → Fit c f scope r s m → s.world.meter.turns < k
         → Onward c scope f s m K heads rest brk con → EndsSo c (finish (again_run k scope s) K) p r s.world m
     unfolding opens
     again_meets k below p f scope r s m K brk con apart at fit low way =
         step_leads (at_level c levels k) found step (hs k) (levels.statements k scope loop) test_items (head ∷ heads) f scope r s m K
         (λ q1 g t r1 m1 at1 aft fit1. next_round k refl q1 g t r1 m1 at1 aft fit1) p at fit (omega (arith, low))
       where
-        next_round : (j : ℕ) → j ≡ k → (q1 : Place) (g : Names) (t : State) (r1 : Registers) (m1 : Memory) → Stands c (head ∷ heads) q1 test_items → Aft c f s m g t m1 → Fit c g scope r1 t m1 → EndsSo c (finish (levels.statements j scope loop t) K) q1 r1 t.world m1
+        next_round : (j : ℕ) → j ≡ k → (q1 : CodePlace) (g : Names) (t : CallState) (r1 : Registers) (m1 : Memory) → Stands c (head ∷ heads) q1 test_items → Aft c f s m g t m1 → Fit c g scope r1 t m1 → EndsSo c (finish (levels.statements j scope loop t) K) q1 r1 t.world m1
         next_round zero e q1 g t r1 m1 at1 aft fit1 = absurd (omega (arith, e, low))
         next_round (suc i) e q1 g t r1 m1 at1 aft fit1 =
             meets_same c.rooms c.functions (ap (λ z. finish (z t) K) (are i scope loop))
             (below i e q1 g scope r1 t m1 K brk con apart at1 fit1 (omega (arith, e, low, aft.turned)) (onward_on aft way))
 
     -- a round, from its mark on
-    round_meets : Places → (k : ℕ) → ((i : ℕ) → suc i ≡ k → Rounds i) → (f : Names) (scope : Scope) (r : Registers) (s : State) (m : Memory) (K : Flow → State → Observation) (brk con : ℕ) → IsApart scope body → Fit c f scope r s m → s.world.meter.turns ≤ k
+    round_meets : Places → (k : ℕ) → ((i : ℕ) → suc i ≡ k → Rounds i) → (f : Names) (scope : Scope) (r : Registers) (s : CallState) (m : Memory) (K : StatementFlow → CallState → CodeObservation) (brk con : ℕ) → IsApart scope body → Fit c f scope r s m → s.world.meter.turns ≤ k
         → Onward c scope f s m K heads rest brk con → EndsSo c (finish (round_run k scope s) K) (start_of_block head) r s.world m
     unfolding opens
     round_meets here k below f scope r s m K brk con apart fit low way =
-        let go_on : Run Flow = exec c.structs c.locals (levels.functions k) (levels.statements k) scope body >>= after_body (again_run k scope) in
+        let go_on : Run StatementFlow = exec c.structs c.locals (levels.functions k) (levels.statements k) scope body >>= after_body (again_run k scope) in
         bound c found (turn s) (λ _. go_on) K (start_of_block head) r s.world m
         (turn_meets c.rooms c.functions s (λ _ t1. finish (go_on t1) K) _
         (λ mt some.
-        let t1 : State = in_world s (with_meter s.world mt) in
+        let t1 : CallState = in_world s (with_meter s.world mt) in
         let less = turn_less s.world.meter mt some in
         let aft1 : Aft c f s m f t1 m = record { names = λ o a e. e; lives = λ o. refl; sizes = λ o l. refl; locals = λ a size h. h; turned = omega (arith, less) } in
         turning c.rooms c.functions c.number c.code found c.own c.waiting n.Mark (start_of_block head) r s.world t1.world m m mt [] here.mark refl some refl refl
@@ -149,7 +149,7 @@ module _ (c : Setting) (levels : Levels) (found : slice_get c.functions c.number
   abbrev loop_items : List CodeItem → List CodeItem
   loop_items rest = Loop (items.count (test_items rest [] 0)) ∷ body_items rest [] 0
 
-  pub enters : (k : ℕ) (rest : List CodeItem) (heads : List ℕ) (p : Place) (f : Names) (scope : Scope) (r : Registers) (s : State) (m : Memory) (K : Flow → State → Observation) (brk con : ℕ) → IsApart scope body → Stands c heads p (loop_items rest) → Fit c f scope r s m → s.world.meter.turns ≤ k
+  pub enters : (k : ℕ) (rest : List CodeItem) (heads : List ℕ) (p : CodePlace) (f : Names) (scope : Scope) (r : Registers) (s : CallState) (m : Memory) (K : StatementFlow → CallState → CodeObservation) (brk con : ℕ) → IsApart scope body → Stands c heads p (loop_items rest) → Fit c f scope r s m → s.world.meter.turns ≤ k
       → Onward c scope f s m K heads rest brk con → EndsSo c (finish (loop_run k scope s) K) p r s.world m
   enters k rest heads p f scope r s m K brk con apart at fit low way =
       let head : ℕ = suc p.block in

@@ -4,20 +4,20 @@ use Rattle.std.specs.Prelude.{slice_get}
 use Rattle.mem_model.specs.Memory.{Memory}
 use Rattle.mem_model.specs.Related.{Names}
 use Rattle.c_typed_tree.specs.Expressions.{Expr, type_of}
-use Rattle.c_semantics.specs.Runs.{State, Run, and_then, pure}
+use Rattle.c_semantics.specs.Runs.{CallState, Run, and_then, pure}
 use Rattle.c_semantics.specs.Objects.{Scope}
 use Rattle.c_semantics.specs.Operators.{test}
 use Rattle.c_semantics.specs.Evaluates.{eval, choose}
-use Rattle.c_semantics.specs.Executes.{Flow, Goes, condition, step}
-use Rattle.suifvm_ir.specs.declared.insn.BranchOp.TheVariants.{IfTrue}
+use Rattle.c_semantics.specs.Executes.{StatementFlow, Goes, condition, step}
+use Rattle.suifvm_ir.specs.declared.insn.VmBranchOp.TheVariants.{IfTrue}
 use Rattle.vm_meaning.specs.Operations as vm
 use Rattle.vm_meaning.specs.Behave.{Registers}
 use Rattle.lowering_code.specs.declared.item.CodeItem.{CodeItem}
 use Rattle.lowering_code.specs.declared.item.CodeItem.TheVariants.{Start, Again}
 use Rattle.lowering_code.specs.Registers.{register_type, value_register}
 use Rattle.lowering_code.specs.Statements.{after_code, test_code}
-use Rattle.lowering_states.specs.Places.{Place, next_block, start_of_block}
-use Rattle.lowering_states.specs.Runs.{opens, Observation, finish}
+use Rattle.lowering_states.specs.Places.{CodePlace, next_block, start_of_block}
+use Rattle.lowering_states.specs.Runs.{opens, CodeObservation, finish}
 use Rattle.lowering_states.proofs.Steps.{fall, jump, branch_taken, branch_passed}
 use Rattle.lowering_states.proofs.States.{after_same}
 use Rattle.lowering_expression_places.proofs.Behind.{at_start, left_expr}
@@ -51,9 +51,9 @@ module _ (c : Setting) (found : slice_get c.functions c.number ≡ Some c.code) 
   L = count c
 
   -- the step of a loop, and what comes behind it
-  pub step_leads : (x : Option Expr) → StepMeets c x → (go : Run Flow) (items : List CodeItem) (heads : List ℕ) (f : Names) (scope : Scope) (r : Registers) (s : State) (m : Memory) (K : Flow → State → Observation)
-      → ((q : Place) (g : Names) (t : State) (r1 : Registers) (m1 : Memory) → Stands c heads q items → Aft c f s m g t m1 → Fit c g scope r1 t m1 → EndsSo c (finish (go t) K) q r1 t.world m1)
-      → (q : Place) → Stands c heads q (after_code L c.structs c.locals x items) → Fit c f scope r s m → s.world.meter.turns ≤ c.level
+  pub step_leads : (x : Option Expr) → StepMeets c x → (go : Run StatementFlow) (items : List CodeItem) (heads : List ℕ) (f : Names) (scope : Scope) (r : Registers) (s : CallState) (m : Memory) (K : StatementFlow → CallState → CodeObservation)
+      → ((q : CodePlace) (g : Names) (t : CallState) (r1 : Registers) (m1 : Memory) → Stands c heads q items → Aft c f s m g t m1 → Fit c g scope r1 t m1 → EndsSo c (finish (go t) K) q r1 t.world m1)
+      → (q : CodePlace) → Stands c heads q (after_code L c.structs c.locals x items) → Fit c f scope r s m → s.world.meter.turns ≤ c.level
       → EndsSo c (finish (and_then (step c.structs c.locals c.calls scope x s) (λ _. go)) K) q r s.world m
   unfolding opens
   step_leads None hx go items heads f scope r s m K next q at fit low = next q f s r m at after_same fit
@@ -66,10 +66,10 @@ module _ (c : Setting) (found : slice_get c.functions c.number ≡ Some c.code) 
       (next (next_block q1) g t r1 m1 (at_start c.code.blocks c.last c.end at1) aft fit1))))
 
   -- the condition of a loop: where it holds, or there is none, the next round begins
-  module _ (go : Run Flow) (rest : List CodeItem) (heads : List ℕ) (head : ℕ) (f : Names) (scope : Scope) (r : Registers) (s : State) (m : Memory) (K : Flow → State → Observation)
-      (on_true : (g : Names) (t : State) (r1 : Registers) (m1 : Memory) → Aft c f s m g t m1 → Fit c g scope r1 t m1 → EndsSo c (finish (go t) K) (start_of_block head) r1 t.world m1)
-      (on_false : (q : Place) (g : Names) (t : State) (r1 : Registers) (m1 : Memory) → Stands c heads q rest → Aft c f s m g t m1 → Fit c g scope r1 t m1 → EndsSo c (K Goes t) q r1 t.world m1) where
-    by_test : (x : Expr) → IsScalarType (type_of x) → (q : Place) (g : Names) (t : State) (r1 : Registers) (m1 : Memory) (z : Bool) → Stands c (head ∷ heads) q (Again (register_type (type_of x)) (value_register L 0 (type_of x)) ∷ rest) → Aft c f s m g t m1 → Fit c g scope r1 t m1
+  module _ (go : Run StatementFlow) (rest : List CodeItem) (heads : List ℕ) (head : ℕ) (f : Names) (scope : Scope) (r : Registers) (s : CallState) (m : Memory) (K : StatementFlow → CallState → CodeObservation)
+      (on_true : (g : Names) (t : CallState) (r1 : Registers) (m1 : Memory) → Aft c f s m g t m1 → Fit c g scope r1 t m1 → EndsSo c (finish (go t) K) (start_of_block head) r1 t.world m1)
+      (on_false : (q : CodePlace) (g : Names) (t : CallState) (r1 : Registers) (m1 : Memory) → Stands c heads q rest → Aft c f s m g t m1 → Fit c g scope r1 t m1 → EndsSo c (K Goes t) q r1 t.world m1) where
+    by_test : (x : Expr) → IsScalarType (type_of x) → (q : CodePlace) (g : Names) (t : CallState) (r1 : Registers) (m1 : Memory) (z : Bool) → Stands c (head ∷ heads) q (Again (register_type (type_of x)) (value_register L 0 (type_of x)) ∷ rest) → Aft c f s m g t m1 → Fit c g scope r1 t m1
         → vm.value_holds m1 (register_type (type_of x)) (r1 (value_register L 0 (type_of x))) ≡ Some z → EndsSo c (finish (choose go (pure Goes) z t) K) q r1 t.world m1
     unfolding opens
     by_test x scalar q g t r1 m1 false at aft fit holds =
@@ -79,7 +79,7 @@ module _ (c : Setting) (found : slice_get c.functions c.number ≡ Some c.code) 
         branch_taken c.rooms c.functions c.number c.code found c.own c.waiting IfTrue (register_type (type_of x)) (value_register L 0 (type_of x)) head true q r1 t.world m1 at.has.0 holds refl
         (on_true g t r1 m1 aft fit)
 
-    pub condition_leads : (x : Option Expr) → ConditionMeets c x → (q : Place) → Stands c (head ∷ heads) q (test_code L c.structs c.locals x rest) → Fit c f scope r s m → s.world.meter.turns ≤ c.level
+    pub condition_leads : (x : Option Expr) → ConditionMeets c x → (q : CodePlace) → Stands c (head ∷ heads) q (test_code L c.structs c.locals x rest) → Fit c f scope r s m → s.world.meter.turns ≤ c.level
         → EndsSo c (finish (and_then (condition c.structs c.locals c.calls scope x s) (choose go (pure Goes))) K) q r s.world m
     unfolding opens
     condition_leads None hx q at fit low = jump c.rooms c.functions c.number c.code found c.own c.waiting head q r s.world m at.has.0 (on_true f s r m after_same fit)

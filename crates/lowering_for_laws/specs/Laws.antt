@@ -8,7 +8,7 @@ use Rattle.c_typed_tree.specs.Statements.{Stmt, For, Nothing, Value}
 use Rattle.lowering_expression_laws.specs.Parts.{Setting, ExprMeets}
 use Rattle.lowering_expression_laws.specs.Laws.{IsScalarType}
 use Rattle.lowering_statement_laws.specs.Parts.{StmtMeets}
-use Rattle.lowering_loop_laws.specs.Laws.{Levels, at_level, AreLevels}
+use Rattle.lowering_loop_laws.specs.Laws.{LevelMeanings, at_level, AreLevels}
 
 -- the code of an expression does what it does, where there is one
 abbrev pub StepMeets : Setting → Option Expr → Type 0
@@ -20,7 +20,7 @@ abbrev pub ConditionMeets : Setting → Option Expr → Type 0
 ConditionMeets c None = Unit {0}
 ConditionMeets c (Some x) = IsScalarType (type_of x) × ExprMeets c x
 
-module _ (c : Setting) (levels : Levels) where
+module _ (c : Setting) (levels : LevelMeanings) where
   pub record ForLoops (condition step : Option Expr) (body : Stmt) : Type 0 where
     pub without_first : (k : ℕ)
         → StmtMeets (at_level c levels k) (levels.statements k) (For Nothing condition step body)
@@ -29,7 +29,7 @@ module _ (c : Setting) (levels : Levels) where
 
 abbrev pub ForLoopsMeet : Type 0
 ForLoopsMeet =
-    (c : Setting) (levels : Levels) → slice_get c.functions c.number ≡ Some c.code → AreLevels c levels →
+    (c : Setting) (levels : LevelMeanings) → slice_get c.functions c.number ≡ Some c.code → AreLevels c levels →
     (condition step : Option Expr) (body : Stmt) → ((k : ℕ) → ConditionMeets (at_level c levels k) condition) →
     ((k : ℕ) → StepMeets (at_level c levels k) step) →
     ((k : ℕ) → StmtMeets (at_level c levels k) (levels.statements k) body) → ForLoops c levels condition step body

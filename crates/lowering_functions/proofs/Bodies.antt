@@ -13,9 +13,9 @@ use Rattle.c_typed_tree.specs.Statements.{LocalDeclaration, First, Stmt, Else, n
 use Rattle.c_typed_tree.specs.Statements as q
 use Rattle.c_typed_tree.specs.Counts.{expr_nodes, optional_nodes, declared_nodes}
 use Rattle.suifvm_ir.specs.declared.types.VmType.TheVariants.{S32}
-use Rattle.suifvm_ir.specs.declared.insn.BranchOp.TheVariants.{IfTrue, IfFalse}
+use Rattle.suifvm_ir.specs.declared.insn.VmBranchOp.TheVariants.{IfTrue, IfFalse}
 use Rattle.suifvm_ir.specs.declared.insn.CompareOp.TheVariants.{Equal}
-use Rattle.suifvm_ir.specs.declared.insn.Place.TheVariants as p
+use Rattle.suifvm_ir.specs.declared.insn.VmObject.TheVariants as p
 use Rattle.suifvm_ir.specs.declared.insn.VmInsn.TheVariants as n
 use Rattle.lowering_code.specs.declared.item.CodeItem.{CodeItem}
 use Rattle.lowering_code.specs.declared.item.CodeItem.TheVariants.{Start, Jump, Loop, Enter, Again}

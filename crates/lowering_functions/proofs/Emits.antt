@@ -11,10 +11,10 @@ use Rattle.c_semantics.specs.Objects.{integer_of}
 use Rattle.c_semantics.specs.Operators.{operation_type, step_operator, one_type}
 use Rattle.suifvm_ir.specs.declared.types.VmType.{VmType}
 use Rattle.suifvm_ir.specs.declared.types.VmType.TheVariants.{S32, U32, S64, U64, P64}
-use Rattle.suifvm_ir.specs.declared.insn.BranchOp.{BranchOp}
-use Rattle.suifvm_ir.specs.declared.insn.UnaryOp as vu
-use Rattle.suifvm_ir.specs.declared.insn.BinaryOp.TheVariants as vb
-use Rattle.suifvm_ir.specs.declared.insn.Place.{Place}
+use Rattle.suifvm_ir.specs.declared.insn.VmBranchOp.{VmBranchOp}
+use Rattle.suifvm_ir.specs.declared.insn.VmUnaryOp as vu
+use Rattle.suifvm_ir.specs.declared.insn.VmBinaryOp.TheVariants as vb
+use Rattle.suifvm_ir.specs.declared.insn.VmObject.{VmObject}
 use Rattle.suifvm_ir.specs.declared.insn.TypedRegister.{TypedRegister}
 use Rattle.suifvm_ir.specs.declared.insn.VmInsn as vm
 use Rattle.suifvm_ir.specs.declared.insn.VmInsn.TheVariants as n
@@ -54,7 +54,7 @@ module _ (most : ℕ) where
   pub jump : (name : ℕ) (rest : List CodeItem) → name ≤ count rest → Emits 1 rest (Jump name ∷ rest)
   jump name rest h = record { good = λ loops g. (h, g); grows = omega arith; size = omega arith }
 
-  pub branch : (op : BranchOp) (ty : VmType) (source name : ℕ) (rest : List CodeItem) → source < most → name ≤ count rest → Emits 1 rest (Branch op ty source name ∷ rest)
+  pub branch : (op : VmBranchOp) (ty : VmType) (source name : ℕ) (rest : List CodeItem) → source < most → name ≤ count rest → Emits 1 rest (Branch op ty source name ∷ rest)
   branch op ty source name rest s h = record { good = λ loops g. (s, h, g); grows = omega arith; size = omega arith }
 
   pub give : (value : Option TypedRegister) (rest : List CodeItem) → registers_top (returned_register value) ≤ most → Emits 1 rest (Return value ∷ rest)
@@ -157,10 +157,10 @@ module _ (most : ℕ) where
     pub scaled_emits : (d free : ℕ) (ty : PlainType) (size : ℕ) (rest : List CodeItem) → Has locals d 1 → Has locals free 1 → Emits 3 rest (code.scaled_code locals d free ty size rest)
     scaled_emits d free ty size rest h k = joins 1 2 rest _ _ (convert_emits d ty (Int 8 true) _ h) (sized_emits d free size rest h k)
 
-    pub address_emits : (d : ℕ) (place : Place) (plus : ℕ) (rest : List CodeItem) → Has locals d 1 → Emits 1 rest (code.address_code locals d place plus rest)
+    pub address_emits : (d : ℕ) (place : VmObject) (plus : ℕ) (rest : List CodeItem) → Has locals d 1 → Emits 1 rest (code.address_code locals d place plus rest)
     address_emits d place plus rest h = plain _ rest (refl, refl) (omega (arith, address_there d h))
 
-    pub unary_emits : (op : vu.UnaryOp) (d : ℕ) (ty : PlainType) (rest : List CodeItem) → Has locals d 1 → Emits 1 rest (code.unary_code locals op d ty rest)
+    pub unary_emits : (op : vu.VmUnaryOp) (d : ℕ) (ty : PlainType) (rest : List CodeItem) → Has locals d 1 → Emits 1 rest (code.unary_code locals op d ty rest)
     unary_emits op d ty rest h = plain _ rest (refl, refl) (omega (arith, value_there d ty h))
 
     pub not_emits : (d : ℕ) (ty operand : PlainType) (rest : List CodeItem) → Has locals d 2 → Emits 2 rest (code.not_code locals d ty operand rest)
@@ -168,7 +168,7 @@ module _ (most : ℕ) where
         joins 1 1 rest _ _ (constant_emits (suc d) operand 0 _ (omega (arith, h)))
         (plain _ rest (refl, refl) (omega (arith, value_there d ty (omega (arith, h)), value_there d operand (omega (arith, h)), value_there (suc d) operand (omega (arith, h)))))
 
-    pub branch_emits : (op : BranchOp) (d : ℕ) (ty : PlainType) (name : ℕ) (rest : List CodeItem) → Has locals d 1 → name ≤ count rest → Emits 1 rest (code.branch_code locals op d ty name rest)
+    pub branch_emits : (op : VmBranchOp) (d : ℕ) (ty : PlainType) (name : ℕ) (rest : List CodeItem) → Has locals d 1 → name ≤ count rest → Emits 1 rest (code.branch_code locals op d ty name rest)
     branch_emits op d ty name rest h k = branch op _ _ name rest (value_there d ty h) k
 
     -- ---- operators

@@ -13,9 +13,9 @@ use Rattle.c_typed_tree.specs.Expressions.{Expr, Number, Global, Call, Unary, Bi
 use Rattle.c_typed_tree.specs.Expressions as e
 use Rattle.c_typed_tree.specs.Counts.{expr_nodes, exprs_nodes}
 use Rattle.c_semantics.specs.Operators.{operator_of}
-use Rattle.suifvm_ir.specs.declared.insn.BranchOp.TheVariants.{IfTrue, IfFalse}
-use Rattle.suifvm_ir.specs.declared.insn.UnaryOp.TheVariants.{Negate, Complement}
-use Rattle.suifvm_ir.specs.declared.insn.Place.TheVariants as p
+use Rattle.suifvm_ir.specs.declared.insn.VmBranchOp.TheVariants.{IfTrue, IfFalse}
+use Rattle.suifvm_ir.specs.declared.insn.VmUnaryOp.TheVariants.{Negate, Complement}
+use Rattle.suifvm_ir.specs.declared.insn.VmObject.TheVariants as p
 use Rattle.suifvm_ir.specs.declared.insn.VmInsn.TheVariants as n
 use Rattle.suifvm_ir.specs.Insns.{named_register}
 use Rattle.lowering_code.specs.declared.item.CodeItem.{CodeItem}

@@ -10,7 +10,7 @@ use Rattle.lowering_code.specs.Functions.{object_for, objects_of, items_of}
 use Rattle.lowering_code.specs.Functions as f
 use Rattle.lowering_code.specs.Statements as c
 use Rattle.lowering_statements.specs.Scopes.{stmt_code}
-use Rattle.lowering_expressions.specs.declared.scope.Scope.{Scope}
+use Rattle.lowering_expressions.specs.declared.scope.LoweringScope.{LoweringScope}
 use Rattle.lowering_functions.specs.Scopes.{parameters_code, number_code}
 
 objects_end : (ds : List StructDef) (ls : List Local) (l : Local) → objects_of ds (ls ++ l ∷ []) ≡ objects_of ds ls ++ objects_of ds (l ∷ [])
@@ -26,7 +26,7 @@ pub objects_more : (ds : List StructDef) (ls : List Local) (i : ℕ) (l : Local)
 objects_more ds ls i l lt is = ap (objects_of ds) (take_more ls i l lt ∙ ap (λ y. take i ls ++ y ∷ []) (sym is)) ∙ objects_end ds (take i ls) l
 
 -- the parameters from one on
-pub parameters_at : (s : Scope) (k j params : ℕ) (ls : List Local) (rest : List CodeItem) → k < params → params ≤ length ls
+pub parameters_at : (s : LoweringScope) (k j params : ℕ) (ls : List Local) (rest : List CodeItem) → k < params → params ≤ length ls
     → parameters_code s (j + k) (drop k (take params ls)) rest ≡ number_code s (j + k) (slice_get ls k) (parameters_code s (suc (j + k)) (drop (suc k) (take params ls)) rest)
 parameters_at s k j zero ls rest lt le = absurd (omega (arith, lt))
 parameters_at s k j (suc params) [] rest lt le = absurd (omega (arith, le))
@@ -36,7 +36,7 @@ parameters_at s (suc k) j (suc params) (l ∷ ls) rest lt le =
     ap (λ n. parameters_code s n (drop k (take params ls)) rest) (sym e) ∙ parameters_at s k (suc j) params ls rest (omega (arith, lt)) (omega (arith, le))
     ∙ ap (λ n. number_code s n (slice_get ls k) (parameters_code s (suc n) (drop (suc k) (take params ls)) rest)) e
 
-pub parameter_more : (s : Scope) (k next params : ℕ) (ls : List Local) (rest : List CodeItem) → next ≡ k + 1 → k < params → params ≤ length ls
+pub parameter_more : (s : LoweringScope) (k next params : ℕ) (ls : List Local) (rest : List CodeItem) → next ≡ k + 1 → k < params → params ≤ length ls
     → number_code s k (slice_get ls k) (parameters_code s next (drop next (take params ls)) rest) ≡ parameters_code s k (drop k (take params ls)) rest
 parameter_more s k next params ls rest is lt le =
     let e : next ≡ suc k = omega (arith, is) in
@@ -45,7 +45,7 @@ parameter_more s k next params ls rest is lt le =
     ∙ subst (λ n. number_code s n (slice_get ls k) (parameters_code s (suc n) (drop (suc k) (take params ls)) rest) ≡ parameters_code s n (drop k (take params ls)) rest) z (sym (parameters_at s k 0 params ls rest lt le))
 
 -- the code of a function, by its scope
-pub items_same : (s : Scope) (ds : List StructDef) (ls : List Local) (g : TypedFn) (is : List CodeItem) → s.structs.now ≡ ds → s.locals.now ≡ ls → ls ≡ g.locals → s.registers.locals ≡ length ls
+pub items_same : (s : LoweringScope) (ds : List StructDef) (ls : List Local) (g : TypedFn) (is : List CodeItem) → s.structs.now ≡ ds → s.locals.now ≡ ls → ls ≡ g.locals → s.registers.locals ≡ length ls
     → is ≡ parameters_code s 0 (take g.params s.locals.now) (stmt_code s 0 0 (stmt_view g.body) []) → is ≡ items_of ds g
 items_same s ds ls g is structs locals same registers code =
     let n : s.registers.locals ≡ length g.locals = registers ∙ ap (λ x. length x) same in

@@ -14,8 +14,8 @@ ghost use Rattle.lowering_functions.specs.Scopes.{parameters_code, number_code, 
 
 use crate::memory::objects;
 use c_typed_tree::{StructDef, TypedFn};
-use lowering_emitter::code::Code;
-use lowering_expressions::{Scope, local_place};
+use lowering_emitter::code::EmittedCode;
+use lowering_expressions::{LoweringScope, local_place};
 use lowering_layout::function;
 use lowering_statements::stmt;
 use std::alloc::{AllocError, Global};
@@ -23,7 +23,11 @@ use suifvm_ir::function::Func;
 use suifvm_ir::insn::VmInsn;
 
 /// An argument comes in the first registers; that of a parameter in memory is stored.
-fn parameter(code: &mut Code, scope: &Scope<'_>, number: u32) -> Result<(), AllocError>
+fn parameter(
+    code: &mut EmittedCode,
+    scope: &LoweringScope<'_>,
+    number: u32,
+) -> Result<(), AllocError>
     requires { HasLevels scope.now 0 5 }
     ensures { OnOk result (code.new ≡
         number_code scope.now number (slice_get scope.now.locals.now number) code.old) }
@@ -42,7 +46,11 @@ fn parameter(code: &mut Code, scope: &Scope<'_>, number: u32) -> Result<(), Allo
 
 /// The parameters, of which the last one comes last.
 #[tactic(auto, using(crate::proofs::Objects::parameter_more))]
-fn parameters(code: &mut Code, scope: &Scope<'_>, params: u32) -> Result<(), AllocError>
+fn parameters(
+    code: &mut EmittedCode,
+    scope: &LoweringScope<'_>,
+    params: u32,
+) -> Result<(), AllocError>
     requires levels { HasLevels scope.now 0 5 }
     requires few { params ≤ length scope.now.locals.now }
     ensures { OnOk result (code.new ≡
@@ -57,26 +65,26 @@ fn parameters(code: &mut Code, scope: &Scope<'_>, params: u32) -> Result<(), All
 }
 
 /// The code of the parameters and the body of a function.
-fn body(alloc: Global, scope: &Scope<'_>, f: &TypedFn) -> Result<Code, AllocError>
+fn body(alloc: Global, scope: &LoweringScope<'_>, f: &TypedFn) -> Result<EmittedCode, AllocError>
     requires few { f.now.params ≤ length scope.now.locals.now }
     requires levels { HasLevels scope.now 0 (max 5 (stmt_levels (stmt_view f.now.body))) }
     ensures { IfOk result (λ code. code ≡
         parameters_code scope.now 0 (take f.now.params scope.now.locals.now)
         (stmt_code scope.now 0 0 (stmt_view f.now.body) [])) }
 {
-    let mut code = Code::new(alloc);
+    let mut code = EmittedCode::new(alloc);
     stmt(alloc, &mut code, scope, 0, 0, &f.body)?;
     parameters(&mut code, scope, f.params)?;
     Ok(code)
 }
 
 /// The items of a function.
-fn items(alloc: Global, structs: &[StructDef], f: &TypedFn) -> Result<Code, AllocError>
+fn items(alloc: Global, structs: &[StructDef], f: &TypedFn) -> Result<EmittedCode, AllocError>
     requires few { f.now.params ≤ length f.now.locals }
     requires registers { length f.now.locals + 5 * max 5 (stmt_levels (stmt_view f.now.body)) < 2 ^ 32 - 1 }
     ensures { IfOk result (λ code. code ≡ items_of structs.now f.now) }
 {
-    let scope = Scope::new(alloc, structs, f.locals.as_slice())?;
+    let scope = LoweringScope::new(alloc, structs, f.locals.as_slice())?;
     let code = body(alloc, &scope, f)?;
     Ok(code)
 }

@@ -8,19 +8,23 @@ use c_tree::Seq;
 use c_typed_tree::layout::{align_of, size_of};
 use c_typed_tree::{Local, StructDef};
 use std::alloc::{AllocError, Global};
-use suifvm_ir::function::Object;
+use suifvm_ir::function::MemoryLocal;
 
-fn object(structs: &[StructDef], local: &Local) -> Object
+fn object(structs: &[StructDef], local: &Local) -> MemoryLocal
     requires { HasSize structs.now local.now }
     ensures { result ≡ object_for structs.now local.now }
 {
-    Object {
+    MemoryLocal {
         size: size_of(structs, &local.ty),
         align: align_of(structs, &local.ty) as u32,
     }
 }
 
-fn add(objects: &mut Seq<Object>, structs: &[StructDef], local: &Local) -> Result<(), AllocError>
+fn add(
+    objects: &mut Seq<MemoryLocal>,
+    structs: &[StructDef],
+    local: &Local,
+) -> Result<(), AllocError>
     requires { HasSize structs.now local.now }
     ensures { OnOk result (objects.new ≡ objects.old ++ objects_of structs.now (local.now ∷ [])) }
 {
@@ -36,7 +40,7 @@ pub fn objects(
     alloc: Global,
     structs: &[StructDef],
     locals: &[Local],
-) -> Result<Seq<Object>, AllocError>
+) -> Result<Seq<MemoryLocal>, AllocError>
     requires { All (HasSize structs.now) locals.now }
     ensures { IfOk result (λ o. o ≡ objects_of structs.now locals.now) }
 {

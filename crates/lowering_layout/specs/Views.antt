@@ -3,14 +3,14 @@ use Rattle.std.specs.Prelude.{◌≡◌, ℕ, ◌<◌, max, IsTrue, List, [], �
 use Rattle.suifvm_ir.specs.declared.insn.VmInsn.{VmInsn}
 use Rattle.suifvm_ir.specs.Programs.{goes_back_to_marks}
 use Rattle.lowering_code.specs.Layout as code
-use Rattle.lowering_layout.specs.declared.layout.Layout.{Layout}
+use Rattle.lowering_layout.specs.declared.layout.BlockLayout.{BlockLayout}
 use Rattle.lowering_layout.specs.Tops.{insns_top, blocks_top}
 
-abbrev pub view : Layout → code.Layout
+abbrev pub view : BlockLayout → code.Layout
 view l = record { last = l.last; blocks = l.blocks; insns = l.insns; heads = l.heads }
 
 -- the greatest register so far is counted
-abbrev pub IsCounted : Layout → Type 0
+abbrev pub IsCounted : BlockLayout → Type 0
 IsCounted l = l.temps ≡ max (blocks_top l.blocks) (insns_top l.insns)
 
 -- each jump back leads to a block that begins with a mark

@@ -8,12 +8,12 @@ ghost use Rattle.lowering_layout.specs.Good.{IsGood};
 ghost use Rattle.lowering_layout.specs.Tops.{blocks_top};
 ghost use Rattle.lowering_layout.specs.Views.{view, IsCounted, GoesBackToMarks, with_end};
 
-use crate::layout::Layout;
+use crate::layout::BlockLayout;
 use c_tree::{Name, Seq};
-use lowering_emitter::code::Code;
+use lowering_emitter::code::EmittedCode;
 use std::alloc::{AllocError, Global};
 use suifvm_ir::block::Block;
-use suifvm_ir::function::{Func, Object};
+use suifvm_ir::function::{Func, MemoryLocal};
 use suifvm_ir::insn::{TypedRegister, VmInsn};
 use suifvm_ir::types::VmType;
 
@@ -25,7 +25,7 @@ pub struct FunctionBlocks {
 }
 
 /// The end of a call that comes to the end of its function: it gives nothing, but of `main` 0.
-fn end(alloc: Global, layout: &mut Layout, locals: u32, main: bool) -> Result<(), AllocError>
+fn end(alloc: Global, layout: &mut BlockLayout, locals: u32, main: bool) -> Result<(), AllocError>
     requires { IsCounted layout.old }
     ensures is { OnOk result (view layout.new ≡ with_end (end_of locals main) (view layout.old)) }
     ensures counted { OnOk result (IsCounted layout.new) }
@@ -46,12 +46,12 @@ fn end(alloc: Global, layout: &mut Layout, locals: u32, main: bool) -> Result<()
 }
 
 /// All items are laid out.
-fn items(alloc: Global, code: Code) -> Result<Layout, AllocError>
+fn items(alloc: Global, code: EmittedCode) -> Result<BlockLayout, AllocError>
     requires { length code < 2 ^ 30 }
     ensures is { IfOk result (λ l. view l ≡ with_items code (no_block (count code))) }
     ensures counted { IfOk result (λ l. IsCounted l) }
 {
-    let mut layout = Layout::new(alloc, code.name() as u32);
+    let mut layout = BlockLayout::new(alloc, code.name() as u32);
     let mut items = code.into_items();
     while let Some(item) = items.pop() {
         layout.item(alloc, item)?;
@@ -61,14 +61,19 @@ fn items(alloc: Global, code: Code) -> Result<Layout, AllocError>
 
 /// The blocks of code.
 #[tactic(auto, using(crate::proofs::Kept::blocks_done, crate::proofs::Kept::top_done))]
-fn laid(alloc: Global, locals: u32, main: bool, code: Code) -> Result<FunctionBlocks, AllocError>
+fn laid(
+    alloc: Global,
+    locals: u32,
+    main: bool,
+    code: EmittedCode,
+) -> Result<FunctionBlocks, AllocError>
     requires { length code < 2 ^ 30 }
     ensures blocks { IfOk result (λ l. l.blocks ≡ blocks_of (end_of locals main) code) }
     ensures temps { IfOk result (λ l. l.temps ≡ blocks_top l.blocks) }
 {
     let mut layout = items(alloc, code)?;
     end(alloc, &mut layout, locals, main)?;
-    let Layout { blocks, temps, .. } = layout;
+    let BlockLayout { blocks, temps, .. } = layout;
     Ok(FunctionBlocks { blocks, temps })
 }
 
@@ -78,10 +83,10 @@ pub fn function(
     alloc: Global,
     name: Name,
     params: u32,
-    objects: Seq<Object>,
+    objects: Seq<MemoryLocal>,
     locals: u32,
     main: bool,
-    code: Code,
+    code: EmittedCode,
 ) -> Result<Func<VmInsn>, AllocError>
     requires size { 2 * length code + 3 < 2 ^ 30 }
     requires locals { locals + 1 < 2 ^ 32 }

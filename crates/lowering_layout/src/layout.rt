@@ -7,7 +7,7 @@ use suifvm_ir::insn::VmInsn;
 
 /// How far the layout has come.
 #[derive(Drop)]
-pub struct Layout {
+pub struct BlockLayout {
     /// The number of the last block.
     pub last: u32,
     /// The blocks that are whole.

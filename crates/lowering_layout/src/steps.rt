@@ -5,22 +5,22 @@ ghost use Rattle.lowering_code.specs.Layout.{with_insn, end_block, end_with, ope
 ghost use Rattle.lowering_layout.specs.Views.{view, IsCounted};
 
 use crate::heads::Heads;
-use crate::layout::Layout;
+use crate::layout::BlockLayout;
 use crate::tops::insn_top;
 use c_tree::Seq;
 use lowering_code::CodeItem;
 use std::alloc::{AllocError, Global};
 use std::mem;
 use suifvm_ir::block::Block;
-use suifvm_ir::insn::{BranchOp, VmInsn};
+use suifvm_ir::insn::{VmBranchOp, VmInsn};
 
-impl Layout {
+impl BlockLayout {
     /// Nothing is laid out. Takes no memory.
-    pub fn new(alloc: Global, last: u32) -> Layout
+    pub fn new(alloc: Global, last: u32) -> BlockLayout
         ensures is { view result ≡ no_block last }
         ensures counted { IsCounted result }
     {
-        Layout {
+        BlockLayout {
             last,
             blocks: Seq::new(alloc),
             insns: Block::new(alloc),
@@ -126,7 +126,7 @@ impl Layout {
                 self.end(
                     alloc,
                     VmInsn::Branch {
-                        op: BranchOp::IfTrue,
+                        op: VmBranchOp::IfTrue,
                         ty,
                         source,
                         block,

@@ -6,12 +6,12 @@ use Rattle.mem_model.specs.World.{with_meter}
 use Rattle.mem_model.specs.Related.{Names}
 use Rattle.c_typed_tree.specs.Expressions.{Expr, type_of}
 use Rattle.c_typed_tree.specs.Statements.{Stmt, Do}
-use Rattle.c_semantics.specs.Runs.{State, Run, and_then, in_world, turn, pure, ◌>>=◌}
+use Rattle.c_semantics.specs.Runs.{CallState, Run, and_then, in_world, turn, pure, ◌>>=◌}
 use Rattle.c_semantics.specs.Objects.{Scope}
 use Rattle.c_semantics.specs.Operators.{test}
 use Rattle.c_semantics.specs.Evaluates.{eval, choose}
-use Rattle.c_semantics.specs.Executes.{Flow, Goes, after_body, exec}
-use Rattle.suifvm_ir.specs.declared.insn.BranchOp.TheVariants.{IfTrue}
+use Rattle.c_semantics.specs.Executes.{StatementFlow, Goes, after_body, exec}
+use Rattle.suifvm_ir.specs.declared.insn.VmBranchOp.TheVariants.{IfTrue}
 use Rattle.suifvm_ir.specs.declared.insn.VmInsn.TheVariants as n
 use Rattle.vm_meaning.specs.Operations as vm
 use Rattle.vm_meaning.specs.Behave.{Registers}
@@ -20,8 +20,8 @@ use Rattle.lowering_code.specs.declared.item.CodeItem.TheVariants.{Start, Again}
 use Rattle.lowering_code.specs.Items as items
 use Rattle.lowering_code.specs.Registers.{register_type, value_register}
 use Rattle.lowering_code.specs.Statements.{again_code, stmt_code}
-use Rattle.lowering_states.specs.Places.{Place, next_place, next_block, start_of_block, stands_at}
-use Rattle.lowering_states.specs.Runs.{opens, Observation, finish}
+use Rattle.lowering_states.specs.Places.{CodePlace, next_place, next_block, start_of_block, stands_at}
+use Rattle.lowering_states.specs.Runs.{opens, CodeObservation, finish}
 use Rattle.lowering_states.proofs.Steps.{meets_same, fall, branch_taken, branch_passed, no_turn, turning, turn_meets, turn_less}
 use Rattle.lowering_states.proofs.States.{after_on}
 use Rattle.lowering_expression_places.specs.Behind.{Somewhere}
@@ -33,18 +33,18 @@ use Rattle.lowering_expression_laws.proofs.Choices.{holds_there, test_meets, at_
 use Rattle.lowering_statement_laws.specs.Parts.{IsApart, Onward, StmtMeets}
 use Rattle.lowering_statement_laws.proofs.Apart.{inner_least}
 use Rattle.lowering_statement_laws.proofs.Behind.{at_enter, at_again, left_stmt}
-use Rattle.lowering_loop_laws.specs.Laws.{Levels, at_level, AreLevels, DoLoopsMeet}
+use Rattle.lowering_loop_laws.specs.Laws.{LevelMeanings, at_level, AreLevels, DoLoopsMeet}
 
-module _ (c : Setting) (levels : Levels) (found : slice_get c.functions c.number ≡ Some c.code) (are : AreLevels c levels) (x : Expr) (body : Stmt) (scalar : IsScalarType (type_of x))
+module _ (c : Setting) (levels : LevelMeanings) (found : slice_get c.functions c.number ≡ Some c.code) (are : AreLevels c levels) (x : Expr) (body : Stmt) (scalar : IsScalarType (type_of x))
     (hx : (k : ℕ) → ExprMeets (at_level c levels k) x) (hb : (k : ℕ) → StmtMeets (at_level c levels k) (levels.statements k) body) where
   abbrev L : ℕ
   L = count c
 
-  abbrev loop_run : ℕ → Scope → Run Flow
+  abbrev loop_run : ℕ → Scope → Run StatementFlow
   loop_run k scope = exec c.structs c.locals (levels.functions k) (levels.statements k) scope (Do body x)
 
   -- what the loop does behind its body
-  abbrev ask : ℕ → Scope → Run Flow
+  abbrev ask : ℕ → Scope → Run StatementFlow
   ask k scope = eval c.structs c.locals (levels.functions k) scope x >>= test >>= choose (levels.statements k scope (Do body x)) (pure Goes)
 
   module _ (rest : List CodeItem) (heads : List ℕ) (head : ℕ) where
@@ -65,16 +65,16 @@ module _ (c : Setting) (levels : Levels) (found : slice_get c.functions c.number
     -- what a loop does at a level, from its mark on
     abbrev Rounds : ℕ → Type 0
     Rounds k =
-        (f : Names) (scope : Scope) (r : Registers) (s : State) (m : Memory) (K : Flow → State → Observation) (brk con : ℕ) → IsApart scope body → Fit c f scope r s m → s.world.meter.turns ≤ k
+        (f : Names) (scope : Scope) (r : Registers) (s : CallState) (m : Memory) (K : StatementFlow → CallState → CodeObservation) (brk con : ℕ) → IsApart scope body → Fit c f scope r s m → s.world.meter.turns ≤ k
         → Onward c scope f s m K heads rest brk con → EndsSo c (finish (loop_run k scope s) K) (start_of_block head) r s.world m
 
     -- the test, where a turn was taken
-    ask_meets : Places → (k : ℕ) → ((i : ℕ) → suc i ≡ k → Rounds i) → (q : Place) (f : Names) (scope : Scope) (r : Registers) (s : State) (m : Memory) (K : Flow → State → Observation) (brk con : ℕ) → IsApart scope body → Stands c (head ∷ heads) q test_items → Fit c f scope r s m
+    ask_meets : Places → (k : ℕ) → ((i : ℕ) → suc i ≡ k → Rounds i) → (q : CodePlace) (f : Names) (scope : Scope) (r : Registers) (s : CallState) (m : Memory) (K : StatementFlow → CallState → CodeObservation) (brk con : ℕ) → IsApart scope body → Stands c (head ∷ heads) q test_items → Fit c f scope r s m
         → s.world.meter.turns < k → Onward c scope f s m K heads rest brk con → EndsSo c (finish (ask k scope s) K) q r s.world m
     unfolding opens
     ask_meets here k below q f scope r s m K brk con apart at fit low way =
         let reg = value_register L 0 (type_of x) in
-        let run : Bool → Run Flow = choose (levels.statements k scope (Do body x)) (pure Goes) in
+        let run : Bool → Run StatementFlow = choose (levels.statements k scope (Do body x)) (pure Goes) in
         bound c found (and_then (eval c.structs c.locals (levels.functions k) scope x s) test) run K q r s.world m
         (bound c found (eval c.structs c.locals (levels.functions k) scope x s) test (λ z t. finish (run z t) K) q r s.world m
         ((hx k).by 0 (Again (register_type (type_of x)) reg ∷ rest) (head ∷ heads) q f scope r s m (λ v t. finish (test v t) (λ z t1. finish (run z t1) K)) at fit (omega (arith, low))
@@ -82,7 +82,7 @@ module _ (c : Setting) (levels : Levels) (found : slice_get c.functions c.number
         test_meets c found v t (λ z t1. finish (run z t1) K) _ (λ z is.
         by_test q1 g t r1 m1 z at1 aft fit1 (holds_there g t.world.outer.memory m1 (type_of x) v (r1 reg) z scalar fit1.memory held stands is)))))
       where
-        by_test : (q1 : Place) (g : Names) (t : State) (r1 : Registers) (m1 : Memory) (z : Bool) → Stands c (head ∷ heads) q1 (Again (register_type (type_of x)) (value_register L 0 (type_of x)) ∷ rest) → Aft c f s m g t m1 → Fit c g scope r1 t m1
+        by_test : (q1 : CodePlace) (g : Names) (t : CallState) (r1 : Registers) (m1 : Memory) (z : Bool) → Stands c (head ∷ heads) q1 (Again (register_type (type_of x)) (value_register L 0 (type_of x)) ∷ rest) → Aft c f s m g t m1 → Fit c g scope r1 t m1
             → vm.value_holds m1 (register_type (type_of x)) (r1 (value_register L 0 (type_of x))) ≡ Some z
             → EndsSo c (finish (choose (levels.statements k scope (Do body x)) (pure Goes) z t) K) q1 r1 t.world m1
         by_test q1 g t r1 m1 false at1 aft fit1 holds =
@@ -106,11 +106,11 @@ module _ (c : Setting) (levels : Levels) (found : slice_get c.functions c.number
     round_on : Places → (k : ℕ) → ((i : ℕ) → suc i ≡ k → Rounds i) → Rounds k
     unfolding opens
     round_on here k below f scope r s m K brk con apart fit low way =
-        let go_on : Run Flow = exec c.structs c.locals (levels.functions k) (levels.statements k) scope body >>= after_body (ask k scope) in
+        let go_on : Run StatementFlow = exec c.structs c.locals (levels.functions k) (levels.statements k) scope body >>= after_body (ask k scope) in
         bound c found (turn s) (λ _. go_on) K (start_of_block head) r s.world m
         (turn_meets c.rooms c.functions s (λ _ t1. finish (go_on t1) K) _
         (λ mt some.
-        let t1 : State = in_world s (with_meter s.world mt) in
+        let t1 : CallState = in_world s (with_meter s.world mt) in
         let less = turn_less s.world.meter mt some in
         let aft1 : Aft c f s m f t1 m = record { names = λ o a e. e; lives = λ o. refl; sizes = λ o l. refl; locals = λ a size h. h; turned = omega (arith, less) } in
         turning c.rooms c.functions c.number c.code found c.own c.waiting n.Mark (start_of_block head) r s.world t1.world m m mt [] here.mark refl some refl refl
@@ -129,7 +129,7 @@ module _ (c : Setting) (levels : Levels) (found : slice_get c.functions c.number
         }))))
         (λ none. no_turn c.rooms c.functions c.number c.code found c.own c.waiting n.Mark (start_of_block head) r s.world m here.mark refl none refl))
       where
-        later : {h : Names} {u : State} {m2 : Memory} → Aft c f s m h u m2 → Onward c scope h u m2 K heads rest brk con
+        later : {h : Names} {u : CallState} {m2 : Memory} → Aft c f s m h u m2 → Onward c scope h u m2 K heads rest brk con
         later aft = record {
           goes = λ q3 g3 t3 r3 m3 at3 aft3 fit3. way.goes q3 g3 t3 r3 m3 at3 (after_on aft aft3) fit3;
           breaks = λ g3 t3 r3 m3 aft3 fit3. way.breaks g3 t3 r3 m3 (after_on aft aft3) fit3;

@@ -7,12 +7,12 @@ use Rattle.mem_model.specs.World.{with_meter}
 use Rattle.mem_model.specs.Related.{Names}
 use Rattle.c_typed_tree.specs.Expressions.{Expr, type_of}
 use Rattle.c_typed_tree.specs.Statements.{Stmt, While}
-use Rattle.c_semantics.specs.Runs.{State, Run, and_then, in_world, turn, pure, ◌>>◌, ◌>>=◌}
+use Rattle.c_semantics.specs.Runs.{CallState, Run, and_then, in_world, turn, pure, ◌>>◌, ◌>>=◌}
 use Rattle.c_semantics.specs.Objects.{Scope}
 use Rattle.c_semantics.specs.Operators.{test}
 use Rattle.c_semantics.specs.Evaluates.{eval, choose}
-use Rattle.c_semantics.specs.Executes.{Flow, Goes, after_body, exec}
-use Rattle.suifvm_ir.specs.declared.insn.BranchOp.TheVariants.{IfTrue}
+use Rattle.c_semantics.specs.Executes.{StatementFlow, Goes, after_body, exec}
+use Rattle.suifvm_ir.specs.declared.insn.VmBranchOp.TheVariants.{IfTrue}
 use Rattle.suifvm_ir.specs.declared.insn.VmInsn.TheVariants as n
 use Rattle.vm_meaning.specs.Operations as vm
 use Rattle.vm_meaning.specs.Behave.{Registers}
@@ -21,8 +21,8 @@ use Rattle.lowering_code.specs.declared.item.CodeItem.TheVariants.{Start, Again}
 use Rattle.lowering_code.specs.Items as items
 use Rattle.lowering_code.specs.Registers.{register_type, value_register}
 use Rattle.lowering_code.specs.Statements.{again_code, stmt_code}
-use Rattle.lowering_states.specs.Places.{Place, next_place, next_block, start_of_block, stands_at}
-use Rattle.lowering_states.specs.Runs.{opens, Observation, finish}
+use Rattle.lowering_states.specs.Places.{CodePlace, next_place, next_block, start_of_block, stands_at}
+use Rattle.lowering_states.specs.Runs.{opens, CodeObservation, finish}
 use Rattle.lowering_states.proofs.Steps.{meets_same, fall, jump, branch_taken, branch_passed, no_turn, turning, turn_meets, turn_less}
 use Rattle.lowering_states.proofs.States.{after_on}
 use Rattle.lowering_expression_places.specs.Behind.{Somewhere}
@@ -34,14 +34,14 @@ use Rattle.lowering_expression_laws.proofs.Choices.{holds_there, test_meets, at_
 use Rattle.lowering_statement_laws.specs.Parts.{IsApart, Onward, StmtMeets}
 use Rattle.lowering_statement_laws.proofs.Apart.{inner_least}
 use Rattle.lowering_statement_laws.proofs.Behind.{at_loop, at_again, left_stmt}
-use Rattle.lowering_loop_laws.specs.Laws.{Levels, at_level, AreLevels, LoopsMeet}
+use Rattle.lowering_loop_laws.specs.Laws.{LevelMeanings, at_level, AreLevels, LoopsMeet}
 
-module _ (c : Setting) (levels : Levels) (found : slice_get c.functions c.number ≡ Some c.code) (are : AreLevels c levels) (x : Expr) (body : Stmt) (scalar : IsScalarType (type_of x))
+module _ (c : Setting) (levels : LevelMeanings) (found : slice_get c.functions c.number ≡ Some c.code) (are : AreLevels c levels) (x : Expr) (body : Stmt) (scalar : IsScalarType (type_of x))
     (hx : (k : ℕ) → ExprMeets (at_level c levels k) x) (hb : (k : ℕ) → StmtMeets (at_level c levels k) (levels.statements k) body) where
   abbrev L : ℕ
   L = count c
 
-  abbrev loop_run : ℕ → Scope → Run Flow
+  abbrev loop_run : ℕ → Scope → Run StatementFlow
   loop_run k scope = exec c.structs c.locals (levels.functions k) (levels.statements k) scope (While x body)
 
   -- the code behind a loop, and its test
@@ -64,14 +64,14 @@ module _ (c : Setting) (levels : Levels) (found : slice_get c.functions c.number
     -- what a loop does at a level, from its test on
     abbrev Rounds : ℕ → Type 0
     Rounds k =
-        (q : Place) (f : Names) (scope : Scope) (r : Registers) (s : State) (m : Memory) (K : Flow → State → Observation) (brk con : ℕ) → IsApart scope body → Stands c (head ∷ heads) q test_items → Fit c f scope r s m → s.world.meter.turns ≤ k
+        (q : CodePlace) (f : Names) (scope : Scope) (r : Registers) (s : CallState) (m : Memory) (K : StatementFlow → CallState → CodeObservation) (brk con : ℕ) → IsApart scope body → Stands c (head ∷ heads) q test_items → Fit c f scope r s m → s.world.meter.turns ≤ k
         → Onward c scope f s m K heads rest brk con → EndsSo c (finish (loop_run k scope s) K) q r s.world m
 
     round_on : Places → (k : ℕ) → ((i : ℕ) → suc i ≡ k → Rounds i) → Rounds k
     unfolding opens
     round_on here k below q f scope r s m K brk con apart at fit low way =
         let reg = value_register L 0 (type_of x) in
-        let go_round : Run Flow = turn >> (exec c.structs c.locals (levels.functions k) (levels.statements k) scope body >>= after_body (levels.statements k scope (While x body))) in
+        let go_round : Run StatementFlow = turn >> (exec c.structs c.locals (levels.functions k) (levels.statements k) scope body >>= after_body (levels.statements k scope (While x body))) in
         bound c found (and_then (eval c.structs c.locals (levels.functions k) scope x s) test) (choose go_round (pure Goes)) K q r s.world m
         (bound c found (eval c.structs c.locals (levels.functions k) scope x s) test (λ z t. finish (choose go_round (pure Goes) z t) K) q r s.world m
         ((hx k).by 0 (Again (register_type (type_of x)) reg ∷ rest) (head ∷ heads) q f scope r s m (λ v t. finish (test v t) (λ z t1. finish (choose go_round (pure Goes) z t1) K)) at fit low
@@ -79,19 +79,19 @@ module _ (c : Setting) (levels : Levels) (found : slice_get c.functions c.number
         test_meets c found v t (λ z t1. finish (choose go_round (pure Goes) z t1) K) _ (λ z is.
         by_test q1 v g t r1 m1 z at1 aft fit1 (holds_there g t.world.outer.memory m1 (type_of x) v (r1 reg) z scalar fit1.memory held stands is)))))
       where
-        by_test : (q1 : Place) (v : Value) (g : Names) (t : State) (r1 : Registers) (m1 : Memory) (z : Bool) → Stands c (head ∷ heads) q1 (Again (register_type (type_of x)) (value_register L 0 (type_of x)) ∷ rest) → Aft c f s m g t m1 → Fit c g scope r1 t m1
+        by_test : (q1 : CodePlace) (v : Value) (g : Names) (t : CallState) (r1 : Registers) (m1 : Memory) (z : Bool) → Stands c (head ∷ heads) q1 (Again (register_type (type_of x)) (value_register L 0 (type_of x)) ∷ rest) → Aft c f s m g t m1 → Fit c g scope r1 t m1
             → vm.value_holds m1 (register_type (type_of x)) (r1 (value_register L 0 (type_of x))) ≡ Some z
             → EndsSo c (finish (choose (turn >> (exec c.structs c.locals (levels.functions k) (levels.statements k) scope body >>= after_body (levels.statements k scope (While x body)))) (pure Goes) z t) K) q1 r1 t.world m1
         by_test q1 v g t r1 m1 false at1 aft fit1 holds =
             branch_passed c.rooms c.functions c.number c.code found c.own c.waiting IfTrue (register_type (type_of x)) (value_register L 0 (type_of x)) head false q1 r1 t.world m1 at1.has.0 holds refl at1.has.1
             (way.goes (next_block q1) g t r1 m1 (at_again c.code.blocks c.last c.end _ _ at1) aft fit1)
         by_test q1 v g t r1 m1 true at1 aft fit1 holds =
-            let go_on : Run Flow = exec c.structs c.locals (levels.functions k) (levels.statements k) scope body >>= after_body (levels.statements k scope (While x body)) in
+            let go_on : Run StatementFlow = exec c.structs c.locals (levels.functions k) (levels.statements k) scope body >>= after_body (levels.statements k scope (While x body)) in
             branch_taken c.rooms c.functions c.number c.code found c.own c.waiting IfTrue (register_type (type_of x)) (value_register L 0 (type_of x)) head true q1 r1 t.world m1 at1.has.0 holds refl
             (bound c found (turn t) (λ _. go_on) K (start_of_block head) r1 t.world m1
             (turn_meets c.rooms c.functions t (λ _ t1. finish (go_on t1) K) _
             (λ mt some.
-            let t1 : State = in_world t (with_meter t.world mt) in
+            let t1 : CallState = in_world t (with_meter t.world mt) in
             let less = turn_less t.world.meter mt some in
             let aft1 : Aft c f s m g t1 m1 = record { names = aft.names; lives = aft.lives; sizes = aft.sizes; locals = aft.locals; turned = omega (arith, aft.turned, less) } in
             turning c.rooms c.functions c.number c.code found c.own c.waiting n.Mark (start_of_block head) r1 t.world t1.world m1 m1 mt [] here.mark refl some refl refl
@@ -111,7 +111,7 @@ module _ (c : Setting) (levels : Levels) (found : slice_get c.functions c.number
             (λ none. no_turn c.rooms c.functions c.number c.code found c.own c.waiting n.Mark (start_of_block head) r1 t.world m1 here.mark refl none refl)))
           where
             -- the next round, one level down
-            next_round : (j : ℕ) → j ≡ k → (q2 : Place) (h : Names) (u : State) (r2 : Registers) (m2 : Memory) → Stands c (head ∷ heads) q2 test_items → Aft c f s m h u m2 → Fit c h scope r2 u m2 → u.world.meter.turns < k
+            next_round : (j : ℕ) → j ≡ k → (q2 : CodePlace) (h : Names) (u : CallState) (r2 : Registers) (m2 : Memory) → Stands c (head ∷ heads) q2 test_items → Aft c f s m h u m2 → Fit c h scope r2 u m2 → u.world.meter.turns < k
                 → EndsSo c (finish (levels.statements j scope (While x body) u) K) q2 r2 u.world m2
             next_round zero e q2 h u r2 m2 at2 aft2 fit2 lt = absurd (omega (arith, e, lt))
             next_round (suc i) e q2 h u r2 m2 at2 aft2 fit2 lt =

@@ -21,7 +21,7 @@ use Rattle.vm_meaning.specs.Behave.{Registers}
 use Rattle.lowering_code.specs.Registers.{object_of}
 use Rattle.lowering_states.specs.States.{Fits, is_live, size_in}
 use Rattle.lowering_states.proofs.States.{ne_eqb}
-use Rattle.lowering_object_laws.specs.Laws.{MayBegin, Begins, ObjectsEnd, ScopesAreParts, ObjectsBeginAndEnd}
+use Rattle.lowering_object_laws.specs.Laws.{MayBegin, LocalBegins, ObjectsEnd, ScopesAreParts, ObjectsBeginAndEnd}
 
 -- ---- two locals in memory have two objects
 
@@ -129,7 +129,7 @@ module _ (G : ℕ) (ds : List StructDef) (ls : List Local) (own : ℕ) (f : Name
         scope_other scope k (length m) j other ∙ had
   ]
 
-  fits_begun : Begins G ds ls own f scope r l m n input k x
+  fits_begun : LocalBegins G ds ls own f scope r l m n input k x
   fits_begun = record {
     fits = record {
       locals = λ j lt. values_stay f f1 (l j) (r j) more (fit.locals j lt);

@@ -22,7 +22,7 @@ pub record MayBegin (ds : List StructDef) (ls : List Local) (scope : Scope) (k :
   pub small : size_of ds (type_view x.ty) ≤ MOST_DATA
 
 -- the object of a local began, and stands as the object of the call that is its own
-pub record Begins (globals : ℕ) (ds : List StructDef) (ls : List Local) (own : ℕ) (f : Names) (scope : Scope)
+pub record LocalBegins (globals : ℕ) (ds : List StructDef) (ls : List Local) (own : ℕ) (f : Names) (scope : Scope)
     (r : Registers) (l : c.Registers) (m n : Memory) (input : List ℕ) (k : ℕ) (x : Local) : Type 0 where
   pub fits : Fits globals ds ls own (with_name f (length m) (own + object_of ls k)) (with_object scope k (length m)) r l
       (begin_object m (size_of ds (type_view x.ty)) true) n input
@@ -31,7 +31,7 @@ abbrev pub ObjectsBegin : Type 0
 ObjectsBegin =
     (globals : ℕ) (ds : List StructDef) (ls : List Local) (own : ℕ) (f : Names) (scope : Scope) (r : Registers)
     (l : c.Registers) (m n : Memory) (input : List ℕ) (k : ℕ) (x : Local) → MayBegin ds ls scope k x →
-    Fits globals ds ls own f scope r l m n input → Begins globals ds ls own f scope r l m n input k x
+    Fits globals ds ls own f scope r l m n input → LocalBegins globals ds ls own f scope r l m n input k x
 
 -- the object of a local ends
 abbrev pub ObjectsEnd : Type 0

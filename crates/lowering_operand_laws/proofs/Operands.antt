@@ -19,7 +19,7 @@ use Rattle.c_tree.specs.declared.expressions.UnaryOp.TheVariants as u
 use Rattle.c_typed_tree.specs.Types.{PlainType, Void, Pointer}
 use Rattle.c_typed_tree.specs.Expressions.{Expr, Unary, Cast, Convert, Comma, Exprs, no_exprs, more_exprs, type_of}
 use Rattle.c_semantics.specs.Reasons.{UsesNoValue}
-use Rattle.c_semantics.specs.Runs.{State, Run, and_then}
+use Rattle.c_semantics.specs.Runs.{CallState, Run, and_then}
 use Rattle.c_semantics.specs.Objects.{Scope}
 use Rattle.c_semantics.specs.Operators.{test, pure_truth, convert}
 use Rattle.c_semantics.specs.Evaluates.{eval, place, choose, last_of, converted_from}
@@ -32,8 +32,8 @@ use Rattle.vm_meaning.specs.Behave.{Registers, set_register}
 use Rattle.lowering_code.specs.declared.item.CodeItem.{CodeItem}
 use Rattle.lowering_code.specs.Registers.{register_type, value_register}
 use Rattle.lowering_code.specs.Expressions.{plain_of, not_code, plus_of, conversion_code, expr_code, place_code, commas_code}
-use Rattle.lowering_states.specs.Places.{Place, next_place}
-use Rattle.lowering_states.specs.Runs.{opens, Observation, finish}
+use Rattle.lowering_states.specs.Places.{CodePlace, next_place}
+use Rattle.lowering_states.specs.Runs.{opens, CodeObservation, finish}
 use Rattle.lowering_states.specs.States.{IsHeld, IsIn}
 use Rattle.lowering_states.proofs.Steps.{finish-bind, meets_same, used_meets}
 use Rattle.lowering_states.proofs.States.{set_same, set_other, other_depth, kept_on, kept_temporary, value_at, after_on, fits_temporary}
@@ -125,7 +125,7 @@ module _ (c : Setting) (found : slice_get c.functions c.number ≡ Some c.code) 
 
   -- ---- commas
 
-  commas_on : (x : Expr) (xs : Exprs) → ExprMeets c x → AllMeet c xs → (d : ℕ) (rest : List CodeItem) (heads : List ℕ) (p : Place) (f : Names) (scope : Scope) (r : Registers) (s : State) (m : Memory) (K : Value → State → Observation)
+  commas_on : (x : Expr) (xs : Exprs) → ExprMeets c x → AllMeet c xs → (d : ℕ) (rest : List CodeItem) (heads : List ℕ) (p : CodePlace) (f : Names) (scope : Scope) (r : Registers) (s : CallState) (m : Memory) (K : Value → CallState → CodeObservation)
       → Stands c heads p (expr_code L c.structs c.locals d x (commas_code L c.structs c.locals d xs rest)) → Fit c f scope r s m → s.world.meter.turns ≤ c.level → Follows c d (last_type x xs) heads rest f scope r s m K
       → EndsSo c (finish (last_of c.structs c.locals c.calls scope (eval c.structs c.locals c.calls scope x) xs s) K) p r s.world m
   unfolding opens
@@ -172,7 +172,7 @@ module _ (c : Setting) (found : slice_get c.functions c.number ≡ Some c.code) 
         (kept_temporary d (register_type T) w (omega arith) (kept_temporary (suc d) ty (Word 0) (omega arith) kept)) (held_word i.Int (truth (not z)) (truth_word (not z))) (value_at g w w r1 to refl))))))));
   }
     where
-      chosen : (z : Bool) (t : State) (K : Value → State → Observation) → finish (choose (pure_truth false) (pure_truth true) z t) K ≡ K (Word (truth (not z))) t
+      chosen : (z : Bool) (t : CallState) (K : Value → CallState → CodeObservation) → finish (choose (pure_truth false) (pure_truth true) z t) K ≡ K (Word (truth (not z))) t
       chosen true t K = refl
       chosen false t K = refl
 
@@ -187,7 +187,7 @@ module _ (c : Setting) (found : slice_get c.functions c.number ≡ Some c.code) 
         (λ q v g t q1 m1 at1 aft fit1 kept held stands. next q Unset g t q1 m1 at1 aft fit1 kept tt tt));
   }
     where
-      value_is : IsScalarType (type_of x) → (scope : Scope) (s : State) (K : Value → State → Observation) → finish (eval c.structs c.locals c.calls scope (Cast Void x) s) K ≡ finish (eval c.structs c.locals c.calls scope x s) (λ v t. K Unset t)
+      value_is : IsScalarType (type_of x) → (scope : Scope) (s : CallState) (K : Value → CallState → CodeObservation) → finish (eval c.structs c.locals c.calls scope (Cast Void x) s) K ≡ finish (eval c.structs c.locals c.calls scope x s) (λ v t. K Unset t)
       value_is (inl t) scope s K = ap (λ z. finish (converted_from z Void (eval c.structs c.locals c.calls scope x) (place c.structs c.locals c.calls scope x) s) K) t.1 ∙ finish-bind (eval c.structs c.locals c.calls scope x s) (convert (plain_of t.0) Void) K
       value_is (inr t) scope s K = ap (λ z. finish (converted_from z Void (eval c.structs c.locals c.calls scope x) (place c.structs c.locals c.calls scope x) s) K) t.1 ∙ finish-bind (eval c.structs c.locals c.calls scope x s) (convert (Pointer t.0) Void) K
 
@@ -196,7 +196,7 @@ module _ (c : Setting) (found : slice_get c.functions c.number ≡ Some c.code) 
       code_is (inr t) d rest = ap (λ z. conversion_code L c.structs c.locals d z Void (plus_of L c.structs c.locals x 0) (λ is. place_code L c.structs c.locals d x 0 is) (λ is. expr_code L c.structs c.locals d x is) rest) t.1
 
   pointer_conversion : (from to : PlainType) (x y : Expr) → type_of x ≡ Pointer from → type_of y ≡ Pointer to → ExprMeets c x
-      → ((scope : Scope) (s : State) → eval c.structs c.locals c.calls scope y s ≡ converted_from (type_of x) (Pointer to) (eval c.structs c.locals c.calls scope x) (place c.structs c.locals c.calls scope x) s)
+      → ((scope : Scope) (s : CallState) → eval c.structs c.locals c.calls scope y s ≡ converted_from (type_of x) (Pointer to) (eval c.structs c.locals c.calls scope x) (place c.structs c.locals c.calls scope x) s)
       → ((d : ℕ) (rest : List CodeItem) → expr_code L c.structs c.locals d y rest
       ≡ conversion_code L c.structs c.locals d (type_of x) (Pointer to) (plus_of L c.structs c.locals x 0) (λ is. place_code L c.structs c.locals d x 0 is) (λ is. expr_code L c.structs c.locals d x is) rest)
       → ExprMeets c y

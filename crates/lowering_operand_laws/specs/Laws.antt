@@ -17,7 +17,7 @@ abbrev pub AllMeet : Setting → Exprs → Type 0
 AllMeet c no_exprs = Unit {0}
 AllMeet c (more_exprs x xs) = ExprMeets c x × AllMeet c xs
 
-pub record Operands (c : Setting) : Type 0 where
+pub record OperandForms (c : Setting) : Type 0 where
   pub commas : (ty : PlainType) (x : Expr) (xs : Exprs) → last_type x xs ≡ ty → ExprMeets c x → AllMeet c xs
       → ExprMeets c (Comma ty (more_exprs x xs))
   pub nots : (x : Expr) → IsScalarType (type_of x) → ExprMeets c x → ExprMeets c (Unary (plain_of i.Int) u.Not x)
@@ -28,4 +28,4 @@ pub record Operands (c : Setting) : Type 0 where
       → ExprMeets c (Cast (Pointer to) x)
 
 abbrev pub OperandsMeet : Type 0
-OperandsMeet = (c : Setting) → slice_get c.functions c.number ≡ Some c.code → Operands c
+OperandsMeet = (c : Setting) → slice_get c.functions c.number ≡ Some c.code → OperandForms c

@@ -23,13 +23,13 @@ use Rattle.c_tree.specs.declared.expressions.UnaryOp.TheVariants as u
 use Rattle.c_typed_tree.specs.Types.{PlainType, Void, Int, Pointer, Array, Struct}
 use Rattle.c_typed_tree.specs.Expressions.{Expr, Global, Unary, Field, Arrow, type_of}
 use Rattle.c_semantics.specs.Reasons.{UsesNoValue}
-use Rattle.c_semantics.specs.Runs.{State, and_then, use_value, number, pure}
+use Rattle.c_semantics.specs.Runs.{CallState, and_then, use_value, number, pure}
 use Rattle.c_semantics.specs.Objects as objects
 use Rattle.c_semantics.specs.Objects.{Scope, start_of, access, as_integer, read_at, pointer_to, move, move_reason, offset_of, local_place}
 use Rattle.c_semantics.specs.Evaluates.{eval, place, member_at, target_of}
 use Rattle.suifvm_ir.specs.declared.types.VmType.TheVariants.{S64, P64}
-use Rattle.suifvm_ir.specs.declared.insn.BinaryOp.TheVariants.{Add}
-use Rattle.suifvm_ir.specs.declared.insn.Place.TheVariants as p
+use Rattle.suifvm_ir.specs.declared.insn.VmBinaryOp.TheVariants.{Add}
+use Rattle.suifvm_ir.specs.declared.insn.VmObject.TheVariants as p
 use Rattle.suifvm_ir.specs.declared.insn.VmInsn.TheVariants as n
 use Rattle.vm_meaning.specs.declared.answer.Answer.TheVariants.{Gives, Fails}
 use Rattle.vm_meaning.specs.Operations as vm
@@ -38,8 +38,8 @@ use Rattle.vm_meaning.specs.Behave.{Registers, set_register}
 use Rattle.lowering_code.specs.declared.item.CodeItem.{CodeItem}
 use Rattle.lowering_code.specs.Registers.{register_type, memory_type, value_register, address_register, bytes_register}
 use Rattle.lowering_code.specs.Expressions.{plain_of, moved_code, load_code, load_from, member_plus, expr_code, place_code}
-use Rattle.lowering_states.specs.Places.{Place, next_place}
-use Rattle.lowering_states.specs.Runs.{opens, Observation, finish}
+use Rattle.lowering_states.specs.Places.{CodePlace, next_place}
+use Rattle.lowering_states.specs.Runs.{opens, CodeObservation, finish}
 use Rattle.lowering_states.specs.States.{IsHeld, KeepsLower}
 use Rattle.lowering_states.proofs.Steps.{meets_anything, meets_same, used_meets, number_meets, access_meets}
 use Rattle.lowering_states.proofs.States.{set_same, set_other, other_type, kept_all, kept_temporary, value_at, after_same, fits_temporary}
@@ -115,9 +115,9 @@ module _ (c : Setting) (found : slice_get c.functions c.number ≡ Some c.code) 
   L = count c
 
   -- the pointer is moved by the bytes that are left
-  pub moved_on : {o : Observation} (d left : ℕ) (rest : List CodeItem) (heads : List ℕ) (scope : Scope) (r : Registers) (q : Place) (base at : Value) (g : Names) (t : State) (q1 : Registers) (m1 : Memory) → Stands c heads q (moved_code L d left rest)
+  pub moved_on : {o : CodeObservation} (d left : ℕ) (rest : List CodeItem) (heads : List ℕ) (scope : Scope) (r : Registers) (q : CodePlace) (base at : Value) (g : Names) (t : CallState) (q1 : Registers) (m1 : Memory) → Stands c heads q (moved_code L d left rest)
       → Fit c g scope q1 t m1 → KeepsLower L d r q1 → IsValueOf g base (q1 (address_register L d)) → left ≤ MOST_DATA → IsMoved t.world.outer.memory base left at
-      → ((q2 : Place) (q3 : Registers) → Stands c heads q2 rest → Fit c g scope q3 t m1 → KeepsLower L d r q3 → IsValueOf g at (q3 (address_register L d)) → EndsSo c o q2 q3 t.world m1) → EndsSo c o q q1 t.world m1
+      → ((q2 : CodePlace) (q3 : Registers) → Stands c heads q2 rest → Fit c g scope q3 t m1 → KeepsLower L d r q3 → IsValueOf g at (q3 (address_register L d)) → EndsSo c o q2 q3 t.world m1) → EndsSo c o q q1 t.world m1
   moved_on d zero rest heads scope r q base at g t q1 m1 stands fit kept rel le (inl h) next = next q q1 stands fit kept (subst (λ z. IsValueOf g z (q1 (address_register L d))) (sym h.1) rel)
   moved_on d zero rest heads scope r q base at g t q1 m1 stands fit kept rel le (inr e) next =
       next q q1 stands fit kept (subst (λ z. IsValueOf g z (q1 (address_register L d))) (sym (same_moved t.world.outer.memory base at e)) rel)
@@ -142,7 +142,7 @@ module _ (c : Setting) (found : slice_get c.functions c.number ≡ Some c.code) 
       (kept_temporary d P64 x.0 (omega arith) (kept_temporary d S64 (Word (suc k)) (omega arith) kept)) (value_at g at x.0 r1 addr x.2)))
 
   -- an integer is loaded to a register from where a pointer in another register leads
-  pub loads_lead : (t0 : IntegerType) (to pointer left : ℕ) (rest : List CodeItem) (heads : List ℕ) (g : Names) (scope : Scope) (t : State) (m1 : Memory) (K : Value → State → Observation) (q : Place) (q1 : Registers) (base at : Value) → Fit c g scope q1 t m1
+  pub loads_lead : (t0 : IntegerType) (to pointer left : ℕ) (rest : List CodeItem) (heads : List ℕ) (g : Names) (scope : Scope) (t : CallState) (m1 : Memory) (K : Value → CallState → CodeObservation) (q : CodePlace) (q1 : Registers) (base at : Value) → Fit c g scope q1 t m1
       → IsValueOf g base (q1 pointer) → IsMoved t.world.outer.memory base left at → Stands c heads q (load_from (plain_of t0) to pointer left rest)
       → ((k : ℕ) → is_word t0 k ≡ true → Stands c heads (next_place q) rest → EndsSo c (K (Word k) t) (next_place q) (set_register to (Word k) q1) t.world m1) → EndsSo c (finish (read_at (plain_of t0) at t) K) q q1 t.world m1
   unfolding opens
@@ -167,7 +167,7 @@ module _ (c : Setting) (found : slice_get c.functions c.number ≡ Some c.code) 
       (next (extension t0 k) (is_word-extension t0 k) (at_plain c.code.blocks c.last c.end _ stands)))))))
 
   -- the same of a pointer
-  pub pointers_lead : (target : PlainType) (to pointer left : ℕ) (rest : List CodeItem) (heads : List ℕ) (g : Names) (scope : Scope) (t : State) (m1 : Memory) (K : Value → State → Observation) (q : Place) (q1 : Registers) (base at : Value) → Fit c g scope q1 t m1
+  pub pointers_lead : (target : PlainType) (to pointer left : ℕ) (rest : List CodeItem) (heads : List ℕ) (g : Names) (scope : Scope) (t : CallState) (m1 : Memory) (K : Value → CallState → CodeObservation) (q : CodePlace) (q1 : Registers) (base at : Value) → Fit c g scope q1 t m1
       → IsValueOf g base (q1 pointer) → IsMoved t.world.outer.memory base left at → Stands c heads q (load_from (Pointer target) to pointer left rest)
       → ((v w : Value) → IsHeld (Pointer target) v → vm.is_set v ≡ true → IsValueOf g v w → Stands c heads (next_place q) rest → EndsSo c (K v t) (next_place q) (set_register to w q1) t.world m1) → EndsSo c (finish (read_at (Pointer target) at t) K) q q1 t.world m1
   unfolding opens
@@ -181,7 +181,7 @@ module _ (c : Setting) (found : slice_get c.functions c.number ≡ Some c.code) 
       insn_on c found (n.Load mt to pointer (pos left)) q q1 t.world m1 (got.0 ∷ []) stands.has.0 refl (ap (λ z. writes z o2) got.1)
       (next v got.0 (loaded_held t.world.outer.memory a v target ev) (loaded_set t.world.outer.memory a v ev) got.2 (at_plain c.code.blocks c.last c.end _ stands)))
 
-  module _ (d left : ℕ) (rest : List CodeItem) (heads : List ℕ) (f : Names) (scope : Scope) (r : Registers) (s : State) (m : Memory) (K : Value → State → Observation) (q : Place) (base at : Value) (g : Names) (t : State) (q1 : Registers) (m1 : Memory)
+  module _ (d left : ℕ) (rest : List CodeItem) (heads : List ℕ) (f : Names) (scope : Scope) (r : Registers) (s : CallState) (m : Memory) (K : Value → CallState → CodeObservation) (q : CodePlace) (base at : Value) (g : Names) (t : CallState) (q1 : Registers) (m1 : Memory)
       (aft : Aft c f s m g t m1) (fit : Fit c g scope q1 t m1) (kept : KeepsLower L d r q1) (held : IsHeld (Pointer Void) at) (rel : IsValueOf g base (q1 (address_register L d))) (le : left ≤ MOST_DATA) (moved : IsMoved t.world.outer.memory base left at) where
     integer_load : (t0 : IntegerType) (at0 : Value) → at ≡ at0 → Follows c d (plain_of t0) heads rest f scope r s m K → Stands c heads q (load_from (plain_of t0) (value_register L d (plain_of t0)) (address_register L d) left rest)
         → EndsSo c (finish (read_at (plain_of t0) at0 t) K) q q1 t.world m1

@@ -17,21 +17,21 @@ use Rattle.c_typed_tree.specs.Types.{PlainType, Void, Pointer}
 use Rattle.c_typed_tree.specs.Expressions.{Expr, Global, Unary, Field, Arrow, type_of}
 use Rattle.c_typed_tree.specs.Expressions as e
 use Rattle.c_semantics.specs.Reasons.{UsesNoValue, UsesDeadObject}
-use Rattle.c_semantics.specs.Runs.{State, Run, and_then, use_value, pure, or_undefined}
+use Rattle.c_semantics.specs.Runs.{CallState, Run, and_then, use_value, pure, or_undefined}
 use Rattle.c_semantics.specs.Objects as objects
 use Rattle.c_semantics.specs.Objects.{Scope, start_of, access, as_integer, read_at, pointer_to, move, move_reason, offset_of, local_place}
 use Rattle.c_semantics.specs.Evaluates.{eval, place, member_at, target_of}
 use Rattle.suifvm_ir.specs.declared.types.VmType.TheVariants.{P64}
-use Rattle.suifvm_ir.specs.declared.insn.Place as vp
-use Rattle.suifvm_ir.specs.declared.insn.Place.TheVariants as p
+use Rattle.suifvm_ir.specs.declared.insn.VmObject as vp
+use Rattle.suifvm_ir.specs.declared.insn.VmObject.TheVariants as p
 use Rattle.suifvm_ir.specs.declared.insn.VmInsn.TheVariants as n
 use Rattle.vm_meaning.specs.Operations as vm
 use Rattle.vm_meaning.specs.Behave.{Registers, set_register}
 use Rattle.lowering_code.specs.declared.item.CodeItem.{CodeItem}
 use Rattle.lowering_code.specs.Registers.{value_register, address_register, object_of}
 use Rattle.lowering_code.specs.Expressions.{address_code, member_plus, place_code}
-use Rattle.lowering_states.specs.Places.{Place, next_place}
-use Rattle.lowering_states.specs.Runs.{opens, Observation, finish}
+use Rattle.lowering_states.specs.Places.{CodePlace, next_place}
+use Rattle.lowering_states.specs.Runs.{opens, CodeObservation, finish}
 use Rattle.lowering_states.specs.States.{IsHeld, IsIn}
 use Rattle.lowering_states.proofs.Steps.{meets_same, used_meets, known_meets}
 use Rattle.lowering_states.proofs.States.{kept_all, kept_temporary, value_at, after_same, fits_temporary}
@@ -104,7 +104,7 @@ module _ (c : Setting) (found : slice_get c.functions c.number ≡ Some c.code) 
   L = count c
 
   -- the address of an object comes into the register of pointers at a depth
-  pub address_meets : {o : Observation} (d : ℕ) (to : vp.Place) (plus : ℕ) (rest : List CodeItem) (heads : List ℕ) (q : Place) (r : Registers) (w : World) (m : Memory) → Stands c heads q (address_code L d to plus rest)
+  pub address_meets : {o : CodeObservation} (d : ℕ) (to : vp.VmObject) (plus : ℕ) (rest : List CodeItem) (heads : List ℕ) (q : CodePlace) (r : Registers) (w : World) (m : Memory) → Stands c heads q (address_code L d to plus rest)
       → EndsSo c o (next_place q) (set_register (address_register L d) (vm.place_address c.own to plus) r) w m → EndsSo c o q r w m
   address_meets d to plus rest heads q r w m at next =
       insn_on c found (n.LoadAddress (address_register L d) to plus) q r w m (vm.place_address c.own to plus ∷ []) at.has.0 refl refl next
@@ -133,7 +133,7 @@ module _ (c : Setting) (found : slice_get c.functions c.number ≡ Some c.code) 
         let name = c.own + object_of c.locals k in
         meets_same c.rooms c.functions
         (ap (λ z. finish (local_place scope k z s) K) found_local
-        ∙ ap (λ z. finish (if◌then◌else◌ {A = Run objects.Place} z (λ t. and_then (or_undefined UsesDeadObject (scope k) t) (λ o. pure (objects.At (start_of o)))) (pure (objects.Register k)) s) K) in_memory)
+        ∙ ap (λ z. finish (if◌then◌else◌ {A = Run objects.ValuePlace} z (λ t. and_then (or_undefined UsesDeadObject (scope k) t) (λ o. pure (objects.At (start_of o)))) (pure (objects.Register k)) s) K) in_memory)
         (bound c found (or_undefined UsesDeadObject (scope k) s) (λ o. pure (objects.At (start_of o))) K place r s.world m
         (known_meets c.rooms c.functions UsesDeadObject (scope k) s (λ o t. K (objects.At (start_of o)) t) _ (λ o here.
         let w = byte_of name plus in
@@ -150,7 +150,7 @@ module _ (c : Setting) (found : slice_get c.functions c.number ≡ Some c.code) 
   unfolding opens
   targets ty target x ex hx = record {
     by = λ d plus rest heads place f scope r s m K le fits at fit low next.
-        let run : Value → Run objects.Place = λ v. pure (objects.At v) in
+        let run : Value → Run objects.ValuePlace = λ v. pure (objects.At v) in
         bound c found (and_then (eval c.structs c.locals c.calls scope x s) (use_value UsesNoValue)) run K place r s.world m
         (bound c found (eval c.structs c.locals c.calls scope x s) (use_value UsesNoValue) (λ v t. K (objects.At v) t) place r s.world m
         (hx.by d rest heads place f scope r s m (λ v t. finish (use_value UsesNoValue v t) (λ v t. K (objects.At v) t)) at fit low
@@ -160,7 +160,7 @@ module _ (c : Setting) (found : slice_get c.functions c.number ≡ Some c.code) 
   }
 
   -- a pointer is moved to a member
-  pub moved_meets : {k : Place} {r : Registers} {m : Memory} (at : Value) (off : ℕ) (s : State) (K : Value → State → Observation) → ((u : Value) → pointer_plus s.world.outer.memory at (pos off) ≡ Some u → EndsSo c (K u s) k r s.world m)
+  pub moved_meets : {k : CodePlace} {r : Registers} {m : Memory} (at : Value) (off : ℕ) (s : CallState) (K : Value → CallState → CodeObservation) → ((u : Value) → pointer_plus s.world.outer.memory at (pos off) ≡ Some u → EndsSo c (K u s) k r s.world m)
       → EndsSo c (finish (move at (pos off) s) K) k r s.world m
   unfolding opens
   moved_meets at off s K h =
@@ -172,7 +172,7 @@ module _ (c : Setting) (found : slice_get c.functions c.number ≡ Some c.code) 
     by = λ d plus rest heads p1 f scope r s m K le fits at fit low next.
         let off = offset_of c.structs (type_of x) member in
         let sum : member_plus c.structs (type_of x) member plus ≡ off + plus = exact (off + plus) (omega (arith, within.lies, within.size, fits)) in
-        let run : Value → Run objects.Place = λ v. pure (objects.At v) in
+        let run : Value → Run objects.ValuePlace = λ v. pure (objects.At v) in
         bound c found (and_then (and_then (place c.structs c.locals c.calls scope x s) pointer_to) (member_at c.structs (type_of x) member)) run K p1 r s.world m
         (bound c found (and_then (place c.structs c.locals c.calls scope x s) pointer_to) (member_at c.structs (type_of x) member) (λ v t. K (objects.At v) t) p1 r s.world m
         (bound c found (place c.structs c.locals c.calls scope x s) pointer_to (λ v t. finish (member_at c.structs (type_of x) member v t) (λ v t. K (objects.At v) t)) p1 r s.world m
@@ -192,7 +192,7 @@ module _ (c : Setting) (found : slice_get c.functions c.number ≡ Some c.code) 
         let off = offset_of c.structs target member in
         let same_target : target_of (type_of x) ≡ target = ap target_of ex in
         let sum : left_of c (Arrow ty x member) plus ≡ off + plus = ap (λ z. member_plus c.structs z member plus) same_target ∙ exact (off + plus) (omega (arith, within.lies, within.size, fits)) in
-        let run : Value → Run objects.Place = λ v. pure (objects.At v) in
+        let run : Value → Run objects.ValuePlace = λ v. pure (objects.At v) in
         bound c found (and_then (eval c.structs c.locals c.calls scope x s) (member_at c.structs (target_of (type_of x)) member)) run K p1 r s.world m
         (bound c found (eval c.structs c.locals c.calls scope x s) (member_at c.structs (target_of (type_of x)) member) (λ v t. K (objects.At v) t) p1 r s.world m
         (hx.by d rest heads p1 f scope r s m (λ v t. finish (member_at c.structs (target_of (type_of x)) member v t) (λ v t. K (objects.At v) t)) at fit low

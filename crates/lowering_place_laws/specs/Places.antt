@@ -8,15 +8,15 @@ use Rattle.vm_meaning.specs.Behave.{Registers}
 use Rattle.c_typed_tree.specs.Types.{Void, Pointer}
 use Rattle.c_typed_tree.specs.Layout.{size_of}
 use Rattle.c_typed_tree.specs.Expressions.{Expr, type_of}
-use Rattle.c_semantics.specs.Runs.{State}
+use Rattle.c_semantics.specs.Runs.{CallState}
 use Rattle.c_semantics.specs.Objects as objects
 use Rattle.c_semantics.specs.Objects.{Scope}
 use Rattle.c_semantics.specs.Evaluates.{place}
 use Rattle.lowering_code.specs.declared.item.CodeItem.{CodeItem}
 use Rattle.lowering_code.specs.Registers.{address_register}
 use Rattle.lowering_code.specs.Expressions.{place_code, plus_of}
-use Rattle.lowering_states.specs.Places.{Place}
-use Rattle.lowering_states.specs.Runs.{Observation, finish}
+use Rattle.lowering_states.specs.Places.{CodePlace}
+use Rattle.lowering_states.specs.Runs.{CodeObservation, finish}
 use Rattle.lowering_states.specs.States.{IsHeld, KeepsLower}
 use Rattle.lowering_values.specs.Laws.{IsMoved}
 use Rattle.lowering_expression_laws.specs.Parts.{Setting, count, EndsSo, Stands, Fit, Aft}
@@ -32,17 +32,17 @@ module _ (c : Setting) where
 
   -- what follows a place in memory whose code gave a pointer at a depth
   abbrev pub PlaceFollows : (depth plus : ℕ) → Expr → (heads : List ℕ) → (rest : List CodeItem) → Names → Scope
-      → Registers → State → Memory → (objects.Place → State → Observation) → Type 0
+      → Registers → CallState → Memory → (objects.ValuePlace → CallState → CodeObservation) → Type 0
   PlaceFollows d plus x heads rest f scope r s n K =
-      (q : Place) (base at : Value) (g : Names) (t : State) (q1 : Registers) (m : Memory) → Stands c heads q rest
+      (q : CodePlace) (base at : Value) (g : Names) (t : CallState) (q1 : Registers) (m : Memory) → Stands c heads q rest
       → Aft c f s n g t m → Fit c g scope q1 t m → KeepsLower (count c) d r q1 → IsHeld (Pointer Void) at
       → IsValueOf g base (q1 (address_register (count c) d)) → left_of x plus ≤ MOST_DATA
       → IsBase t.world.outer.memory base (left_of x plus) at plus → EndsSo c (K (objects.At at) t) q q1 t.world m
 
   -- the place is to be moved by no more bytes than it has
   pub record PlaceMeets (x : Expr) : Type 0 where
-    pub by : (d plus : ℕ) (rest : List CodeItem) (heads : List ℕ) (p : Place) (f : Names) (scope : Scope) (r : Registers)
-        (s : State) (n : Memory) (K : objects.Place → State → Observation) → plus ≤ MOST_DATA
+    pub by : (d plus : ℕ) (rest : List CodeItem) (heads : List ℕ) (p : CodePlace) (f : Names) (scope : Scope) (r : Registers)
+        (s : CallState) (n : Memory) (K : objects.ValuePlace → CallState → CodeObservation) → plus ≤ MOST_DATA
         → plus ≤ size_of c.structs (type_of x) →
         Stands c heads p (place_code (count c) c.structs c.locals d x plus rest) → Fit c f scope r s n
         → s.world.meter.turns ≤ c.level → PlaceFollows d plus x heads rest f scope r s n K

@@ -18,13 +18,13 @@ use Rattle.c_typed_tree.specs.declared.types.StructDef.{StructDef}
 use Rattle.c_typed_tree.specs.Types.{PlainType, Void, Pointer}
 use Rattle.c_typed_tree.specs.Layout.{size_of}
 use Rattle.c_typed_tree.specs.Expressions.{Expr, Binary, Index, type_of}
-use Rattle.c_semantics.specs.Runs.{State, Run, and_then, number, pure}
+use Rattle.c_semantics.specs.Runs.{CallState, Run, and_then, number, pure}
 use Rattle.c_semantics.specs.Objects as obj
 use Rattle.c_semantics.specs.Objects.{Scope, read_at, stands_inside, element_plus, move_reason, move_elements, move_by}
 use Rattle.c_semantics.specs.Operators.{binary}
 use Rattle.c_semantics.specs.Evaluates.{eval, element}
 use Rattle.suifvm_ir.specs.declared.types.VmType.TheVariants.{P64}
-use Rattle.suifvm_ir.specs.declared.insn.BinaryOp.TheVariants.{Add}
+use Rattle.suifvm_ir.specs.declared.insn.VmBinaryOp.TheVariants.{Add}
 use Rattle.suifvm_ir.specs.declared.insn.VmInsn.TheVariants as n
 use Rattle.vm_meaning.specs.Operations as vm
 use Rattle.vm_meaning.specs.Effect.{writes}
@@ -32,8 +32,8 @@ use Rattle.vm_meaning.specs.Behave.{Registers, set_register}
 use Rattle.lowering_code.specs.declared.item.CodeItem.{CodeItem}
 use Rattle.lowering_code.specs.Registers.{register_type, value_register, address_register, bytes_register}
 use Rattle.lowering_code.specs.Expressions.{plain_of, cap_offset, sized_code, scaled_code, add_code, binary_code, element_code, load_code, expr_code}
-use Rattle.lowering_states.specs.Places.{Place, next_place}
-use Rattle.lowering_states.specs.Runs.{opens, Observation, finish}
+use Rattle.lowering_states.specs.Places.{CodePlace, next_place}
+use Rattle.lowering_states.specs.Runs.{opens, CodeObservation, finish}
 use Rattle.lowering_states.specs.States.{IsIn, KeepsLower}
 use Rattle.lowering_states.proofs.Steps.{meets_same, number_meets, known_meets}
 use Rattle.lowering_states.proofs.States.{kept_on, kept_reads, kept_temporary, after_on, value_at, fits_temporary}
@@ -92,12 +92,12 @@ element_code_by L ds d target i.UnsignedInt rest = refl
 element_code_by L ds d target i.Long rest = refl
 element_code_by L ds d target i.UnsignedLong rest = refl
 
-module _ (c : Setting) (found : slice_get c.functions c.number ≡ Some c.code) (rest : List CodeItem) (heads : List ℕ) (g : Names) (scope : Scope) (s : State) (m : Memory) where
+module _ (c : Setting) (found : slice_get c.functions c.number ≡ Some c.code) (rest : List CodeItem) (heads : List ℕ) (g : Names) (scope : Scope) (s : CallState) (m : Memory) where
   -- the pointer above is moved by the elements at a depth, and comes there
-  moved_there : {o : Observation} (d : ℕ) (t : IntegerType) (k size : ℕ) (v u : Value) (q : Place) (r : Registers) → size ≤ MOST_DATA → IsMovedBy s.world.outer.memory v (value t k *ℤ pos size) u
+  moved_there : {o : CodeObservation} (d : ℕ) (t : IntegerType) (k size : ℕ) (v u : Value) (q : CodePlace) (r : Registers) → size ≤ MOST_DATA → IsMovedBy s.world.outer.memory v (value t k *ℤ pos size) u
       → Stands c heads q (scaled_code (count c) d (suc (suc d)) (plain_of t) (cap_offset size) (add_code (address_register (count c) d) (address_register (count c) (suc d)) (bytes_register (count c) d) rest)) → Fit c g scope r s m
       → IsValueOf g v (r (address_register (count c) (suc d))) → WordIn (count c) d t k r
-      → ((q1 : Place) (r1 : Registers) → Stands c heads q1 rest → Fit c g scope r1 s m → KeepsLower (count c) d r r1 → IsValueOf g u (r1 (address_register (count c) d)) → EndsSo c o q1 r1 s.world m) → EndsSo c o q r s.world m
+      → ((q1 : CodePlace) (r1 : Registers) → Stands c heads q1 rest → Fit c g scope r1 s m → KeepsLower (count c) d r r1 → IsValueOf g u (r1 (address_register (count c) d)) → EndsSo c o q1 r1 s.world m) → EndsSo c o q r s.world m
   moved_there {o = o} d t k size v u q r le is at fit rel one next =
       let addr = address_register (count c) d in
       let above = address_register (count c) (suc d) in
@@ -124,7 +124,7 @@ module _ (c : Setting) (found : slice_get c.functions c.number ≡ Some c.code) 
   abbrev run_by : (Value → Value → Run Value) → Scope → Run Value
   run_by done scope = λ s. and_then (eval c.structs c.locals c.calls scope x s) (λ v t1. and_then (eval c.structs c.locals c.calls scope y t1) (done v))
 
-  moves_lead : (d : ℕ) (rest : List CodeItem) (heads : List ℕ) (p : Place) (f : Names) (scope : Scope) (r : Registers) (s : State) (m : Memory) (K : Value → State → Observation)
+  moves_lead : (d : ℕ) (rest : List CodeItem) (heads : List ℕ) (p : CodePlace) (f : Names) (scope : Scope) (r : Registers) (s : CallState) (m : Memory) (K : Value → CallState → CodeObservation)
       → Stands c heads p (expr_code (count c) c.structs c.locals d x (expr_code (count c) c.structs c.locals (suc d) y (back_tail (count c) c.structs d target t rest))) → Fit c f scope r s m → s.world.meter.turns ≤ c.level → Follows c d (Pointer target) heads rest f scope r s m K
       → EndsSo c (finish (run_by (λ v w. move_by c.structs target t w v) scope s) K) p r s.world m
   unfolding opens
@@ -164,7 +164,7 @@ module _ (c : Setting) (found : slice_get c.functions c.number ≡ Some c.code) 
   element_code_is : (d : ℕ) (rest : List CodeItem) → element_code (count c) c.structs d (type_of x) (type_of y) rest ≡ back_tail (count c) c.structs d target t rest
   element_code_is d rest = ap (λ z. element_code (count c) c.structs d z (type_of y) rest) ex ∙ ap (λ z. element_code (count c) c.structs d (plain_of t) z rest) ey ∙ element_code_by (count c) c.structs d target t rest
 
-  element_run : (scope : Scope) (s : State) → run_by (element c.structs (type_of x) (type_of y)) scope s ≡ run_by (λ v w. move_by c.structs target t w v) scope s
+  element_run : (scope : Scope) (s : CallState) → run_by (element c.structs (type_of x) (type_of y)) scope s ≡ run_by (λ v w. move_by c.structs target t w v) scope s
   element_run scope s =
       ap (λ z. run_by (λ v w. element c.structs z (type_of y) v w) scope s) ex ∙ ap (λ z. run_by (λ v w. element c.structs (plain_of t) z v w) scope s) ey ∙ ap (λ z. run_by z scope s) (element_is c.structs target t)
 
@@ -172,7 +172,7 @@ module _ (c : Setting) (found : slice_get c.functions c.number ≡ Some c.code) 
   unfolding opens
   elements ty whole = record {
     by = λ d rest heads p f scope r s m K at fit low next.
-        let K1 : Value → State → Observation = (λ v u. finish (read_at ty v u) K) in
+        let K1 : Value → CallState → CodeObservation = (λ v u. finish (read_at ty v u) K) in
         bound c found (run_by (element c.structs (type_of x) (type_of y)) scope s) (read_at ty) K p r s.world m
         (meets_same c.rooms c.functions (ap (λ z. finish z K1) (element_run scope s))
         (moves_lead d (load_code (count c) d ty 0 rest) heads p f scope r s m K1
@@ -185,7 +185,7 @@ module _ (c : Setting) (found : slice_get c.functions c.number ≡ Some c.code) 
   unfolding opens
   element_places ty = record {
     by = λ d plus rest heads p f scope r s m K small fits at fit low next.
-        let K1 : Value → State → Observation = (λ v u. K (obj.At v) u) in
+        let K1 : Value → CallState → CodeObservation = (λ v u. K (obj.At v) u) in
         bound c found (run_by (element c.structs (type_of x) (type_of y)) scope s) (λ v. pure (obj.At v)) K p r s.world m
         (meets_same c.rooms c.functions (ap (λ z. finish z K1) (element_run scope s))
         (moves_lead d rest heads p f scope r s m K1 (subst (λ z. Stands c heads p (expr_code (count c) c.structs c.locals d x (expr_code (count c) c.structs c.locals (suc d) y z))) (element_code_is d rest) at) fit low

@@ -17,7 +17,7 @@ use Rattle.c_tree.specs.declared.expressions.BinaryOp.TheVariants as b
 use Rattle.c_typed_tree.specs.Types.{PlainType, Pointer}
 use Rattle.c_typed_tree.specs.Expressions.{Expr, Binary, type_of}
 use Rattle.c_semantics.specs.Reasons.{Reason, ComparesApart, ComparesAtEnd}
-use Rattle.c_semantics.specs.Runs.{State, Run, and_then, or_undefined}
+use Rattle.c_semantics.specs.Runs.{CallState, Run, and_then, or_undefined}
 use Rattle.c_semantics.specs.Objects.{Scope}
 use Rattle.c_semantics.specs.Operators.{unless_dead, pure_truth, binary}
 use Rattle.c_semantics.specs.Evaluates.{eval}
@@ -32,8 +32,8 @@ use Rattle.lowering_code.specs.declared.item.CodeItem.{CodeItem}
 use Rattle.lowering_code.specs.declared.item.CodeItem.TheVariants.{Plain}
 use Rattle.lowering_code.specs.Registers.{register_type, value_register, address_register}
 use Rattle.lowering_code.specs.Expressions.{plain_of, binary_code, expr_code}
-use Rattle.lowering_states.specs.Places.{Place, next_place}
-use Rattle.lowering_states.specs.Runs.{opens, Observation, finish}
+use Rattle.lowering_states.specs.Places.{CodePlace, next_place}
+use Rattle.lowering_states.specs.Runs.{opens, CodeObservation, finish}
 use Rattle.lowering_states.specs.States.{IsIn, KeepsLower}
 use Rattle.lowering_states.proofs.Steps.{meets_same, known_meets}
 use Rattle.lowering_states.proofs.States.{kept_on, kept_reads, kept_temporary, after_on, value_at, fits_temporary}
@@ -54,7 +54,7 @@ module _ (c : Setting) (found : slice_get c.functions c.number ≡ Some c.code) 
   T = plain_of i.Int
 
   -- two pointers in their registers, at a depth and above it
-  pub record Both (d : ℕ) (f : Names) (scope : Scope) (r : Registers) (s : State) (m : Memory) (v w : Value) (h : Names) (u : State) (q : Registers) (n : Memory) : Type 0 where
+  pub record Both (d : ℕ) (f : Names) (scope : Scope) (r : Registers) (s : CallState) (m : Memory) (v w : Value) (h : Names) (u : CallState) (q : Registers) (n : Memory) : Type 0 where
     pub aft : Aft c f s m h u n
     pub fit : Fit c h scope q u n
     pub kept : KeepsLower L d r q
@@ -64,8 +64,8 @@ module _ (c : Setting) (found : slice_get c.functions c.number ≡ Some c.code) 
   abbrev pub run_by : (Value → Value → Run Value) → Scope → Run Value
   run_by done scope = λ s. and_then (eval c.structs c.locals c.calls scope x s) (λ v t1. and_then (eval c.structs c.locals c.calls scope y t1) (done v))
 
-  pub both_lead : (done : Value → Value → Run Value) (d : ℕ) (tail : List CodeItem) (heads : List ℕ) (p : Place) (f : Names) (scope : Scope) (r : Registers) (s : State) (m : Memory) (K : Value → State → Observation) → Stands c heads p (expr_code L c.structs c.locals d x (expr_code L c.structs c.locals (suc d) y tail)) → Fit c f scope r s m
-      → s.world.meter.turns ≤ c.level → ((q : Place) (v w : Value) (h : Names) (u : State) (q1 : Registers) (n : Memory) → Stands c heads q tail → Both d f scope r s m v w h u q1 n → EndsSo c (finish (done v w u) K) q q1 u.world n)
+  pub both_lead : (done : Value → Value → Run Value) (d : ℕ) (tail : List CodeItem) (heads : List ℕ) (p : CodePlace) (f : Names) (scope : Scope) (r : Registers) (s : CallState) (m : Memory) (K : Value → CallState → CodeObservation) → Stands c heads p (expr_code L c.structs c.locals d x (expr_code L c.structs c.locals (suc d) y tail)) → Fit c f scope r s m
+      → s.world.meter.turns ≤ c.level → ((q : CodePlace) (v w : Value) (h : Names) (u : CallState) (q1 : Registers) (n : Memory) → Stands c heads q tail → Both d f scope r s m v w h u q1 n → EndsSo c (finish (done v w u) K) q q1 u.world n)
       → EndsSo c (finish (run_by done scope s) K) p r s.world m
   unfolding opens
   both_lead done d tail heads p f scope r s m K at fit low next =
@@ -88,7 +88,7 @@ module _ (c : Setting) (found : slice_get c.functions c.number ≡ Some c.code) 
       })))))
 
   -- the comparison, where the pointers stand
-  compare_leads : (op : CompareOp) (flip : Bool → Bool) (reason : Reason) (answer : Option Bool) (d a1 a2 : ℕ) (rest : List CodeItem) (heads : List ℕ) (f : Names) (scope : Scope) (r : Registers) (s : State) (m : Memory) (K : Value → State → Observation) (v w : Value) (h : Names) (u : State) (q1 : Registers) (n1 : Memory) (q : Place)
+  compare_leads : (op : CompareOp) (flip : Bool → Bool) (reason : Reason) (answer : Option Bool) (d a1 a2 : ℕ) (rest : List CodeItem) (heads : List ℕ) (f : Names) (scope : Scope) (r : Registers) (s : CallState) (m : Memory) (K : Value → CallState → CodeObservation) (v w : Value) (h : Names) (u : CallState) (q1 : Registers) (n1 : Memory) (q : CodePlace)
       → Stands c heads q (Plain (n.Compare op P64 (value_register L d T) a1 a2) ∷ rest) → Both d f scope r s m v w h u q1 n1 → Follows c d T heads rest f scope r s m K
       → ((z : Bool) → answer ≡ Some z → vm.compare_pointer n1 op (q1 a1) (q1 a2) ≡ Some (flip z))
       → EndsSo c (finish (and_then (or_undefined reason answer u) (λ z. pure_truth (flip z))) K) q q1 u.world n1

@@ -23,13 +23,13 @@ use Rattle.c_typed_tree.specs.declared.types.StructDef.{StructDef}
 use Rattle.c_typed_tree.specs.Types.{PlainType, Pointer}
 use Rattle.c_typed_tree.specs.Layout.{size_of}
 use Rattle.c_typed_tree.specs.Expressions.{Expr, Binary, type_of}
-use Rattle.c_semantics.specs.Runs.{State, Run, and_then, number}
+use Rattle.c_semantics.specs.Runs.{CallState, Run, and_then, number}
 use Rattle.c_semantics.specs.Objects.{Scope, element_plus, move_reason, move_elements}
 use Rattle.c_semantics.specs.Operators.{pointer_and_integer, binary}
 use Rattle.c_semantics.specs.Evaluates.{eval}
 use Rattle.suifvm_ir.specs.declared.types.VmType.TheVariants.{S64, P64}
-use Rattle.suifvm_ir.specs.declared.insn.UnaryOp.TheVariants.{Negate}
-use Rattle.suifvm_ir.specs.declared.insn.BinaryOp.TheVariants.{Add}
+use Rattle.suifvm_ir.specs.declared.insn.VmUnaryOp.TheVariants.{Negate}
+use Rattle.suifvm_ir.specs.declared.insn.VmBinaryOp.TheVariants.{Add}
 use Rattle.suifvm_ir.specs.declared.insn.VmInsn.TheVariants as n
 use Rattle.vm_meaning.specs.Operations as vm
 use Rattle.vm_meaning.specs.Effect.{writes}
@@ -37,8 +37,8 @@ use Rattle.vm_meaning.specs.Behave.{Registers, set_register}
 use Rattle.lowering_code.specs.declared.item.CodeItem.{CodeItem}
 use Rattle.lowering_code.specs.Registers.{value_register, address_register, bytes_register}
 use Rattle.lowering_code.specs.Expressions.{plain_of, cap_offset, sized_code, scaled_code, add_code, binary_code, negate_code, expr_code}
-use Rattle.lowering_states.specs.Places.{Place, next_place}
-use Rattle.lowering_states.specs.Runs.{opens, Observation, finish}
+use Rattle.lowering_states.specs.Places.{CodePlace, next_place}
+use Rattle.lowering_states.specs.Runs.{opens, CodeObservation, finish}
 use Rattle.lowering_states.specs.States.{IsIn, KeepsLower}
 use Rattle.lowering_states.proofs.Steps.{meets_same, number_meets, known_meets}
 use Rattle.lowering_states.proofs.States.{set_same, kept_all, kept_on, kept_reads, kept_temporary, after_on, value_at, fits_temporary}
@@ -94,12 +94,12 @@ difference_code L ds d target i.UnsignedLong rest = refl
 abbrev run_by : (c : Setting) (x y : Expr) → (Value → Value → Run Value) → Scope → Run Value
 run_by c x y done scope = λ s. and_then (eval c.structs c.locals c.calls scope x s) (λ v t1. and_then (eval c.structs c.locals c.calls scope y t1) (done v))
 
-module _ (c : Setting) (found : slice_get c.functions c.number ≡ Some c.code) (rest : List CodeItem) (heads : List ℕ) (g : Names) (scope : Scope) (s : State) (m : Memory) where
+module _ (c : Setting) (found : slice_get c.functions c.number ≡ Some c.code) (rest : List CodeItem) (heads : List ℕ) (g : Names) (scope : Scope) (s : CallState) (m : Memory) where
   -- the pointer at a depth is moved back by the elements at another one; what stands below both stays
-  pub moved_back : {o : Observation} (a d free low : ℕ) → d < free → low ≤ a → low ≤ d → (t : IntegerType) (k size : ℕ) (v u : Value) (q : Place) (r : Registers) → size ≤ MOST_DATA → IsMovedBy s.world.outer.memory v (neg_ℤ (value t k) *ℤ pos size) u
+  pub moved_back : {o : CodeObservation} (a d free low : ℕ) → d < free → low ≤ a → low ≤ d → (t : IntegerType) (k size : ℕ) (v u : Value) (q : CodePlace) (r : Registers) → size ≤ MOST_DATA → IsMovedBy s.world.outer.memory v (neg_ℤ (value t k) *ℤ pos size) u
       → Stands c heads q (scaled_code (count c) d free (plain_of t) (cap_offset size) (negate_code (bytes_register (count c) d) (add_code (address_register (count c) a) (address_register (count c) a) (bytes_register (count c) d) rest)))
       → Fit c g scope r s m → IsValueOf g v (r (address_register (count c) a)) → WordIn (count c) d t k r
-      → ((q1 : Place) (r1 : Registers) → Stands c heads q1 rest → Fit c g scope r1 s m → KeepsLower (count c) low r r1 → IsValueOf g u (r1 (address_register (count c) a)) → EndsSo c o q1 r1 s.world m) → EndsSo c o q r s.world m
+      → ((q1 : CodePlace) (r1 : Registers) → Stands c heads q1 rest → Fit c g scope r1 s m → KeepsLower (count c) low r r1 → IsValueOf g u (r1 (address_register (count c) a)) → EndsSo c o q1 r1 s.world m) → EndsSo c o q r s.world m
   moved_back {o = o} a d free low above below_a below_d t k size v u q r le is at fit rel one next =
       let addr = address_register (count c) a in
       let reg = bytes_register (count c) d in

@@ -30,11 +30,11 @@ use Rattle.c_typed_tree.specs.Types.{PlainType, Pointer}
 use Rattle.c_typed_tree.specs.Layout.{size_of}
 use Rattle.c_typed_tree.specs.Expressions.{Expr, Binary, type_of}
 use Rattle.c_semantics.specs.Reasons.{ComparesApart}
-use Rattle.c_semantics.specs.Runs.{State, Run, or_undefined, pure, undefined}
+use Rattle.c_semantics.specs.Runs.{CallState, Run, or_undefined, pure, undefined}
 use Rattle.c_semantics.specs.Objects.{Scope}
 use Rattle.c_semantics.specs.Operators.{unless_dead, binary, bytes_between, elements}
 use Rattle.suifvm_ir.specs.declared.types.VmType.TheVariants.{S64, P64}
-use Rattle.suifvm_ir.specs.declared.insn.BinaryOp.TheVariants.{Subtract, Divide}
+use Rattle.suifvm_ir.specs.declared.insn.VmBinaryOp.TheVariants.{Subtract, Divide}
 use Rattle.suifvm_ir.specs.declared.insn.VmInsn.TheVariants as n
 use Rattle.vm_meaning.specs.declared.answer.Answer.TheVariants.{Gives, Fails}
 use Rattle.vm_meaning.specs.Operations as vm
@@ -44,8 +44,8 @@ use Rattle.lowering_code.specs.declared.item.CodeItem.{CodeItem}
 use Rattle.lowering_code.specs.declared.item.CodeItem.TheVariants.{Plain}
 use Rattle.lowering_code.specs.Registers.{address_register, bytes_register}
 use Rattle.lowering_code.specs.Expressions.{plain_of, cap_offset, divided_code, binary_code, expr_code}
-use Rattle.lowering_states.specs.Places.{Place, next_place}
-use Rattle.lowering_states.specs.Runs.{opens, Observation, finish}
+use Rattle.lowering_states.specs.Places.{CodePlace, next_place}
+use Rattle.lowering_states.specs.Runs.{opens, CodeObservation, finish}
 use Rattle.lowering_states.proofs.Steps.{meets_anything, meets_same, known_meets}
 use Rattle.lowering_states.proofs.States.{set_same, ne_eqb, set_other, other_depth, kept_temporary, fits_temporary}
 use Rattle.lowering_values.proofs.Operators.{operators_correspond}
@@ -128,7 +128,7 @@ module _ (c : Setting) (found : slice_get c.functions c.number ≡ Some c.code) 
   T = plain_of i.Long
 
   -- a distance in bytes becomes one in elements
-  module _ (d : ℕ) (rest : List CodeItem) (heads : List ℕ) (f : Names) (scope : Scope) (r : Registers) (s : State) (m : Memory) (K : Value → State → Observation) (next : Follows c d T heads rest f scope r s m K) (v w : Value) (h : Names) (u : State) (q1 : Registers) (n1 : Memory)
+  module _ (d : ℕ) (rest : List CodeItem) (heads : List ℕ) (f : Names) (scope : Scope) (r : Registers) (s : CallState) (m : Memory) (K : Value → CallState → CodeObservation) (next : Follows c d T heads rest f scope r s m K) (v w : Value) (h : Names) (u : CallState) (q1 : Registers) (n1 : Memory)
       (both1 : Both c found target other x y ex ey hx hy d f scope r s m v w h u q1 n1) (z : ℤ) (small : IsSmall z) where
     abbrev reg : ℕ
     reg = bytes_register (count c) d
@@ -143,7 +143,7 @@ module _ (c : Setting) (found : slice_get c.functions c.number ≡ Some c.code) 
     r1 = set_register reg (Word bytes) q1
 
     -- the number of elements stands in its register
-    given : (k : ℕ) (r2 : Registers) (q : Place) → Stands c heads q rest → Fit c h scope r2 u n1 → KeepsLower (count c) d r r2 → is_word i.Long k ≡ true → r2 reg ≡ Word k → EndsSo c (K (Word k) u) q r2 u.world n1
+    given : (k : ℕ) (r2 : Registers) (q : CodePlace) → Stands c heads q rest → Fit c h scope r2 u n1 → KeepsLower (count c) d r r2 → is_word i.Long k ≡ true → r2 reg ≡ Word k → EndsSo c (K (Word k) u) q r2 u.world n1
     given k r2 q at fit kept one held = next q (Word k) h u r2 n1 at both1.aft fit kept (held_word i.Long k one) held
 
     fit1 : Fit c h scope r1 u n1
@@ -152,7 +152,7 @@ module _ (c : Setting) (found : slice_get c.functions c.number ≡ Some c.code) 
     kept1 : KeepsLower (count c) d r r1
     kept1 = kept_temporary d S64 (Word bytes) (omega arith) both1.kept
 
-    divided : (k : ℕ) → suc k ≤ MOST_DATA → int_rem z (pos (suc k)) ≡ pos 0 → (q : Place) → Stands c heads q (divided_code (count c) d (suc d) (suc k) rest) → EndsSo c (K (Word (word i.Long (int_div z (pos (suc k))))) u) q r1 u.world n1
+    divided : (k : ℕ) → suc k ≤ MOST_DATA → int_rem z (pos (suc k)) ≡ pos 0 → (q : CodePlace) → Stands c heads q (divided_code (count c) d (suc d) (suc k) rest) → EndsSo c (K (Word (word i.Long (int_div z (pos (suc k))))) u) q r1 u.world n1
     divided k small_size exact q at = by_one (suc k == 1) (eqb-true (suc k) 1) at
       where
         quotient1 : ℕ
@@ -181,7 +181,7 @@ module _ (c : Setting) (found : slice_get c.functions c.number ≡ Some c.code) 
             (given quotient1 (set_register reg (Word quotient1) r2) (next_place (next_place q)) (at_plain c.code.blocks c.last c.end _ at2) (fits_temporary d S64 (Word quotient1) (fits_temporary (suc d) S64 (Word (suc k)) fit1))
             (kept_temporary d S64 (Word quotient1) (omega arith) (kept_temporary (suc d) S64 (Word (suc k)) (omega arith) kept1)) (is_word-extension i.Long _) (set_same r2 reg (Word quotient1))))
 
-    elements_meet : (size : ℕ) → size ≤ MOST_DATA → (q : Place) → Stands c heads q (divided_code (count c) d (suc d) size rest) → EndsSo c (finish (elements z size u) K) q r1 u.world n1
+    elements_meet : (size : ℕ) → size ≤ MOST_DATA → (q : CodePlace) → Stands c heads q (divided_code (count c) d (suc d) size rest) → EndsSo c (finish (elements z size u) K) q r1 u.world n1
     unfolding opens
     elements_meet zero small_size q at = meets_anything c.rooms c.functions refl
     elements_meet (suc k) small_size q at =

@@ -28,13 +28,13 @@ use Rattle.c_typed_tree.specs.declared.types.StructDef.{StructDef}
 use Rattle.c_typed_tree.specs.Types.{PlainType, Void, Pointer}
 use Rattle.c_typed_tree.specs.Layout.{size_of}
 use Rattle.c_typed_tree.specs.Expressions.{Expr, Binary, Index, type_of}
-use Rattle.c_semantics.specs.Runs.{State, Run, and_then, number, pure}
+use Rattle.c_semantics.specs.Runs.{CallState, Run, and_then, number, pure}
 use Rattle.c_semantics.specs.Objects as obj
 use Rattle.c_semantics.specs.Objects.{Scope, read_at, stands_inside, element_plus, move_reason, move_elements, move_by}
 use Rattle.c_semantics.specs.Operators.{binary}
 use Rattle.c_semantics.specs.Evaluates.{eval, element}
 use Rattle.suifvm_ir.specs.declared.types.VmType.TheVariants.{S64, P64}
-use Rattle.suifvm_ir.specs.declared.insn.BinaryOp.TheVariants.{Add, Multiply}
+use Rattle.suifvm_ir.specs.declared.insn.VmBinaryOp.TheVariants.{Add, Multiply}
 use Rattle.suifvm_ir.specs.declared.insn.VmInsn.TheVariants as n
 use Rattle.vm_meaning.specs.declared.answer.Answer.TheVariants.{Gives, Fails}
 use Rattle.vm_meaning.specs.Operations as vm
@@ -45,8 +45,8 @@ use Rattle.lowering_code.specs.declared.item.CodeItem.{CodeItem}
 use Rattle.lowering_code.specs.declared.item.CodeItem.TheVariants.{Plain}
 use Rattle.lowering_code.specs.Registers.{register_type, temporary, value_register, address_register, bytes_register}
 use Rattle.lowering_code.specs.Expressions.{plain_of, cap_offset, is_kept, narrow_type, convert_code, sized_code, scaled_code, add_code, binary_code, element_code, load_code, expr_code}
-use Rattle.lowering_states.specs.Places.{Place, next_place}
-use Rattle.lowering_states.specs.Runs.{opens, Observation, finish}
+use Rattle.lowering_states.specs.Places.{CodePlace, next_place}
+use Rattle.lowering_states.specs.Runs.{opens, CodeObservation, finish}
 use Rattle.lowering_states.specs.States.{IsIn, KeepsLower}
 use Rattle.lowering_states.proofs.Steps.{meets_same, number_meets, known_meets}
 use Rattle.lowering_states.proofs.States.{set_same, set_other, other_depth, kept_all, kept_on, kept_reads, kept_temporary, after_on, value_at, fits_temporary}
@@ -123,13 +123,13 @@ kept_bytes {L = L} e v {q = q} le h = record {
 pub kept_both : {L j : ℕ} {r q t : Registers} → KeepsOthers L j r q → KeepsOthers L j q t → KeepsOthers L j r t
 kept_both a1 a2 = record { lower = kept_on (omega arith) a1.lower a2.lower; addresses = λ e. a2.addresses e ∙ a1.addresses e }
 
-module _ (c : Setting) (found : slice_get c.functions c.number ≡ Some c.code) (rest : List CodeItem) (heads : List ℕ) (g : Names) (scope : Scope) (s : State) (m : Memory) where
+module _ (c : Setting) (found : slice_get c.functions c.number ≡ Some c.code) (rest : List CodeItem) (heads : List ℕ) (g : Names) (scope : Scope) (s : CallState) (m : Memory) where
   abbrev L : ℕ
   L = count c
 
   -- an integer becomes a `long`
-  pub long_leads : {o : Observation} (j : ℕ) (t : IntegerType) (k : ℕ) (tail : List CodeItem) (q : Place) (r : Registers) → Stands c heads q (convert_code L j (plain_of t) (plain_of i.Long) tail) → Fit c g scope r s m → WordIn L j t k r
-      → ((q1 : Place) (r1 : Registers) → Stands c heads q1 tail → Fit c g scope r1 s m → KeepsOthers L j r r1 → r1 (bytes_register L j) ≡ Word (conversion t i.Long k) → EndsSo c o q1 r1 s.world m) → EndsSo c o q r s.world m
+  pub long_leads : {o : CodeObservation} (j : ℕ) (t : IntegerType) (k : ℕ) (tail : List CodeItem) (q : CodePlace) (r : Registers) → Stands c heads q (convert_code L j (plain_of t) (plain_of i.Long) tail) → Fit c g scope r s m → WordIn L j t k r
+      → ((q1 : CodePlace) (r1 : Registers) → Stands c heads q1 tail → Fit c g scope r1 s m → KeepsOthers L j r r1 → r1 (bytes_register L j) ≡ Word (conversion t i.Long k) → EndsSo c o q1 r1 s.world m) → EndsSo c o q r s.world m
   long_leads {o = o} j t k tail q r at fit one next = by_kept (is_kept (plain_of t) (plain_of i.Long)) refl at
     where
       k1 : ℕ
@@ -149,9 +149,9 @@ module _ (c : Setting) (found : slice_get c.functions c.number ≡ Some c.code) 
           (next (next_place q) (set_register (bytes_register L j) (Word k1) r) (at_plain c.code.blocks c.last c.end insn at2) (fits_temporary j S64 (Word k1) fit) (kept_bytes j (Word k1) (omega arith) kept_others) (set_same r (bytes_register L j) (Word k1)))
 
   -- it becomes a number of bytes
-  pub sized_leads : {o : Observation} (j free : ℕ) → j < free → (size x : ℕ) (z : ℤ) (tail : List CodeItem) (q : Place) (r : Registers) → size ≤ MOST_DATA → value i.Long x *ℤ pos size ≡ z → IsSmall z → is_word i.Long x ≡ true → Stands c heads q (sized_code L j free size tail) → Fit c g scope r s m
+  pub sized_leads : {o : CodeObservation} (j free : ℕ) → j < free → (size x : ℕ) (z : ℤ) (tail : List CodeItem) (q : CodePlace) (r : Registers) → size ≤ MOST_DATA → value i.Long x *ℤ pos size ≡ z → IsSmall z → is_word i.Long x ≡ true → Stands c heads q (sized_code L j free size tail) → Fit c g scope r s m
       → r (bytes_register L j) ≡ Word x
-      → ((q1 : Place) (r1 : Registers) (b : ℕ) → Stands c heads q1 tail → Fit c g scope r1 s m → KeepsOthers L j r r1 → r1 (bytes_register L j) ≡ Word b → value i.Long b ≡ z → is_word i.Long b ≡ true → EndsSo c o q1 r1 s.world m) → EndsSo c o q r s.world m
+      → ((q1 : CodePlace) (r1 : Registers) (b : ℕ) → Stands c heads q1 tail → Fit c g scope r1 s m → KeepsOthers L j r r1 → r1 (bytes_register L j) ≡ Word b → value i.Long b ≡ z → is_word i.Long b ≡ true → EndsSo c o q1 r1 s.world m) → EndsSo c o q r s.world m
   sized_leads {o = o} j free above_it size x z tail q r le e small one at fit held next = by_one (size == 1) (eqb-true size 1) at
     where
       reg : ℕ
@@ -183,9 +183,9 @@ module _ (c : Setting) (found : slice_get c.functions c.number ≡ Some c.code) 
           (kept_bytes j (Word bytes) (omega arith) (kept_bytes free (Word size) (omega (arith, above_it)) kept_others)) (set_same r1 reg (Word bytes)) (value-word i.Long z (small_fits z small)) (is_word-extension i.Long _)))
 
   -- the pointer at a depth is moved by the elements at another one; what stands below both stays
-  pub moved_leads : {o : Observation} (a d free low : ℕ) → d < free → low ≤ a → low ≤ d → (t : IntegerType) (k size : ℕ) (v u : Value) (q : Place) (r : Registers) → size ≤ MOST_DATA → IsMovedBy s.world.outer.memory v (value t k *ℤ pos size) u
+  pub moved_leads : {o : CodeObservation} (a d free low : ℕ) → d < free → low ≤ a → low ≤ d → (t : IntegerType) (k size : ℕ) (v u : Value) (q : CodePlace) (r : Registers) → size ≤ MOST_DATA → IsMovedBy s.world.outer.memory v (value t k *ℤ pos size) u
       → Stands c heads q (scaled_code L d free (plain_of t) (cap_offset size) (add_code (address_register L a) (address_register L a) (bytes_register L d) rest)) → Fit c g scope r s m → IsValueOf g v (r (address_register L a)) → WordIn L d t k r
-      → ((q1 : Place) (r1 : Registers) → Stands c heads q1 rest → Fit c g scope r1 s m → KeepsLower L low r r1 → IsValueOf g u (r1 (address_register L a)) → EndsSo c o q1 r1 s.world m) → EndsSo c o q r s.world m
+      → ((q1 : CodePlace) (r1 : Registers) → Stands c heads q1 rest → Fit c g scope r1 s m → KeepsLower L low r r1 → IsValueOf g u (r1 (address_register L a)) → EndsSo c o q1 r1 s.world m) → EndsSo c o q r s.world m
   moved_leads {o = o} a d free low above below_a below_d t k size v u q r le is at fit rel one next =
       let addr = address_register L a in
       let reg = bytes_register L d in
@@ -247,7 +247,7 @@ module _ (c : Setting) (found : slice_get c.functions c.number ≡ Some c.code) 
   abbrev run_by : (Value → Value → Run Value) → Scope → Run Value
   run_by done scope = λ s. and_then (eval c.structs c.locals c.calls scope x s) (λ v t1. and_then (eval c.structs c.locals c.calls scope y t1) (done v))
 
-  moves_lead : (d : ℕ) (rest : List CodeItem) (heads : List ℕ) (p : Place) (f : Names) (scope : Scope) (r : Registers) (s : State) (m : Memory) (K : Value → State → Observation)
+  moves_lead : (d : ℕ) (rest : List CodeItem) (heads : List ℕ) (p : CodePlace) (f : Names) (scope : Scope) (r : Registers) (s : CallState) (m : Memory) (K : Value → CallState → CodeObservation)
       → Stands c heads p (expr_code (count c) c.structs c.locals d x (expr_code (count c) c.structs c.locals (suc d) y (sum_tail (count c) c.structs d target t rest))) → Fit c f scope r s m → s.world.meter.turns ≤ c.level → Follows c d (Pointer target) heads rest f scope r s m K
       → EndsSo c (finish (run_by (move_by c.structs target t) scope s) K) p r s.world m
   unfolding opens
@@ -299,7 +299,7 @@ module _ (c : Setting) (found : slice_get c.functions c.number ≡ Some c.code) 
       by_type i.Long = refl
       by_type i.UnsignedLong = refl
 
-  element_run : (scope : Scope) (s : State) → run_by (element c.structs (type_of x) (type_of y)) scope s ≡ run_by (move_by c.structs target t) scope s
+  element_run : (scope : Scope) (s : CallState) → run_by (element c.structs (type_of x) (type_of y)) scope s ≡ run_by (move_by c.structs target t) scope s
   element_run scope s =
       ap (λ z. run_by (λ v w. element c.structs z (type_of y) v w) scope s) ex ∙ ap (λ z. run_by (λ v w. element c.structs (Pointer target) z v w) scope s) ey ∙ ap (λ z. run_by z scope s) (element_is c.structs target t)
 
@@ -307,7 +307,7 @@ module _ (c : Setting) (found : slice_get c.functions c.number ≡ Some c.code) 
   unfolding opens
   elements ty whole = record {
     by = λ d rest heads p f scope r s m K at fit low next.
-        let K1 : Value → State → Observation = (λ v u. finish (read_at ty v u) K) in
+        let K1 : Value → CallState → CodeObservation = (λ v u. finish (read_at ty v u) K) in
         bound c found (run_by (element c.structs (type_of x) (type_of y)) scope s) (read_at ty) K p r s.world m
         (meets_same c.rooms c.functions (ap (λ z. finish z K1) (element_run scope s))
         (moves_lead d (load_code (count c) d ty 0 rest) heads p f scope r s m K1
@@ -320,7 +320,7 @@ module _ (c : Setting) (found : slice_get c.functions c.number ≡ Some c.code) 
   unfolding opens
   element_places ty = record {
     by = λ d plus rest heads p f scope r s m K small fits at fit low next.
-        let K1 : Value → State → Observation = (λ v u. K (obj.At v) u) in
+        let K1 : Value → CallState → CodeObservation = (λ v u. K (obj.At v) u) in
         bound c found (run_by (element c.structs (type_of x) (type_of y)) scope s) (λ v. pure (obj.At v)) K p r s.world m
         (meets_same c.rooms c.functions (ap (λ z. finish z K1) (element_run scope s))
         (moves_lead d rest heads p f scope r s m K1 (subst (λ z. Stands c heads p (expr_code (count c) c.structs c.locals d x (expr_code (count c) c.structs c.locals (suc d) y z))) (element_code_is d rest) at) fit low

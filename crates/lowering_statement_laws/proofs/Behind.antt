@@ -11,31 +11,31 @@ use Rattle.c_typed_tree.specs.Expressions.{Expr, type_of}
 use Rattle.c_typed_tree.specs.Statements.{LocalDeclaration, First, Stmt, Else, no_else, else_stmt, Stmts, no_stmts, more_stmts, Sections, no_sections, more_sections}
 use Rattle.c_typed_tree.specs.Statements as q
 use Rattle.suifvm_ir.specs.declared.types.VmType.{VmType}
-use Rattle.suifvm_ir.specs.declared.insn.BranchOp.{BranchOp}
+use Rattle.suifvm_ir.specs.declared.insn.VmBranchOp.{VmBranchOp}
 use Rattle.suifvm_ir.specs.declared.insn.TypedRegister.{TypedRegister}
 use Rattle.suifvm_ir.specs.declared.insn.VmInsn.{VmInsn}
 use Rattle.lowering_code.specs.declared.item.CodeItem.{CodeItem}
 use Rattle.lowering_code.specs.declared.item.CodeItem.TheVariants.{Start, Plain, Jump, Branch, Loop, Enter, Again, Repeat, Return}
 use Rattle.lowering_code.specs.Items.{count}
 use Rattle.lowering_code.specs.Statements.{Target, value_code, default_name, put_code, put_local_code, initialise_code, declares_code, first_code, again_code, test_code, after_code, label_code, labels_code, return_code, stmt_code, stmts_code, sections_code, targets_of}
-use Rattle.lowering_states.specs.Places.{Place, next_place, next_block, At}
+use Rattle.lowering_states.specs.Places.{CodePlace, next_place, next_block, At}
 use Rattle.lowering_expression_places.specs.Behind.{Somewhere, IsLeft}
 use Rattle.lowering_expression_places.proofs.Behind.{at_plain, at_start, at_jump, at_branch, left_expr}
 
 module _ (blocks : List (List VmInsn)) (last : ℕ) (end : List VmInsn) where
-  pub at_loop : {heads : List ℕ} {p : Place} {is : List CodeItem} (name : ℕ) → At blocks last end heads p (Loop name ∷ is) → At blocks last end (suc p.block ∷ heads) (next_place (next_block p)) is
+  pub at_loop : {heads : List ℕ} {p : CodePlace} {is : List CodeItem} (name : ℕ) → At blocks last end heads p (Loop name ∷ is) → At blocks last end (suc p.block ∷ heads) (next_place (next_block p)) is
   at_loop name h = record { has = h.has.2; size = omega (arith, h.size) }
 
-  pub at_enter : {heads : List ℕ} {p : Place} {is : List CodeItem} → At blocks last end heads p (Enter ∷ is) → At blocks last end (suc p.block ∷ heads) (next_place (next_block p)) is
+  pub at_enter : {heads : List ℕ} {p : CodePlace} {is : List CodeItem} → At blocks last end heads p (Enter ∷ is) → At blocks last end (suc p.block ∷ heads) (next_place (next_block p)) is
   at_enter h = record { has = h.has.2; size = omega (arith, h.size) }
 
-  pub at_again : {head : ℕ} {heads : List ℕ} {p : Place} {is : List CodeItem} (ty : VmType) (source : ℕ) → At blocks last end (head ∷ heads) p (Again ty source ∷ is) → At blocks last end heads (next_block p) is
+  pub at_again : {head : ℕ} {heads : List ℕ} {p : CodePlace} {is : List CodeItem} (ty : VmType) (source : ℕ) → At blocks last end (head ∷ heads) p (Again ty source ∷ is) → At blocks last end heads (next_block p) is
   at_again ty source h = record { has = h.has.2; size = omega (arith, h.size) }
 
-  pub at_repeat : {head : ℕ} {heads : List ℕ} {p : Place} {is : List CodeItem} → At blocks last end (head ∷ heads) p (Repeat ∷ is) → At blocks last end heads (next_block p) is
+  pub at_repeat : {head : ℕ} {heads : List ℕ} {p : CodePlace} {is : List CodeItem} → At blocks last end (head ∷ heads) p (Repeat ∷ is) → At blocks last end heads (next_block p) is
   at_repeat h = record { has = h.has.1; size = omega (arith, h.size) }
 
-  pub at_return : {heads : List ℕ} {p : Place} {is : List CodeItem} (v : Option TypedRegister) → At blocks last end heads p (Return v ∷ is) → At blocks last end heads (next_block p) is
+  pub at_return : {heads : List ℕ} {p : CodePlace} {is : List CodeItem} (v : Option TypedRegister) → At blocks last end heads p (Return v ∷ is) → At blocks last end heads (next_block p) is
   at_return v h = record { has = h.has.1; size = omega (arith, h.size) }
 
   abbrev Left : (List CodeItem → List CodeItem) → Type 0
@@ -50,7 +50,7 @@ module _ (blocks : List (List VmInsn)) (last : ℕ) (end : List VmInsn) where
   left_jump : (name : ℕ) → Left (λ is. Jump name ∷ is)
   left_jump name heads rest h = record { place = _; at = at_jump blocks last end name h.at }
 
-  left_branch : (op : BranchOp) (ty : VmType) (source name : ℕ) → Left (λ is. Branch op ty source name ∷ is)
+  left_branch : (op : VmBranchOp) (ty : VmType) (source name : ℕ) → Left (λ is. Branch op ty source name ∷ is)
   left_branch op ty source name heads rest h = record { place = _; at = at_branch blocks last end op ty source name h.at }
 
   left_return : (v : Option TypedRegister) → Left (λ is. Return v ∷ is)

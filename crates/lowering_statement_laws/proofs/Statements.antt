@@ -12,12 +12,12 @@ use Rattle.c_typed_tree.specs.Expressions.{Expr, type_of}
 use Rattle.c_typed_tree.specs.Statements.{Stmt, Stmts, no_stmts, more_stmts, no_else, else_stmt}
 use Rattle.c_typed_tree.specs.Statements as q
 use Rattle.c_semantics.specs.Reasons.{UsesNoValue}
-use Rattle.c_semantics.specs.Runs.{State, Run, and_then, use_value, pure}
+use Rattle.c_semantics.specs.Runs.{CallState, Run, and_then, use_value, pure}
 use Rattle.c_semantics.specs.Objects.{Scope}
 use Rattle.c_semantics.specs.Operators.{test}
 use Rattle.c_semantics.specs.Evaluates.{eval, choose}
-use Rattle.c_semantics.specs.Executes.{Flow, Goes, Returns, and_next, exec, execs}
-use Rattle.suifvm_ir.specs.declared.insn.BranchOp.TheVariants.{IfFalse}
+use Rattle.c_semantics.specs.Executes.{StatementFlow, Goes, Returns, and_next, exec, execs}
+use Rattle.suifvm_ir.specs.declared.insn.VmBranchOp.TheVariants.{IfFalse}
 use Rattle.suifvm_ir.specs.declared.insn.TypedRegister.{TypedRegister}
 use Rattle.suifvm_ir.specs.declared.insn.VmInsn.TheVariants as n
 use Rattle.vm_meaning.specs.Operations as vm
@@ -28,8 +28,8 @@ use Rattle.lowering_code.specs.Items as items
 use Rattle.lowering_code.specs.Registers.{register_type, value_register}
 use Rattle.lowering_code.specs.Expressions.{plain_of, branch_code, expr_code}
 use Rattle.lowering_code.specs.Statements.{stmt_code, stmts_code}
-use Rattle.lowering_states.specs.Places.{Place, next_block, start_of_block}
-use Rattle.lowering_states.specs.Runs.{opens, Observation, finish}
+use Rattle.lowering_states.specs.Places.{CodePlace, next_block, start_of_block}
+use Rattle.lowering_states.specs.Runs.{opens, CodeObservation, finish}
 use Rattle.lowering_states.specs.States.{IsHeld, IsIn}
 use Rattle.lowering_states.proofs.Steps.{fall, jump, returning, used_meets}
 use Rattle.lowering_states.proofs.States.{after_same, after_on}
@@ -60,12 +60,12 @@ returnable f ty v w (inr t) held rel set =
     pointers (Address k) r x = (ap vm.is_set r.1, r)
     pointers Unset r x = absurd (cc)
 
-module _ (c : Setting) (found : slice_get c.functions c.number ≡ Some c.code) (again : Scope → Stmt → Run Flow) where
+module _ (c : Setting) (found : slice_get c.functions c.number ≡ Some c.code) (again : Scope → Stmt → Run StatementFlow) where
   abbrev L : ℕ
   L = count c
 
   -- what follows, from a later state
-  pub onward_on : {scope : Scope} {f g : Names} {s t : State} {m m1 : Memory} {K : Flow → State → Observation} {heads : List ℕ} {rest : List CodeItem} {brk con : ℕ} → Aft c f s m g t m1 → Onward c scope f s m K heads rest brk con → Onward c scope g t m1 K heads rest brk con
+  pub onward_on : {scope : Scope} {f g : Names} {s t : CallState} {m m1 : Memory} {K : StatementFlow → CallState → CodeObservation} {heads : List ℕ} {rest : List CodeItem} {brk con : ℕ} → Aft c f s m g t m1 → Onward c scope f s m K heads rest brk con → Onward c scope g t m1 K heads rest brk con
   onward_on x way = record {
     goes = λ q h u r n at a fit. way.goes q h u r n at (after_on x a) fit;
     breaks = λ h u r n a fit. way.breaks h u r n (after_on x a) fit;
@@ -74,8 +74,8 @@ module _ (c : Setting) (found : slice_get c.functions c.number ≡ Some c.code) 
   }
 
   -- the same with other code behind, which leads on
-  onward_to : {scope : Scope} {f : Names} {s : State} {m : Memory} {K : Flow → State → Observation} {heads : List ℕ} {rest rest1 : List CodeItem} {brk con : ℕ} → Onward c scope f s m K heads rest brk con
-      → ((q : Place) (g : Names) (t : State) (r : Registers) (n : Memory) → Stands c heads q rest1 → Aft c f s m g t n → Fit c g scope r t n → EndsSo c (K Goes t) q r t.world n) → Onward c scope f s m K heads rest1 brk con
+  onward_to : {scope : Scope} {f : Names} {s : CallState} {m : Memory} {K : StatementFlow → CallState → CodeObservation} {heads : List ℕ} {rest rest1 : List CodeItem} {brk con : ℕ} → Onward c scope f s m K heads rest brk con
+      → ((q : CodePlace) (g : Names) (t : CallState) (r : Registers) (n : Memory) → Stands c heads q rest1 → Aft c f s m g t n → Fit c g scope r t n → EndsSo c (K Goes t) q r t.world n) → Onward c scope f s m K heads rest1 brk con
   onward_to way on = record { goes = on; breaks = way.breaks; continues = way.continues; returns = way.returns }
 
   pub expressions : (x : Expr) → ExprMeets c x → StmtMeets c again (q.Expression x)
@@ -123,10 +123,10 @@ module _ (c : Setting) (found : slice_get c.functions c.number ≡ Some c.code) 
   }
 
   -- a test, and where it leads
-  module _ (x : Expr) (scalar : IsScalarType (type_of x)) (hx : ExprMeets c x) (name : ℕ) (holds_code : List CodeItem) (heads : List ℕ) (f : Names) (scope : Scope) (r : Registers) (s : State) (m : Memory) (K : Flow → State → Observation) (run : Bool → Run Flow)
-      (on_true : (q : Place) (g : Names) (t : State) (q1 : Registers) (m1 : Memory) → Stands c heads q holds_code → Aft c f s m g t m1 → Fit c g scope q1 t m1 → EndsSo c (finish (run true t) K) q q1 t.world m1)
-      (on_false : (q : Place) (g : Names) (t : State) (q1 : Registers) (m1 : Memory) → Stands c heads q holds_code → Aft c f s m g t m1 → Fit c g scope q1 t m1 → (block : ℕ) × ((block + name ≡ c.last) × EndsSo c (finish (run false t) K) (start_of_block block) q1 t.world m1)) where
-    test_leads : (p : Place) → Stands c heads p (expr_code L c.structs c.locals 0 x (branch_code L IfFalse 0 (type_of x) name holds_code)) → Fit c f scope r s m → s.world.meter.turns ≤ c.level
+  module _ (x : Expr) (scalar : IsScalarType (type_of x)) (hx : ExprMeets c x) (name : ℕ) (holds_code : List CodeItem) (heads : List ℕ) (f : Names) (scope : Scope) (r : Registers) (s : CallState) (m : Memory) (K : StatementFlow → CallState → CodeObservation) (run : Bool → Run StatementFlow)
+      (on_true : (q : CodePlace) (g : Names) (t : CallState) (q1 : Registers) (m1 : Memory) → Stands c heads q holds_code → Aft c f s m g t m1 → Fit c g scope q1 t m1 → EndsSo c (finish (run true t) K) q q1 t.world m1)
+      (on_false : (q : CodePlace) (g : Names) (t : CallState) (q1 : Registers) (m1 : Memory) → Stands c heads q holds_code → Aft c f s m g t m1 → Fit c g scope q1 t m1 → (block : ℕ) × ((block + name ≡ c.last) × EndsSo c (finish (run false t) K) (start_of_block block) q1 t.world m1)) where
+    test_leads : (p : CodePlace) → Stands c heads p (expr_code L c.structs c.locals 0 x (branch_code L IfFalse 0 (type_of x) name holds_code)) → Fit c f scope r s m → s.world.meter.turns ≤ c.level
         → EndsSo c (finish (and_then (and_then (eval c.structs c.locals c.calls scope x s) test) run) K) p r s.world m
     unfolding opens
     test_leads p at fit low =
@@ -136,7 +136,7 @@ module _ (c : Setting) (found : slice_get c.functions c.number ≡ Some c.code) 
         (λ q v g t q1 m1 at1 aft fit1 kept held stands.
         test_meets c found v t (λ k t1. finish (run k t1) K) _ (λ k is. by_test q g t q1 m1 v k at1 aft fit1 held stands is))))
       where
-        by_test : (q : Place) (g : Names) (t : State) (q1 : Registers) (m1 : Memory) (v : Value) (k : Bool) → Stands c heads q (branch_code L IfFalse 0 (type_of x) name holds_code) → Aft c f s m g t m1 → Fit c g scope q1 t m1
+        by_test : (q : CodePlace) (g : Names) (t : CallState) (q1 : Registers) (m1 : Memory) (v : Value) (k : Bool) → Stands c heads q (branch_code L IfFalse 0 (type_of x) name holds_code) → Aft c f s m g t m1 → Fit c g scope q1 t m1
             → IsHeld (type_of x) v → IsIn g (type_of x) v (q1 (value_register L 0 (type_of x))) → TestIs t.world.outer.memory v k → EndsSo c (finish (run k t) K) q q1 t.world m1
         by_test q g t q1 m1 v true at1 aft fit1 held stands is =
             passes c found IfFalse 0 (type_of x) scalar name holds_code heads q g scope q1 t m1 v true at1 fit1 held stands is refl

@@ -8,7 +8,7 @@ use Rattle.c_typed_tree.specs.Expressions.{Expr, type_of}
 use Rattle.c_typed_tree.specs.Statements.{Stmt, If, Break, Continue, Return, Expression, Empty, no_else, else_stmt, Stmts, no_stmts, more_stmts}
 use Rattle.c_semantics.specs.Runs.{Run}
 use Rattle.c_semantics.specs.Objects.{Scope}
-use Rattle.c_semantics.specs.Executes.{Flow}
+use Rattle.c_semantics.specs.Executes.{StatementFlow}
 use Rattle.lowering_code.specs.Statements.{stmt_code}
 use Rattle.lowering_expression_places.specs.Behind.{IsLeft}
 use Rattle.lowering_expression_laws.specs.Parts.{Setting, ExprMeets}
@@ -21,7 +21,7 @@ CodeIsLeft =
     (break_to continue_to : ℕ) (x : Stmt) → IsLeft blocks last end
     (λ is. stmt_code locals ds ls break_to continue_to x is)
 
-pub record Statements (c : Setting) (again : Scope → Stmt → Run Flow) : Type 0 where
+pub record Statements (c : Setting) (again : Scope → Stmt → Run StatementFlow) : Type 0 where
   pub expressions : (x : Expr) → ExprMeets c x → StmtMeets c again (Expression x)
   pub empty : StmtMeets c again Empty
   pub breaks : StmtMeets c again Break
@@ -40,4 +40,4 @@ pub record Statements (c : Setting) (again : Scope → Stmt → Run Flow) : Type
 
 abbrev pub StatementsMeet : Type 0
 StatementsMeet =
-    (c : Setting) (again : Scope → Stmt → Run Flow) → slice_get c.functions c.number ≡ Some c.code → Statements c again
+    (c : Setting) (again : Scope → Stmt → Run StatementFlow) → slice_get c.functions c.number ≡ Some c.code → Statements c again

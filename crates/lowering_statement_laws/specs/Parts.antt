@@ -11,13 +11,13 @@ use Rattle.vm_meaning.specs.Behave.{Registers}
 use Rattle.c_typed_tree.specs.Types.{PlainType, Void}
 use Rattle.c_typed_tree.specs.Statements.{Stmt, Declare, Stmts, no_stmts, more_stmts}
 use Rattle.c_typed_tree.specs.Declarations.{declarations}
-use Rattle.c_semantics.specs.Runs.{State, Run}
+use Rattle.c_semantics.specs.Runs.{CallState, Run}
 use Rattle.c_semantics.specs.Objects.{Scope}
-use Rattle.c_semantics.specs.Executes.{Flow, Goes, Breaks, Continues, Returns, exec, execs}
+use Rattle.c_semantics.specs.Executes.{StatementFlow, Goes, Breaks, Continues, Returns, exec, execs}
 use Rattle.lowering_code.specs.declared.item.CodeItem.{CodeItem}
 use Rattle.lowering_code.specs.Statements.{stmt_code, stmts_code}
-use Rattle.lowering_states.specs.Places.{Place, start_of_block}
-use Rattle.lowering_states.specs.Runs.{Observation, finish, Resumes}
+use Rattle.lowering_states.specs.Places.{CodePlace, start_of_block}
+use Rattle.lowering_states.specs.Runs.{CodeObservation, finish, Resumes}
 use Rattle.lowering_states.specs.States.{IsHeld}
 use Rattle.lowering_expression_laws.specs.Parts.{Setting, count, EndsSo, Stands, Fit, Aft}
 
@@ -53,30 +53,30 @@ module _ (c : Setting) where
       with_memory (with_meter w (leave_call c.rooms c.number w.meter)) (end_objects m c.own (length c.code.sizes))
 
   -- what follows a statement, by how it ends
-  pub record Onward (scope : Scope) (f : Names) (s : State) (n : Memory) (K : Flow → State → Observation)
+  pub record Onward (scope : Scope) (f : Names) (s : CallState) (n : Memory) (K : StatementFlow → CallState → CodeObservation)
       (heads : List ℕ) (rest : List CodeItem) (break_to continue_to : ℕ) : Type 0 where
-    pub goes : (q : Place) (g : Names) (t : State) (r : Registers) (m : Memory) → Stands c heads q rest
+    pub goes : (q : CodePlace) (g : Names) (t : CallState) (r : Registers) (m : Memory) → Stands c heads q rest
         → Aft c f s n g t m → Fit c g scope r t m → EndsSo c (K Goes t) q r t.world m
-    pub breaks : (g : Names) (t : State) (r : Registers) (m : Memory) → Aft c f s n g t m → Fit c g scope r t m
+    pub breaks : (g : Names) (t : CallState) (r : Registers) (m : Memory) → Aft c f s n g t m → Fit c g scope r t m
         → EndsSo c (K Breaks t) (start_of_block (c.last - break_to)) r t.world m
-    pub continues : (g : Names) (t : State) (r : Registers) (m : Memory) → Aft c f s n g t m → Fit c g scope r t m
+    pub continues : (g : Names) (t : CallState) (r : Registers) (m : Memory) → Aft c f s n g t m → Fit c g scope r t m
         → EndsSo c (K Continues t) (start_of_block (c.last - continue_to)) r t.world m
-    pub returns : (v : Option Value) (ws : List Value) (g : Names) (t : State) (r : Registers) (m : Memory)
+    pub returns : (v : Option Value) (ws : List Value) (g : Names) (t : CallState) (r : Registers) (m : Memory)
         → Aft c f s n g t m → Fit c g scope r t m → IsReturned c.result g v ws
         → Resumes c.rooms c.functions (K (Returns v) t) ws (world_left t.world m) c.waiting
 
   -- again is what a statement does one level down
-  module _ (again : Scope → Stmt → Run Flow) where
+  module _ (again : Scope → Stmt → Run StatementFlow) where
     pub record StmtMeets (x : Stmt) : Type 0 where
-      pub by : (break_to continue_to : ℕ) (rest : List CodeItem) (heads : List ℕ) (p : Place) (f : Names) (scope : Scope)
-          (r : Registers) (s : State) (n : Memory) (K : Flow → State → Observation) → IsApart scope x →
+      pub by : (break_to continue_to : ℕ) (rest : List CodeItem) (heads : List ℕ) (p : CodePlace) (f : Names) (scope : Scope)
+          (r : Registers) (s : CallState) (n : Memory) (K : StatementFlow → CallState → CodeObservation) → IsApart scope x →
           Stands c heads p (stmt_code (count c) c.structs c.locals break_to continue_to x rest) → Fit c f scope r s n
           → s.world.meter.turns ≤ c.level → Onward scope f s n K heads rest break_to continue_to
           → EndsSo c (finish (exec c.structs c.locals c.calls again scope x s) K) p r s.world n
 
     pub record StmtsMeet (xs : Stmts) : Type 0 where
-      pub by : (break_to continue_to : ℕ) (rest : List CodeItem) (heads : List ℕ) (p : Place) (f : Names) (scope : Scope)
-          (r : Registers) (s : State) (n : Memory) (K : Flow → State → Observation) → AreApart scope xs →
+      pub by : (break_to continue_to : ℕ) (rest : List CodeItem) (heads : List ℕ) (p : CodePlace) (f : Names) (scope : Scope)
+          (r : Registers) (s : CallState) (n : Memory) (K : StatementFlow → CallState → CodeObservation) → AreApart scope xs →
           Stands c heads p (stmts_code (count c) c.structs c.locals break_to continue_to xs rest) → Fit c f scope r s n
           → s.world.meter.turns ≤ c.level → Onward scope f s n K heads rest break_to continue_to
           → EndsSo c (finish (execs c.structs c.locals c.calls again scope xs s) K) p r s.world n

@@ -9,11 +9,11 @@ use Rattle.c_typed_tree.specs.View.{expr_view, local_view, stmt_view}
 use Rattle.c_typed_tree.specs.model.View.{stmts_view}
 use Rattle.c_typed_tree.specs.model.Lists.{sections_view}
 use Rattle.c_typed_tree.proofs.Views.{view_block, view_switch}
-use Rattle.suifvm_ir.specs.declared.insn.BranchOp.TheVariants.{IfFalse}
+use Rattle.suifvm_ir.specs.declared.insn.VmBranchOp.TheVariants.{IfFalse}
 use Rattle.c_typed_tree.specs.Expressions.{Expr, type_of}
 use Rattle.lowering_code.specs.declared.item.CodeItem.{CodeItem}
 use Rattle.lowering_code.specs.Expressions.{branch_code}
-use Rattle.lowering_expressions.specs.declared.scope.Scope.{Scope}
+use Rattle.lowering_expressions.specs.declared.scope.LoweringScope.{LoweringScope}
 use Rattle.lowering_expressions.specs.Scopes.{expr_code}
 use Rattle.lowering_statements.specs.Scopes.{stmt_code, else_code, else_name}
 use Rattle.lowering_statements.specs.Levels.{declared_levels, locals_levels, stmt_levels, stmts_levels, sections_levels}
@@ -42,7 +42,7 @@ pub switch_is : (v : s.TStmt) (x : TExpr) (xs ys : List TSection) → v ≡ s.Sw
 switch_is v x xs ys h same = ap stmt_view h ∙ view_switch x xs ∙ ap (λ l. q.Switch (expr_view x) (sections_view l)) (sym same)
 
 -- an `if` with its second branch, or without
-pub if_code : (s : Scope) (brk con : ℕ) (x : Expr) (y : q.Stmt) (h : q.Else) (rest : List CodeItem)
+pub if_code : (s : LoweringScope) (brk con : ℕ) (x : Expr) (y : q.Stmt) (h : q.Else) (rest : List CodeItem)
     → stmt_code s brk con (q.If x y h) rest ≡ expr_code s 0 x (branch_code s.registers.locals IfFalse 0 (type_of x) (else_name s brk con h rest) (stmt_code s brk con y (else_code s brk con h rest)))
 if_code s brk con x y q.no_else rest = refl
 if_code s brk con x y (q.else_stmt z) rest = refl

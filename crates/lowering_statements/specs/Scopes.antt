@@ -11,82 +11,82 @@ use Rattle.lowering_code.specs.Registers.{value_register, address_register}
 use Rattle.lowering_code.specs.Expressions.{store_code}
 use Rattle.lowering_code.specs.Items.{count}
 use Rattle.lowering_code.specs.Statements as code
-use Rattle.lowering_expressions.specs.declared.scope.Scope.{Scope}
+use Rattle.lowering_expressions.specs.declared.scope.LoweringScope.{LoweringScope}
 use Rattle.lowering_expressions.specs.Scopes.{local_address}
-use Rattle.lowering_statements.specs.declared.labels.Target.{Target}
+use Rattle.lowering_statements.specs.declared.labels.LabelTarget.{LabelTarget}
 
 -- ---- labels
 
-abbrev pub target_view : Target → code.Target
+abbrev pub target_view : LabelTarget → code.Target
 target_view t = record { label = t.label; name = t.name }
 
-abbrev pub label_code : Scope → PlainType → TLabel → (name : ℕ) → List CodeItem → List CodeItem
+abbrev pub label_code : LoweringScope → PlainType → TLabel → (name : ℕ) → List CodeItem → List CodeItem
 label_code s ty label name rest = code.label_code s.registers.locals s.structs.now s.locals.now ty label name rest
 
-abbrev pub labels_code : Scope → PlainType → List Target → List CodeItem → List CodeItem
+abbrev pub labels_code : LoweringScope → PlainType → List LabelTarget → List CodeItem → List CodeItem
 labels_code s ty targets rest =
     code.labels_code s.registers.locals s.structs.now s.locals.now ty (map target_view targets) rest
 
-abbrev pub default_name : (otherwise : ℕ) → List Target → ℕ
+abbrev pub default_name : (otherwise : ℕ) → List LabelTarget → ℕ
 default_name otherwise targets = code.default_name otherwise (map target_view targets)
 
 -- ---- values
 
-abbrev pub put_code : Scope → PlainType → (local : ℕ) → List CodeItem → List CodeItem
+abbrev pub put_code : LoweringScope → PlainType → (local : ℕ) → List CodeItem → List CodeItem
 put_code s ty k rest = code.put_code s.registers.locals s.structs.now s.locals.now ty k rest
 
 -- of a scalar
-abbrev pub put_scalar_code : Scope → PlainType → (local : ℕ) → List CodeItem → List CodeItem
+abbrev pub put_scalar_code : LoweringScope → PlainType → (local : ℕ) → List CodeItem → List CodeItem
 put_scalar_code s ty k rest =
     local_address s 1 k 0
     (store_code ty (address_register s.registers.locals 1) 0 (value_register s.registers.locals 0 ty) rest)
 
-abbrev pub put_local_code : Scope → (local : ℕ) → Option Local → List CodeItem → List CodeItem
+abbrev pub put_local_code : LoweringScope → (local : ℕ) → Option Local → List CodeItem → List CodeItem
 put_local_code s k l rest = code.put_local_code s.registers.locals s.structs.now s.locals.now k l rest
 
-abbrev pub initialise_code : Scope → (local : ℕ) → Option Expr → List CodeItem → List CodeItem
+abbrev pub initialise_code : LoweringScope → (local : ℕ) → Option Expr → List CodeItem → List CodeItem
 initialise_code s k x rest = code.initialise_code s.registers.locals s.structs.now s.locals.now k x rest
 
-abbrev pub declare_code : Scope → LocalDeclaration → List CodeItem → List CodeItem
+abbrev pub declare_code : LoweringScope → LocalDeclaration → List CodeItem → List CodeItem
 declare_code s d rest = code.declare_code s.registers.locals s.structs.now s.locals.now d rest
 
-abbrev pub declares_code : Scope → List LocalDeclaration → List CodeItem → List CodeItem
+abbrev pub declares_code : LoweringScope → List LocalDeclaration → List CodeItem → List CodeItem
 declares_code s ds rest = code.declares_code s.registers.locals s.structs.now s.locals.now ds rest
 
-abbrev pub first_code : Scope → First → List CodeItem → List CodeItem
+abbrev pub first_code : LoweringScope → First → List CodeItem → List CodeItem
 first_code s first rest = code.first_code s.registers.locals s.structs.now s.locals.now first rest
 
-abbrev pub again_code : Scope → Expr → List CodeItem → List CodeItem
+abbrev pub again_code : LoweringScope → Expr → List CodeItem → List CodeItem
 again_code s x rest = code.again_code s.registers.locals s.structs.now s.locals.now x rest
 
-abbrev pub test_code : Scope → Option Expr → List CodeItem → List CodeItem
+abbrev pub test_code : LoweringScope → Option Expr → List CodeItem → List CodeItem
 test_code s x rest = code.test_code s.registers.locals s.structs.now s.locals.now x rest
 
-abbrev pub after_code : Scope → Option Expr → List CodeItem → List CodeItem
+abbrev pub after_code : LoweringScope → Option Expr → List CodeItem → List CodeItem
 after_code s x rest = code.after_code s.registers.locals s.structs.now s.locals.now x rest
 
-abbrev pub return_code : Scope → Option Expr → List CodeItem → List CodeItem
+abbrev pub return_code : LoweringScope → Option Expr → List CodeItem → List CodeItem
 return_code s x rest = code.return_code s.registers.locals s.structs.now s.locals.now x rest
 
 -- ---- statements
 
-abbrev pub stmt_code : Scope → (break_to continue_to : ℕ) → Stmt → List CodeItem → List CodeItem
+abbrev pub stmt_code : LoweringScope → (break_to continue_to : ℕ) → Stmt → List CodeItem → List CodeItem
 stmt_code s brk con x rest = code.stmt_code s.registers.locals s.structs.now s.locals.now brk con x rest
 
-abbrev pub stmts_code : Scope → (break_to continue_to : ℕ) → Stmts → List CodeItem → List CodeItem
+abbrev pub stmts_code : LoweringScope → (break_to continue_to : ℕ) → Stmts → List CodeItem → List CodeItem
 stmts_code s brk con xs rest = code.stmts_code s.registers.locals s.structs.now s.locals.now brk con xs rest
 
-abbrev pub sections_code : Scope → (break_to continue_to : ℕ) → Sections → List CodeItem → List CodeItem
+abbrev pub sections_code : LoweringScope → (break_to continue_to : ℕ) → Sections → List CodeItem → List CodeItem
 sections_code s brk con xs rest = code.sections_code s.registers.locals s.structs.now s.locals.now brk con xs rest
 
-abbrev pub targets_of : Scope → (break_to continue_to : ℕ) → Sections → List CodeItem → List code.Target
+abbrev pub targets_of : LoweringScope → (break_to continue_to : ℕ) → Sections → List CodeItem → List code.Target
 targets_of s brk con xs rest = code.targets_of s.registers.locals s.structs.now s.locals.now brk con xs rest
 
 -- what stands behind the first branch of an `if`, and where it goes if its condition is zero
-abbrev pub else_code : Scope → (break_to continue_to : ℕ) → Else → List CodeItem → List CodeItem
+abbrev pub else_code : LoweringScope → (break_to continue_to : ℕ) → Else → List CodeItem → List CodeItem
 else_code s brk con no_else rest = Start ∷ rest
 else_code s brk con (else_stmt x) rest = Jump (count rest) ∷ stmt_code s brk con x (Start ∷ rest)
 
-abbrev pub else_name : Scope → (break_to continue_to : ℕ) → Else → List CodeItem → ℕ
+abbrev pub else_name : LoweringScope → (break_to continue_to : ℕ) → Else → List CodeItem → ℕ
 else_name s brk con no_else rest = count rest
 else_name s brk con (else_stmt x) rest = count (stmt_code s brk con x (Start ∷ rest))

@@ -7,16 +7,16 @@ ghost use Rattle.lowering_expressions.specs.Scopes.{HasLevels};
 ghost use Rattle.lowering_statements.specs.Scopes.{label_code, labels_code, default_name};
 
 use c_typed_tree::{CType, TLabel};
-use lowering_emitter::code::Code;
+use lowering_emitter::code::EmittedCode;
 use lowering_emitter::registers::register_type;
-use lowering_expressions::Scope;
+use lowering_expressions::LoweringScope;
 use std::alloc::AllocError;
-use suifvm_ir::insn::{BranchOp, CompareOp, VmInsn};
+use suifvm_ir::insn::{CompareOp, VmBranchOp, VmInsn};
 use suifvm_ir::types::VmType;
 
 /// A label with the name of its block.
 #[derive(Clone, Copy, Debug, PartialEq, Eq)]
-pub struct Target {
+pub struct LabelTarget {
     pub label: TLabel,
     pub name: usize,
 }
@@ -31,7 +31,7 @@ fn name_if_default(label: TLabel, name: usize, otherwise: usize) -> usize
 }
 
 /// The name of the block where a `switch` goes that has no label of its value: that of its `default`, or another one.
-pub fn default_name(otherwise: usize, targets: &[Target]) -> usize
+pub fn default_name(otherwise: usize, targets: &[LabelTarget]) -> usize
     ensures { result ≡ default_name otherwise targets.now }
 {
     let mut name = otherwise;
@@ -46,8 +46,8 @@ pub fn default_name(otherwise: usize, targets: &[Target]) -> usize
 /// The value at the lowest depth is compared with that of a label.
 #[tactic(auto, unfolding(c_typed_tree::specs::model::View::opens))]
 fn label(
-    code: &mut Code,
-    scope: &Scope<'_>,
+    code: &mut EmittedCode,
+    scope: &LoweringScope<'_>,
     ty: &CType,
     label: TLabel,
     name: usize,
@@ -63,7 +63,7 @@ fn label(
                 bytes: 4,
                 signed: true,
             };
-            code.branch_by(BranchOp::IfTrue, r, 1, &int, name)?;
+            code.branch_by(VmBranchOp::IfTrue, r, 1, &int, name)?;
             code.plain(VmInsn::Compare {
                 op: CompareOp::Equal,
                 ty: register_type(ty),
@@ -78,10 +78,10 @@ fn label(
 
 /// The value at the lowest depth is compared with that of each label, in order. It fails only where memory is short.
 pub fn labels(
-    code: &mut Code,
-    scope: &Scope<'_>,
+    code: &mut EmittedCode,
+    scope: &LoweringScope<'_>,
     ty: &CType,
-    targets: &[Target],
+    targets: &[LabelTarget],
 ) -> Result<(), AllocError>
     requires { HasLevels scope.now 0 5 }
     ensures { OnOk result (code.new ≡ labels_code scope.now (type_view ty.now) targets.now code.old) }

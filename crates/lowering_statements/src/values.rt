@@ -9,15 +9,20 @@ ghost use Rattle.lowering_statements.specs.Scopes.{put_code, put_scalar_code, pu
 
 use c_tree::Box;
 use c_typed_tree::{CType, TExpr, TFirst, TLocal};
-use lowering_emitter::code::Code;
+use lowering_emitter::code::EmittedCode;
 use lowering_emitter::registers::register_type;
-use lowering_expressions::{Scope, expr, local_place};
+use lowering_expressions::{LoweringScope, expr, local_place};
 use std::alloc::{AllocError, Global};
 use suifvm_ir::insn::TypedRegister;
 
 /// The value at the lowest depth comes into a memory local; a struct is copied.
 #[tactic(auto, unfolding(c_typed_tree::specs::model::View::opens))]
-fn put(code: &mut Code, scope: &Scope<'_>, ty: &CType, number: u32) -> Result<(), AllocError>
+fn put(
+    code: &mut EmittedCode,
+    scope: &LoweringScope<'_>,
+    ty: &CType,
+    number: u32,
+) -> Result<(), AllocError>
     requires { HasLevels scope.now 0 5 }
     ensures { OnOk result (code.new ≡ put_code scope.now (type_view ty.now) number code.old) }
 {
@@ -34,7 +39,12 @@ fn put(code: &mut Code, scope: &Scope<'_>, ty: &CType, number: u32) -> Result<()
     }
 }
 
-fn put_scalar(code: &mut Code, scope: &Scope<'_>, ty: &CType, number: u32) -> Result<(), AllocError>
+fn put_scalar(
+    code: &mut EmittedCode,
+    scope: &LoweringScope<'_>,
+    ty: &CType,
+    number: u32,
+) -> Result<(), AllocError>
     requires { HasLevels scope.now 0 5 }
     ensures { OnOk result (code.new ≡ put_scalar_code scope.now (type_view ty.now) number code.old) }
 {
@@ -44,7 +54,11 @@ fn put_scalar(code: &mut Code, scope: &Scope<'_>, ty: &CType, number: u32) -> Re
 }
 
 /// The value at the lowest depth comes into a local.
-fn put_local(code: &mut Code, scope: &Scope<'_>, number: u32) -> Result<(), AllocError>
+fn put_local(
+    code: &mut EmittedCode,
+    scope: &LoweringScope<'_>,
+    number: u32,
+) -> Result<(), AllocError>
     requires { HasLevels scope.now 0 5 }
     ensures { OnOk result (code.new ≡
         put_local_code scope.now number (slice_get scope.now.locals.now number) code.old) }
@@ -64,8 +78,8 @@ fn put_local(code: &mut Code, scope: &Scope<'_>, number: u32) -> Result<(), Allo
 /// The code of an initialiser. It fails only where memory is short.
 fn initialise(
     alloc: Global,
-    code: &mut Code,
-    scope: &Scope<'_>,
+    code: &mut EmittedCode,
+    scope: &LoweringScope<'_>,
     number: u32,
     init: &Option<Box<TExpr>>,
 ) -> Result<(), AllocError>
@@ -85,8 +99,8 @@ fn initialise(
 /// The code of the declaration of a local. It fails only where memory is short.
 pub fn declare(
     alloc: Global,
-    code: &mut Code,
-    scope: &Scope<'_>,
+    code: &mut EmittedCode,
+    scope: &LoweringScope<'_>,
     local: &TLocal,
 ) -> Result<(), AllocError>
     requires own { HasLevels scope.now 0 5 }
@@ -99,8 +113,8 @@ pub fn declare(
 /// The code of declarations.
 fn declares(
     alloc: Global,
-    code: &mut Code,
-    scope: &Scope<'_>,
+    code: &mut EmittedCode,
+    scope: &LoweringScope<'_>,
     list: &[TLocal],
 ) -> Result<(), AllocError>
     requires own { HasLevels scope.now 0 5 }
@@ -118,8 +132,8 @@ fn declares(
 /// The code of the first part of a `for`. It fails only where memory is short.
 pub fn first(
     alloc: Global,
-    code: &mut Code,
-    scope: &Scope<'_>,
+    code: &mut EmittedCode,
+    scope: &LoweringScope<'_>,
     first: &TFirst,
 ) -> Result<(), AllocError>
     requires own { HasLevels scope.now 0 5 }
@@ -134,7 +148,12 @@ pub fn first(
 }
 
 /// The test at the end of a loop. It fails only where memory is short.
-pub fn again(alloc: Global, code: &mut Code, scope: &Scope<'_>, e: &TExpr) -> Result<(), AllocError>
+pub fn again(
+    alloc: Global,
+    code: &mut EmittedCode,
+    scope: &LoweringScope<'_>,
+    e: &TExpr,
+) -> Result<(), AllocError>
     requires own { HasLevels scope.now 0 5 }
     requires value { HasLevels scope.now 0 (levels (expr_view e.now)) }
     ensures { OnOk result (code.new ≡ again_code scope.now (expr_view e.now) code.old) }
@@ -147,8 +166,8 @@ pub fn again(alloc: Global, code: &mut Code, scope: &Scope<'_>, e: &TExpr) -> Re
 /// The test at the end of a `for`, which may be missing. It fails only where memory is short.
 pub fn test(
     alloc: Global,
-    code: &mut Code,
-    scope: &Scope<'_>,
+    code: &mut EmittedCode,
+    scope: &LoweringScope<'_>,
     condition: &Option<Box<TExpr>>,
 ) -> Result<(), AllocError>
     requires own { HasLevels scope.now 0 5 }
@@ -164,8 +183,8 @@ pub fn test(
 /// The step of a `for`, which may be missing. It fails only where memory is short.
 pub fn after(
     alloc: Global,
-    code: &mut Code,
-    scope: &Scope<'_>,
+    code: &mut EmittedCode,
+    scope: &LoweringScope<'_>,
     step: &Option<Box<TExpr>>,
 ) -> Result<(), AllocError>
     requires own { HasLevels scope.now 0 5 }
@@ -184,8 +203,8 @@ pub fn after(
 /// The end of the call, with a value or without. It fails only where memory is short.
 pub fn give(
     alloc: Global,
-    code: &mut Code,
-    scope: &Scope<'_>,
+    code: &mut EmittedCode,
+    scope: &LoweringScope<'_>,
     value: &Option<Box<TExpr>>,
 ) -> Result<(), AllocError>
     requires own { HasLevels scope.now 0 5 }

@@ -8,14 +8,14 @@ ghost use Rattle.lowering_expressions.specs.Scopes.{HasLevels};
 ghost use Rattle.lowering_statements.specs.Levels.{stmt_levels, else_levels, stmts_levels, sections_levels};
 ghost use Rattle.lowering_statements.specs.Scopes.{target_view, stmt_code, else_code, else_name, stmts_code, sections_code, targets_of};
 
-use crate::labels::{Target, default_name, labels};
+use crate::labels::{LabelTarget, default_name, labels};
 use crate::values::{after, again, declare, first, give, test};
 use c_tree::Box;
 use c_typed_tree::{TSection, TStmt};
-use lowering_emitter::code::Code;
-use lowering_expressions::{Scope, expr};
+use lowering_emitter::code::EmittedCode;
+use lowering_expressions::{LoweringScope, expr};
 use std::alloc::{AllocError, Global};
-use suifvm_ir::insn::BranchOp;
+use suifvm_ir::insn::VmBranchOp;
 
 /// The code of a statement in front of the code so far. A `break` in it goes to the block with the one name, and a
 /// `continue` to that with the other one. It fails only where memory is short.
@@ -23,8 +23,8 @@ use suifvm_ir::insn::BranchOp;
 #[tactic(auto, using(crate::proofs::Lists::if_code), unfolding(c_typed_tree::specs::model::View::opens))]
 pub fn stmt(
     alloc: Global,
-    code: &mut Code,
-    scope: &Scope<'_>,
+    code: &mut EmittedCode,
+    scope: &LoweringScope<'_>,
     break_to: usize,
     continue_to: usize,
     s: &TStmt,
@@ -44,7 +44,13 @@ pub fn stmt(
         } => {
             let name = branch(alloc, code, scope, break_to, continue_to, otherwise)?;
             stmt(alloc, code, scope, break_to, continue_to, then)?;
-            code.branch_by(BranchOp::IfFalse, scope.registers, 0, condition.ty(), name)?;
+            code.branch_by(
+                VmBranchOp::IfFalse,
+                scope.registers,
+                0,
+                condition.ty(),
+                name,
+            )?;
             expr(alloc, code, scope, 0, condition)
         }
         TStmt::While { condition, body } => {
@@ -102,8 +108,8 @@ pub fn stmt(
 #[tactic(auto, unfolding(c_typed_tree::specs::model::View::opens))]
 fn branch(
     alloc: Global,
-    code: &mut Code,
-    scope: &Scope<'_>,
+    code: &mut EmittedCode,
+    scope: &LoweringScope<'_>,
     break_to: usize,
     continue_to: usize,
     otherwise: &Option<Box<TStmt>>,
@@ -132,8 +138,8 @@ fn branch(
 #[tactic(auto, unfolding(c_typed_tree::specs::model::View::opens))]
 fn stmts(
     alloc: Global,
-    code: &mut Code,
-    scope: &Scope<'_>,
+    code: &mut EmittedCode,
+    scope: &LoweringScope<'_>,
     break_to: usize,
     continue_to: usize,
     list: &[TStmt],
@@ -154,12 +160,12 @@ fn stmts(
 #[tactic(auto, unfolding(c_typed_tree::specs::model::View::opens))]
 fn bodies(
     alloc: Global,
-    code: &mut Code,
-    scope: &Scope<'_>,
+    code: &mut EmittedCode,
+    scope: &LoweringScope<'_>,
     break_to: usize,
     continue_to: usize,
     list: &[TSection],
-) -> Result<Vec<Target>, AllocError>
+) -> Result<Vec<LabelTarget>, AllocError>
     requires { HasLevels scope.now 0 (max 5 (sections_levels (sections_view list.now))) }
     ensures code { OnOk result (code.new ≡
         sections_code scope.now break_to continue_to (sections_view list.now) code.old) }
@@ -178,7 +184,7 @@ fn bodies(
             continue_to,
             list[i].statements.as_slice(),
         )?;
-        found.push(Target {
+        found.push(LabelTarget {
             label: list[i].label,
             name: code.name(),
         })?;

@@ -3,14 +3,14 @@ use Rattle.std.proofs.Common.{◌≡◌, ◌<◌, ℕ, suc, List, [], ◌∷◌,
 use Rattle.std.specs.Prelude.{slice_get}
 use Rattle.std.proofs.Math.Seq.{get_or-append_seam}
 use Rattle.std.proofs.lemmas.Option.{slice_get-get_or, slice_get_past}
-use Rattle.suifvm_ir.specs.declared.insn.BranchOp.TheVariants.{IfTrue}
+use Rattle.suifvm_ir.specs.declared.insn.VmBranchOp.TheVariants.{IfTrue}
 use Rattle.suifvm_ir.specs.declared.insn.VmInsn.{VmInsn}
 use Rattle.suifvm_ir.specs.declared.insn.VmInsn.TheVariants as n
 use Rattle.lowering_code.specs.declared.item.CodeItem.{CodeItem}
 use Rattle.lowering_code.specs.declared.item.CodeItem.TheVariants.{Start, Plain, Jump, Branch, Loop, Enter, Again, Repeat, Return}
 use Rattle.lowering_code.specs.Items.{count}
 use Rattle.lowering_code.specs.Layout.{Layout, with_insn, end_block, end_with, open_loop, close_loop, block_with, head_of, outer_heads, with_item, with_items, no_block, blocks_of}
-use Rattle.lowering_states.specs.Places.{Place, next_place, start_of_block, in_block, stands_at, HasInsns, HasItems}
+use Rattle.lowering_states.specs.Places.{CodePlace, next_place, start_of_block, in_block, stands_at, HasInsns, HasItems}
 use Rattle.lowering_states.specs.Laws.{BlocksHaveItems}
 
 seam : {A : Type 0} (a : List A) (x : A) (b : List A) → slice_get (a ++ x ∷ b) (length a) ≡ Some x
@@ -66,7 +66,7 @@ stood : (end : List VmInsn) (is : List CodeItem) (l : Layout) (w : List (List Vm
 stood end is l w e = subst (Stands l) e (stands end is l)
 
 -- where the next instruction will stand
-abbrev place_of : Layout → Place
+abbrev place_of : Layout → CodePlace
 place_of l = record { block = length l.blocks; at = length l.insns }
 
 at_in : (w : List (List VmInsn)) (l : Layout) (k : ℕ) (h : Stands l w) → stands_at w (record { block = length l.blocks; at = k }) ≡ Some (slice_get (l.insns ++ h.more) k)
@@ -100,7 +100,7 @@ has_end w last end blocks front (i ∷ back) e =
     (here, subst (λ k. HasInsns w last end (record { block = length blocks; at = k }) back) (one_more front i) next)
 
 module _ (end : List VmInsn) (w : List (List VmInsn)) where
-  abbrev Has : Layout → (heads : List ℕ) → Place → List CodeItem → Type 0
+  abbrev Has : Layout → (heads : List ℕ) → CodePlace → List CodeItem → Type 0
   Has l heads p is = HasItems w l.last end heads p is
 
   on_block : (l : Layout) (heads : List ℕ) (is : List CodeItem) (xs : List (List VmInsn)) (x : List VmInsn) → Has l heads (start_of_block (length (xs ++ x ∷ []))) is → Has l heads (start_of_block (suc (length xs))) is

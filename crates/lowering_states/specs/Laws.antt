@@ -18,8 +18,8 @@ use Rattle.c_semantics.specs.Objects.{Scope}
 use Rattle.lowering_code.specs.declared.item.CodeItem.{CodeItem}
 use Rattle.lowering_code.specs.Items.{count}
 use Rattle.lowering_code.specs.Layout.{blocks_of}
-use Rattle.lowering_states.specs.Places.{Place, At, stands_at, next_place, next_block, start_of_block}
-use Rattle.lowering_states.specs.Runs.{Observation, Meets, config}
+use Rattle.lowering_states.specs.Places.{CodePlace, At, stands_at, next_place, next_block, start_of_block}
+use Rattle.lowering_states.specs.Runs.{CodeObservation, Meets, config}
 use Rattle.lowering_states.specs.States.{IsHeld, type_at, Fits, After}
 
 -- the blocks of items have these
@@ -30,13 +30,13 @@ BlocksHaveItems = (end : List VmInsn) (is : List CodeItem)
 -- within a call of a function whose code is there
 module _ (rooms : Rooms) (functions : List FunctionCode) (i own : ℕ) (code : FunctionCode)
     (waiting : List (Frame Registers)) where
-  abbrev pub EndsSo : Observation → Place → Registers → World → Memory → Type 0
+  abbrev pub EndsSo : CodeObservation → CodePlace → Registers → World → Memory → Type 0
   EndsSo o p r w m = Meets rooms functions o (config i own waiting p r w m)
 
   -- an instruction that writes values leads to the place behind it
   abbrev pub InsnLeads : Type 0
   InsnLeads =
-      (insn : VmInsn) (p : Place) (r : Registers) (w : World) (m m1 : Memory) (vs : List Value) (o : Observation) →
+      (insn : VmInsn) (p : CodePlace) (r : Registers) (w : World) (m m1 : Memory) (vs : List Value) (o : CodeObservation) →
       stands_at code.blocks p ≡ Some (Some insn) → takes_turn insn ≡ false →
       does insn own (map r (reads_of insn)) (outer_with_memory w.outer m) ≡ Writes vs (outer_with_memory w.outer m1) →
       EndsSo o (next_place p) (set_registers (writes_of insn) vs r) w m1 → EndsSo o p r w m
@@ -44,12 +44,12 @@ module _ (rooms : Rooms) (functions : List FunctionCode) (i own : ℕ) (code : F
   -- a jump leads to its block, and the end of a block to the next one
   abbrev pub JumpLeads : Type 0
   JumpLeads =
-      (block : ℕ) (p : Place) (r : Registers) (w : World) (m : Memory) (o : Observation) →
+      (block : ℕ) (p : CodePlace) (r : Registers) (w : World) (m : Memory) (o : CodeObservation) →
       stands_at code.blocks p ≡ Some (Some (n.Jump block)) → EndsSo o (start_of_block block) r w m → EndsSo o p r w m
 
   abbrev pub EndLeads : Type 0
   EndLeads =
-      (p : Place) (r : Registers) (w : World) (m : Memory) (o : Observation) → stands_at code.blocks p ≡ Some None →
+      (p : CodePlace) (r : Registers) (w : World) (m : Memory) (o : CodeObservation) → stands_at code.blocks p ≡ Some None →
       EndsSo o (next_block p) r w m → EndsSo o p r w m
 
 pub record PlacesLead (rooms : Rooms) (functions : List FunctionCode) (i own : ℕ) (code : FunctionCode)

@@ -7,9 +7,9 @@ use Rattle.mem_model.specs.Ending.{Ending, Done, Trap, Undefined, More, Evaluati
 use Rattle.machine_model.specs.Machine as machine
 use Rattle.machine_model.specs.Machine.{Frame, Config, Next, Goes, Over, go_on, exec}
 use Rattle.vm_meaning.specs.Behave.{FunctionCode, Registers, vm_code}
-use Rattle.c_semantics.specs.Runs.{State, ◌>>=◌, pure, undefined, trap, exit, no_turn, turn, on_memory, set_memory, read_register, write_register}
+use Rattle.c_semantics.specs.Runs.{CallState, ◌>>=◌, pure, undefined, trap, exit, no_turn, turn, on_memory, set_memory, read_register, write_register}
 use Rattle.c_semantics.specs.Evaluates.{put, get}
-use Rattle.lowering_states.specs.Places.{Place}
+use Rattle.lowering_states.specs.Places.{CodePlace}
 
 -- opens the runs of the C meaning
 unfoldable pub opens : Unit {0}
@@ -34,25 +34,25 @@ view w = record {
 }
 
 -- a run ended with a status, by a trap or for want of a turn; it is not defined, or not over
-pub data Observation : Type 0 where
-  ObservesDone : View → (status : ℕ) → Observation
-  ObservesTrap : View → (code : ℕ) → Observation
-  ObservesMore : View → Observation
-  NotDefined : Observation
-  NotOver : Observation
+pub data CodeObservation : Type 0 where
+  ObservesDone : View → (status : ℕ) → CodeObservation
+  ObservesTrap : View → (code : ℕ) → CodeObservation
+  ObservesMore : View → CodeObservation
+  NotDefined : CodeObservation
+  NotOver : CodeObservation
 
-abbrev pub observation_of : Ending → Observation
+abbrev pub observation_of : Ending → CodeObservation
 observation_of (Done w status) = ObservesDone (view w) status
 observation_of (Trap w code) = ObservesTrap (view w) code
 observation_of (Undefined w at) = NotDefined
 observation_of (More w) = ObservesMore (view w)
 
-abbrev pub observation : Next Registers → Observation
+abbrev pub observation : Next Registers → CodeObservation
 observation (Goes k) = NotOver
 observation (Over e) = observation_of e
 
 -- what a part of a program gives, handed to what follows it
-abbrev pub finish : {A : Type 0} → Evaluation A State → (A → State → Observation) → Observation
+abbrev pub finish : {A : Type 0} → Evaluation A CallState → (A → CallState → CodeObservation) → CodeObservation
 finish (Gives a s) K = K a s
 finish (Ends e) K = observation_of e
 
@@ -62,19 +62,19 @@ module _ (rooms : Rooms) (functions : List FunctionCode) where
   run steps k = exec Value Registers rooms (vm_code functions) steps k
 
   -- the run from a configuration is seen to end so, where that is defined
-  pub record Meets (o : Observation) (k : Config Registers) : Type 0 where
+  pub record Meets (o : CodeObservation) (k : Config Registers) : Type 0 where
     pub by : o ≢ NotDefined → (steps : ℕ) × (observation (run steps k) ≡ o)
 
   -- the same where a call returns values to those that wait, with this instruction's number
   abbrev pub resumes : (at : ℕ) → List Value → World → List (Frame Registers) → Next Registers
   resumes at vs w frames = machine.return_to Value Registers rooms (vm_code functions) at vs w frames
 
-  pub record Resumes (o : Observation) (vs : List Value) (w : World) (frames : List (Frame Registers)) : Type 0 where
+  pub record Resumes (o : CodeObservation) (vs : List Value) (w : World) (frames : List (Frame Registers)) : Type 0 where
     pub by : o ≢ NotDefined → (at : ℕ) → (steps : ℕ) × (observation (go_on (resumes at vs w frames) (run steps)) ≡ o)
 
 -- a call of a function at a place, with the memory of the code in the place of that of the C meaning
-abbrev pub frame_of : (function own : ℕ) → Place → Registers → Frame Registers
+abbrev pub frame_of : (function own : ℕ) → CodePlace → Registers → Frame Registers
 frame_of i own p r = record { point = record { function = i; block = p.block; at = p.at }; own = own; store = r }
 
-abbrev pub config : (function own : ℕ) → List (Frame Registers) → Place → Registers → World → Memory → Config Registers
+abbrev pub config : (function own : ℕ) → List (Frame Registers) → CodePlace → Registers → World → Memory → Config Registers
 config i own waiting p r w n = record { here = frame_of i own p r; callers = waiting; world = with_memory w n }

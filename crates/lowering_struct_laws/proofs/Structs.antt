@@ -9,7 +9,7 @@ use Rattle.mem_model.proofs.RelatedRows.{values_stay}
 use Rattle.c_tree.specs.declared.expressions.AssignOp.TheVariants as a
 use Rattle.c_typed_tree.specs.Types.{PlainType, Void, Pointer, Array, Struct}
 use Rattle.c_typed_tree.specs.Expressions.{Expr, Assign, Cast, Convert, type_of}
-use Rattle.c_semantics.specs.Runs.{State, Run, and_then, pure}
+use Rattle.c_semantics.specs.Runs.{CallState, Run, and_then, pure}
 use Rattle.c_semantics.specs.Objects as obj
 use Rattle.c_semantics.specs.Objects.{Scope, pointer_to, write_at}
 use Rattle.c_semantics.specs.Evaluates.{eval, place, assign, converted_from}
@@ -18,8 +18,8 @@ use Rattle.vm_meaning.specs.Behave.{Registers}
 use Rattle.lowering_code.specs.declared.item.CodeItem.{CodeItem}
 use Rattle.lowering_code.specs.Registers.{value_register, address_register}
 use Rattle.lowering_code.specs.Expressions.{moved_code, copy_code, register_of, assign_code, conversion_code, expr_code, place_code}
-use Rattle.lowering_states.specs.Places.{Place, next_place}
-use Rattle.lowering_states.specs.Runs.{opens, Observation, finish}
+use Rattle.lowering_states.specs.Places.{CodePlace, next_place}
+use Rattle.lowering_states.specs.Runs.{opens, CodeObservation, finish}
 use Rattle.lowering_states.specs.States.{IsHeld, IsIn}
 use Rattle.lowering_states.proofs.Steps.{meets_same}
 use Rattle.lowering_states.proofs.States.{kept_on, kept_reads, after_on}
@@ -50,7 +50,7 @@ module _ (c : Setting) (found : slice_get c.functions c.number ≡ Some c.code) 
 
   module _ (target element : PlainType) (n : ℕ) (x : Expr) (ex : type_of x ≡ Array element n) (hx : PlaceMeets c x) where
     -- the pointer to the place of an array
-    array_leads : (d : ℕ) (rest : List CodeItem) (heads : List ℕ) (p1 : Place) (f : Names) (scope : Scope) (r : Registers) (s : State) (m : Memory) (K : Value → State → Observation)
+    array_leads : (d : ℕ) (rest : List CodeItem) (heads : List ℕ) (p1 : CodePlace) (f : Names) (scope : Scope) (r : Registers) (s : CallState) (m : Memory) (K : Value → CallState → CodeObservation)
         → Stands c heads p1 (conversion_code L c.structs c.locals d (type_of x) (Pointer target) (left_of c x 0) (λ is. place_code L c.structs c.locals d x 0 is) (λ is. expr_code L c.structs c.locals d x is) rest) → Fit c f scope r s m → s.world.meter.turns ≤ c.level
         → Follows c d (Pointer target) heads rest f scope r s m K
         → EndsSo c (finish (converted_from (type_of x) (Pointer target) (eval c.structs c.locals c.calls scope x) (place c.structs c.locals c.calls scope x) s) K) p1 r s.world m
@@ -83,7 +83,7 @@ module _ (c : Setting) (found : slice_get c.functions c.number ≡ Some c.code) 
         let tail : List CodeItem = copy_code c.structs (address_register L d) (address_register L (suc d)) ty rest in
         let code_e =
         ap (λ z. assign_code L c.structs c.locals d None ty (type_of y) left z (λ is. place_code L c.structs c.locals d x 0 is) (λ j is. expr_code L c.structs c.locals j y is) rest) none in
-        let run : obj.Place → Run Value = λ z t. and_then (eval c.structs c.locals c.calls scope y t) (assign c.structs ty (type_of y) None z) in
+        let run : obj.ValuePlace → Run Value = λ z t. and_then (eval c.structs c.locals c.calls scope y t) (assign c.structs ty (type_of y) None z) in
         bound c found (place c.structs c.locals c.calls scope x s) run K p1 r s.world m
         (hx.by d 0 (moved_code L d left (expr_code L c.structs c.locals (suc d) y tail)) heads p1 f scope r s m (λ z t. finish (run z t) K) (omega arith) (omega arith) (subst (λ z. Stands c heads p1 z) code_e at) fit low
         (λ q base to g t q1 m1 at1 aft fit1 kept held stands small is_base.

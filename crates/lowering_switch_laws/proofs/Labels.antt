@@ -15,10 +15,10 @@ use Rattle.c_arithmetic.specs.Operations.{truth, is_equal}
 use Rattle.c_tree.specs.declared.expressions.BinaryOp.TheVariants as b
 use Rattle.c_typed_tree.specs.declared.statements.TLabel.{TLabel}
 use Rattle.c_typed_tree.specs.declared.statements.TLabel.TheVariants.{Case, Default}
-use Rattle.c_semantics.specs.Runs.{State}
+use Rattle.c_semantics.specs.Runs.{CallState}
 use Rattle.c_semantics.specs.Objects.{Scope}
 use Rattle.suifvm_ir.specs.declared.types.VmType.TheVariants.{S32}
-use Rattle.suifvm_ir.specs.declared.insn.BranchOp.TheVariants.{IfTrue}
+use Rattle.suifvm_ir.specs.declared.insn.VmBranchOp.TheVariants.{IfTrue}
 use Rattle.suifvm_ir.specs.declared.insn.CompareOp.TheVariants.{Equal}
 use Rattle.suifvm_ir.specs.declared.insn.VmInsn.TheVariants as n
 use Rattle.vm_meaning.specs.declared.answer.Answer.TheVariants.{Gives, Fails}
@@ -29,8 +29,8 @@ use Rattle.lowering_code.specs.declared.item.CodeItem.{CodeItem}
 use Rattle.lowering_code.specs.Registers.{register_type, temporary, value_register}
 use Rattle.lowering_code.specs.Expressions.{plain_of, branch_code}
 use Rattle.lowering_code.specs.Statements.{Target, label_code, labels_code}
-use Rattle.lowering_states.specs.Places.{Place, next_place, next_block, start_of_block}
-use Rattle.lowering_states.specs.Runs.{Observation}
+use Rattle.lowering_states.specs.Places.{CodePlace, next_place, next_block, start_of_block}
+use Rattle.lowering_states.specs.Runs.{CodeObservation}
 use Rattle.lowering_states.proofs.Steps.{branch_taken, branch_passed}
 use Rattle.lowering_states.proofs.States.{set_same, set_other, other_depth, fits_temporary}
 use Rattle.lowering_values.proofs.Operators.{operators_correspond}
@@ -82,7 +82,7 @@ abbrev pub AreLabelsOf : IntegerType → List Target → Type 0
 AreLabelsOf t [] = Unit {0}
 AreLabelsOf t (l ∷ ls) = IsLabelOf t l.label × AreLabelsOf t ls
 
-module _ (c : Setting) (found : slice_get c.functions c.number ≡ Some c.code) (t : IntegerType) (pt : promote t ≡ t) (k : ℕ) (word : is_word t k ≡ true) (rest : List CodeItem) (heads : List ℕ) (f : Names) (scope : Scope) (s : State) (m : Memory) where
+module _ (c : Setting) (found : slice_get c.functions c.number ≡ Some c.code) (t : IntegerType) (pt : promote t ≡ t) (k : ℕ) (word : is_word t k ≡ true) (rest : List CodeItem) (heads : List ℕ) (f : Names) (scope : Scope) (s : CallState) (m : Memory) where
   abbrev L : ℕ
   L = count c
 
@@ -95,9 +95,9 @@ module _ (c : Setting) (found : slice_get c.functions c.number ≡ Some c.code) 
     pub stands : r value ≡ Word k
 
   -- the branch behind a comparison
-  tested : {o : Observation} (x : Bool) (label_word name : ℕ) (tail : List CodeItem) (q : Place) (r : Registers) → (k == label_word) ≡ x → Holds r → vm.value_holds m (register_type (plain_of i.Int)) (r (temporary L 1 S32)) ≡ Some x → Stands c heads q (branch_code L IfTrue 1 (plain_of i.Int) name tail)
+  tested : {o : CodeObservation} (x : Bool) (label_word name : ℕ) (tail : List CodeItem) (q : CodePlace) (r : Registers) → (k == label_word) ≡ x → Holds r → vm.value_holds m (register_type (plain_of i.Int)) (r (temporary L 1 S32)) ≡ Some x → Stands c heads q (branch_code L IfTrue 1 (plain_of i.Int) name tail)
       → ((k == label_word) ≡ true → (q1 : Registers) → Holds q1 → EndsSo c o (start_of_block (c.last - name)) q1 s.world m)
-      → ((k == label_word) ≡ false → (p : Place) (q1 : Registers) → Stands c heads p tail → Holds q1 → EndsSo c o p q1 s.world m) → EndsSo c o q r s.world m
+      → ((k == label_word) ≡ false → (p : CodePlace) (q1 : Registers) → Stands c heads p tail → Holds q1 → EndsSo c o p q1 s.world m) → EndsSo c o q r s.world m
   tested true label_word name tail q r e h holds at hit miss =
       branch_taken c.rooms c.functions c.number c.code found c.own c.waiting IfTrue (register_type (plain_of i.Int)) (temporary L 1 S32) (c.last - name) true q r s.world m at.has.0 holds refl (hit e r h)
   tested false label_word name tail q r e h holds at hit miss =
@@ -105,9 +105,9 @@ module _ (c : Setting) (found : slice_get c.functions c.number ≡ Some c.code) 
       (miss e (next_block q) r (at_branch c.code.blocks c.last c.end IfTrue _ _ _ at) h)
 
   -- a comparison leads to the block of its label, or on
-  case_leads : {o : Observation} (label_word name : ℕ) → is_word t label_word ≡ true → (tail : List CodeItem) (q : Place) (r : Registers) → Stands c heads q (label_code L c.structs c.locals (plain_of t) (Case label_word) name tail) → Holds r
+  case_leads : {o : CodeObservation} (label_word name : ℕ) → is_word t label_word ≡ true → (tail : List CodeItem) (q : CodePlace) (r : Registers) → Stands c heads q (label_code L c.structs c.locals (plain_of t) (Case label_word) name tail) → Holds r
       → (hit : (k == label_word) ≡ true → (q1 : Registers) → Holds q1 → EndsSo c o (start_of_block (c.last - name)) q1 s.world m)
-      → (miss : (k == label_word) ≡ false → (p : Place) (q1 : Registers) → Stands c heads p tail → Holds q1 → EndsSo c o p q1 s.world m) → EndsSo c o q r s.world m
+      → (miss : (k == label_word) ≡ false → (p : CodePlace) (q1 : Registers) → Stands c heads p tail → Holds q1 → EndsSo c o p q1 s.world m) → EndsSo c o q r s.world m
   case_leads label_word name is tail q r at h hit miss =
       let ty = register_type (plain_of t) in
       let above : ℕ = value_register L 1 (plain_of t) in
@@ -129,14 +129,14 @@ module _ (c : Setting) (found : slice_get c.functions c.number ≡ Some c.code) 
       (tested (k == label_word) label_word name tail (next_place (next_place q)) r2 refl (record { fit = fit2; stands = low2 }) holds at2 hit miss))
 
   -- what the comparisons with labels lead to
-  abbrev Leads : Observation → List Target → Type 0
+  abbrev Leads : CodeObservation → List Target → Type 0
   Leads o ts =
-      (q : Place) (r : Registers) → Stands c heads q (labels_code L c.structs c.locals (plain_of t) ts rest) → Holds r → ((name : ℕ) → case_of k ts ≡ Some name → (q1 : Registers) → Holds q1 → EndsSo c o (start_of_block (c.last - name)) q1 s.world m)
-      → (case_of k ts ≡ None → (p : Place) (q1 : Registers) → Stands c heads p rest → Holds q1 → EndsSo c o p q1 s.world m) → EndsSo c o q r s.world m
+      (q : CodePlace) (r : Registers) → Stands c heads q (labels_code L c.structs c.locals (plain_of t) ts rest) → Holds r → ((name : ℕ) → case_of k ts ≡ Some name → (q1 : Registers) → Holds q1 → EndsSo c o (start_of_block (c.last - name)) q1 s.world m)
+      → (case_of k ts ≡ None → (p : CodePlace) (q1 : Registers) → Stands c heads p rest → Holds q1 → EndsSo c o p q1 s.world m) → EndsSo c o q r s.world m
 
-  one_label : {o : Observation} (label : TLabel) (name : ℕ) (ls : List Target) → IsLabelOf t label → Leads o ls → (q : Place) (r : Registers) → Stands c heads q (label_code L c.structs c.locals (plain_of t) label name (labels_code L c.structs c.locals (plain_of t) ls rest)) → Holds r
+  one_label : {o : CodeObservation} (label : TLabel) (name : ℕ) (ls : List Target) → IsLabelOf t label → Leads o ls → (q : CodePlace) (r : Registers) → Stands c heads q (label_code L c.structs c.locals (plain_of t) label name (labels_code L c.structs c.locals (plain_of t) ls rest)) → Holds r
       → ((found : ℕ) → case_in k label name (case_of k ls) ≡ Some found → (q1 : Registers) → Holds q1 → EndsSo c o (start_of_block (c.last - found)) q1 s.world m)
-      → (case_in k label name (case_of k ls) ≡ None → (p : Place) (q1 : Registers) → Stands c heads p rest → Holds q1 → EndsSo c o p q1 s.world m) → EndsSo c o q r s.world m
+      → (case_in k label name (case_of k ls) ≡ None → (p : CodePlace) (q1 : Registers) → Stands c heads p rest → Holds q1 → EndsSo c o p q1 s.world m) → EndsSo c o q r s.world m
   one_label Default name ls is others q r at h hit miss = others q r at h hit miss
   one_label (Case word1) name ls is others q r at h hit miss =
       case_leads word1 name is (labels_code L c.structs c.locals (plain_of t) ls rest) q r at h
@@ -144,6 +144,6 @@ module _ (c : Setting) (found : slice_get c.functions c.number ≡ Some c.code) 
       (λ e p1 q1 at1 h1. others p1 q1 at1 h1 (λ found1 e1. hit found1 (ap (λ x. if x then Some name else case_of k ls) e ∙ e1)) (λ e1. miss (ap (λ x. if x then Some name else case_of k ls) e ∙ e1)))
 
   -- the comparisons with all labels, one behind the other
-  pub labels_lead : {o : Observation} (ts : List Target) → AreLabelsOf t ts → Leads o ts
+  pub labels_lead : {o : CodeObservation} (ts : List Target) → AreLabelsOf t ts → Leads o ts
   labels_lead [] are q r at h hit miss = miss refl q r at h
   labels_lead (l ∷ ls) are q r at h hit miss = one_label l.label l.name ls are.0 (labels_lead ls are.1) q r at h hit miss

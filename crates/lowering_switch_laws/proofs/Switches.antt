@@ -8,18 +8,18 @@ use Rattle.c_arithmetic.specs.IntegerTypes.{promote}
 use Rattle.c_typed_tree.specs.Expressions.{Expr, type_of}
 use Rattle.c_typed_tree.specs.Statements.{Stmt, Switch, Stmts, no_stmts, more_stmts, Sections, no_sections, more_sections}
 use Rattle.c_typed_tree.specs.Declarations.{sections_declarations, stmts_declarations}
-use Rattle.c_semantics.specs.Runs.{State, Run, and_then, number}
+use Rattle.c_semantics.specs.Runs.{CallState, Run, and_then, number}
 use Rattle.c_semantics.specs.Objects.{Scope}
 use Rattle.c_semantics.specs.Evaluates.{eval}
-use Rattle.c_semantics.specs.Executes.{Flow, and_next, after_switch, is_label_of, target_in, execs, exec_sections, exec_from}
+use Rattle.c_semantics.specs.Executes.{StatementFlow, and_next, after_switch, is_label_of, target_in, execs, exec_sections, exec_from}
 use Rattle.vm_meaning.specs.Behave.{Registers}
 use Rattle.lowering_code.specs.declared.item.CodeItem.{CodeItem}
 use Rattle.lowering_code.specs.declared.item.CodeItem.TheVariants.{Start, Jump}
 use Rattle.lowering_code.specs.Items as items
 use Rattle.lowering_code.specs.Expressions.{plain_of}
 use Rattle.lowering_code.specs.Statements.{default_name, labels_code, stmts_code, sections_code, targets_of}
-use Rattle.lowering_states.specs.Places.{Place, next_block, start_of_block}
-use Rattle.lowering_states.specs.Runs.{opens, Observation, finish}
+use Rattle.lowering_states.specs.Places.{CodePlace, next_block, start_of_block}
+use Rattle.lowering_states.specs.Runs.{opens, CodeObservation, finish}
 use Rattle.lowering_states.proofs.Steps.{fall, jump, number_meets}
 use Rattle.lowering_states.proofs.States.{after_same}
 use Rattle.lowering_expression_places.specs.Behind.{Somewhere}
@@ -43,7 +43,7 @@ inner_all : (k : ℕ) (ss : Stmts) → inner_of_all k ss ≤ stmts_declarations 
 inner_all k no_stmts = omega arith
 inner_all k (more_stmts s ss) = let h = inner_all k ss in let least = inner_least k s in omega (arith, h, least)
 
-module _ (c : Setting) (found : slice_get c.functions c.number ≡ Some c.code) (again : Scope → Stmt → Run Flow) (t : IntegerType) (con : ℕ) (rest : List CodeItem) (heads : List ℕ) where
+module _ (c : Setting) (found : slice_get c.functions c.number ≡ Some c.code) (again : Scope → Stmt → Run StatementFlow) (t : IntegerType) (con : ℕ) (rest : List CodeItem) (heads : List ℕ) where
   abbrev L : ℕ
   L = count c
 
@@ -56,7 +56,7 @@ module _ (c : Setting) (found : slice_get c.functions c.number ≡ Some c.code) 
   abbrev from : Stmts → Sections → List CodeItem
   from ss sections = stmts_code L c.structs c.locals brk con ss (code sections)
 
-  abbrev run_all : Scope → Sections → Run Flow
+  abbrev run_all : Scope → Sections → Run StatementFlow
   run_all scope sections = exec_sections c.structs c.locals c.calls again scope sections
 
   first_apart : (scope : Scope) (ss : Stmts) (k : ℕ) (lt : 0 < inner_of_all k ss) → (0 < stmts_declarations k ss → scope k ≡ None) → scope k ≡ None
@@ -64,9 +64,9 @@ module _ (c : Setting) (found : slice_get c.functions c.number ≡ Some c.code) 
 
   -- the statements of a section, and the sections behind them
   section_leads : (ss : Stmts) (sections : Sections) → StmtsMeet c again ss
-      → ((p : Place) (g : Names) (scope : Scope) (r : Registers) (u : State) (n : Memory) (K : Flow → State → Observation) → SectionsApart scope sections → Stands c heads p (code sections) → Fit c g scope r u n → u.world.meter.turns ≤ c.level → Onward c scope g u n K heads (Start ∷ rest) brk con
+      → ((p : CodePlace) (g : Names) (scope : Scope) (r : Registers) (u : CallState) (n : Memory) (K : StatementFlow → CallState → CodeObservation) → SectionsApart scope sections → Stands c heads p (code sections) → Fit c g scope r u n → u.world.meter.turns ≤ c.level → Onward c scope g u n K heads (Start ∷ rest) brk con
       → EndsSo c (finish (run_all scope sections u) K) p r u.world n)
-      → (p : Place) (f : Names) (scope : Scope) (r : Registers) (s : State) (m : Memory) (K : Flow → State → Observation) → AreApart scope ss → SectionsApart scope sections → Stands c heads p (from ss sections) → Fit c f scope r s m → s.world.meter.turns ≤ c.level → Onward c scope f s m K heads (Start ∷ rest) brk con
+      → (p : CodePlace) (f : Names) (scope : Scope) (r : Registers) (s : CallState) (m : Memory) (K : StatementFlow → CallState → CodeObservation) → AreApart scope ss → SectionsApart scope sections → Stands c heads p (from ss sections) → Fit c f scope r s m → s.world.meter.turns ≤ c.level → Onward c scope f s m K heads (Start ∷ rest) brk con
       → EndsSo c (finish (and_then (execs c.structs c.locals c.calls again scope ss s) (and_next (run_all scope sections))) K) p r s.world m
   unfolding opens
   section_leads ss sections hss others p f scope r s m K apart behind at fit low way =
@@ -80,7 +80,7 @@ module _ (c : Setting) (found : slice_get c.functions c.number ≡ Some c.code) 
       }))
 
   -- the sections, one behind the other
-  sections_lead : (sections : Sections) → SectionsMeet c again t sections → (p : Place) (f : Names) (scope : Scope) (r : Registers) (s : State) (m : Memory) (K : Flow → State → Observation) → SectionsApart scope sections → Stands c heads p (code sections) → Fit c f scope r s m
+  sections_lead : (sections : Sections) → SectionsMeet c again t sections → (p : CodePlace) (f : Names) (scope : Scope) (r : Registers) (s : CallState) (m : Memory) (K : StatementFlow → CallState → CodeObservation) → SectionsApart scope sections → Stands c heads p (code sections) → Fit c f scope r s m
       → s.world.meter.turns ≤ c.level → Onward c scope f s m K heads (Start ∷ rest) brk con → EndsSo c (finish (run_all scope sections s) K) p r s.world m
   unfolding opens
   sections_lead no_sections h p f scope r s m K apart at fit low way = way.goes p f s r m at after_same fit
@@ -89,7 +89,7 @@ module _ (c : Setting) (found : slice_get c.functions c.number ≡ Some c.code) 
       (section_leads ss sections h.1 (sections_lead sections h.2) (next_block p) f scope r s m K (λ k lt. first_apart scope ss k lt (λ some. apart k (omega (arith, some)))) (λ k lt. apart k (omega (arith, lt))) (at_start c.code.blocks c.last c.end at) fit low way)
 
   -- the sections from the one with a label on
-  from_leads : (sections : Sections) → SectionsMeet c again t sections → (target : Option ℕ) (p : Place) → Stands c heads p (code sections) → (f : Names) (scope : Scope) (r : Registers) (s : State) (m : Memory) (K : Flow → State → Observation) → SectionsApart scope sections → Fit c f scope r s m
+  from_leads : (sections : Sections) → SectionsMeet c again t sections → (target : Option ℕ) (p : CodePlace) → Stands c heads p (code sections) → (f : Names) (scope : Scope) (r : Registers) (s : CallState) (m : Memory) (K : StatementFlow → CallState → CodeObservation) → SectionsApart scope sections → Fit c f scope r s m
       → s.world.meter.turns ≤ c.level → Onward c scope f s m K heads rest brk con
       → EndsSo c (finish (exec_from c.structs c.locals c.calls again scope target sections s) K) (start_of_block (c.last - section_name L c.structs c.locals brk con (Start ∷ rest) target brk sections)) r s.world m
   unfolding opens
@@ -116,7 +116,7 @@ module _ (c : Setting) (found : slice_get c.functions c.number ≡ Some c.code) 
       by_label : (x : Bool)
           → EndsSo c (finish (exec_from c.structs c.locals c.calls again scope target sections s) K) (start_of_block (c.last - section_name L c.structs c.locals brk con (Start ∷ rest) target brk sections)) r s.world m
           → EndsSo c
-          (finish (if◌then◌else◌ {A = Run Flow} x (λ s1. and_then (execs c.structs c.locals c.calls again scope ss s1) (and_next (run_all scope sections))) (exec_from c.structs c.locals c.calls again scope target sections) s) K)
+          (finish (if◌then◌else◌ {A = Run StatementFlow} x (λ s1. and_then (execs c.structs c.locals c.calls again scope ss s1) (and_next (run_all scope sections))) (exec_from c.structs c.locals c.calls again scope target sections) s) K)
           (start_of_block (c.last - (if x then items.count (from ss sections) else section_name L c.structs c.locals brk con (Start ∷ rest) target brk sections))) r s.world m
       by_label true next =
           at_block c found r s.world m (suc p.block) (c.last - items.count (from ss sections)) (let size = there.size in omega (arith, size))
@@ -124,13 +124,13 @@ module _ (c : Setting) (found : slice_get c.functions c.number ≡ Some c.code) 
       by_label false next = next
 
 -- the labels of sections
-labels_of : (c : Setting) (again : Scope → Stmt → Run Flow) (t : IntegerType) (brk con : ℕ) (sections : Sections) (rest : List CodeItem) → SectionsMeet c again t sections → AreLabelsOf t (targets_of (count c) c.structs c.locals brk con sections rest)
+labels_of : (c : Setting) (again : Scope → Stmt → Run StatementFlow) (t : IntegerType) (brk con : ℕ) (sections : Sections) (rest : List CodeItem) → SectionsMeet c again t sections → AreLabelsOf t (targets_of (count c) c.structs c.locals brk con sections rest)
 labels_of c again t brk con no_sections rest h = tt
 labels_of c again t brk con (more_sections label ss sections) rest h = (h.0, labels_of c again t brk con sections rest h.2)
 
-module _ (c : Setting) (found : slice_get c.functions c.number ≡ Some c.code) (again : Scope → Stmt → Run Flow) (t : IntegerType) (x : Expr) (sections : Sections) (pt : promote t ≡ t) (ex : type_of x ≡ plain_of t) (hx : ExprMeets c x) (hs : SectionsMeet c again t sections) where
+module _ (c : Setting) (found : slice_get c.functions c.number ≡ Some c.code) (again : Scope → Stmt → Run StatementFlow) (t : IntegerType) (x : Expr) (sections : Sections) (pt : promote t ≡ t) (ex : type_of x ≡ plain_of t) (hx : ExprMeets c x) (hs : SectionsMeet c again t sections) where
   -- behind a `switch` a `break` goes on
-  behind_switch : {scope : Scope} {f : Names} {s : State} {m : Memory} {K : Flow → State → Observation} {heads : List ℕ} {rest : List CodeItem} {brk con : ℕ} (block : ℕ) → Stands c heads (start_of_block block) rest → Onward c scope f s m K heads rest brk con
+  behind_switch : {scope : Scope} {f : Names} {s : CallState} {m : Memory} {K : StatementFlow → CallState → CodeObservation} {heads : List ℕ} {rest : List CodeItem} {brk con : ℕ} (block : ℕ) → Stands c heads (start_of_block block) rest → Onward c scope f s m K heads rest brk con
       → Onward c scope f s m (λ z u. finish (after_switch z u) K) heads rest (items.count rest) con
   unfolding opens
   behind_switch {rest = rest} block at way = record {
@@ -141,7 +141,7 @@ module _ (c : Setting) (found : slice_get c.functions c.number ≡ Some c.code) 
   }
 
   -- behind all sections a block begins with what comes behind
-  block_behind : (con : ℕ) (rest : List CodeItem) (heads : List ℕ) (ss : Sections) (p : Place) → Stands c heads p (sections_code (count c) c.structs c.locals (items.count rest) con ss (Start ∷ rest)) → (block : ℕ) × Stands c heads (start_of_block block) rest
+  block_behind : (con : ℕ) (rest : List CodeItem) (heads : List ℕ) (ss : Sections) (p : CodePlace) → Stands c heads p (sections_code (count c) c.structs c.locals (items.count rest) con ss (Start ∷ rest)) → (block : ℕ) × Stands c heads (start_of_block block) rest
   block_behind con rest heads no_sections p at = (suc p.block, at_start c.code.blocks c.last c.end at)
   block_behind con rest heads (more_sections label ss others) p at =
       let behind : Somewhere c.code.blocks c.last c.end heads (sections_code (count c) c.structs c.locals (items.count rest) con others (Start ∷ rest)) =
@@ -155,8 +155,8 @@ module _ (c : Setting) (found : slice_get c.functions c.number ≡ Some c.code) 
         let bodies = sections_code (count c) c.structs c.locals (items.count rest) con sections (Start ∷ rest) in
         let targets = targets_of (count c) c.structs c.locals (items.count rest) con sections (Start ∷ rest) in
         let tail : List CodeItem = Jump (default_name (items.count rest) targets) ∷ bodies in
-        let chosen : ℕ → Run Flow = (λ k. exec_from c.structs c.locals c.calls again scope (target_in k sections) sections) in
-        let K1 : Flow → State → Observation = (λ z u. finish (after_switch z u) K) in
+        let chosen : ℕ → Run StatementFlow = (λ k. exec_from c.structs c.locals c.calls again scope (target_in k sections) sections) in
+        let K1 : StatementFlow → CallState → CodeObservation = (λ z u. finish (after_switch z u) K) in
         bound c found (and_then (and_then (eval c.structs c.locals c.calls scope x s) number) chosen) after_switch K p r s.world m
         (bound c found (and_then (eval c.structs c.locals c.calls scope x s) number) chosen K1 p r s.world m
         (bound c found (eval c.structs c.locals c.calls scope x s) number (λ k u. finish (chosen k u) K1) p r s.world m

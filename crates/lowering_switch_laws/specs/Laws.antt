@@ -10,7 +10,7 @@ use Rattle.c_typed_tree.specs.Expressions.{Expr, type_of}
 use Rattle.c_typed_tree.specs.Statements.{Stmt, Switch, Sections, no_sections, more_sections}
 use Rattle.c_semantics.specs.Runs.{Run}
 use Rattle.c_semantics.specs.Objects.{Scope}
-use Rattle.c_semantics.specs.Executes.{Flow}
+use Rattle.c_semantics.specs.Executes.{StatementFlow}
 use Rattle.lowering_code.specs.Expressions.{plain_of}
 use Rattle.lowering_expression_laws.specs.Parts.{Setting, ExprMeets}
 use Rattle.lowering_statement_laws.specs.Parts.{StmtMeets, StmtsMeet}
@@ -21,13 +21,13 @@ IsLabelOf t (Case word) = is_word t word ≡ true
 IsLabelOf t Default = Unit {0}
 
 -- the code of the statements of each section does what they do
-abbrev pub SectionsMeet : (c : Setting) → (Scope → Stmt → Run Flow) → IntegerType → Sections → Type 0
+abbrev pub SectionsMeet : (c : Setting) → (Scope → Stmt → Run StatementFlow) → IntegerType → Sections → Type 0
 SectionsMeet c again t no_sections = Unit {0}
 SectionsMeet c again t (more_sections label ss rest) =
     IsLabelOf t label × StmtsMeet c again ss × SectionsMeet c again t rest
 
 abbrev pub SwitchesMeet : Type 0
 SwitchesMeet =
-    (c : Setting) (again : Scope → Stmt → Run Flow) → slice_get c.functions c.number ≡ Some c.code →
+    (c : Setting) (again : Scope → Stmt → Run StatementFlow) → slice_get c.functions c.number ≡ Some c.code →
     (t : IntegerType) (x : Expr) (sections : Sections) → promote t ≡ t → type_of x ≡ plain_of t → ExprMeets c x →
     SectionsMeet c again t sections → StmtMeets c again (Switch x sections)

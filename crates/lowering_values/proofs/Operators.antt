@@ -17,9 +17,9 @@ use Rattle.c_arithmetic.proofs.LowBits.{extension-below, narrow}
 use Rattle.c_arithmetic.proofs.Fits.{fits-wide}
 use Rattle.c_arithmetic.proofs.Values.{word-value}
 use Rattle.c_tree.specs.declared.expressions.BinaryOp.TheVariants as b
-use Rattle.suifvm_ir.specs.declared.insn.UnaryOp as vu
-use Rattle.suifvm_ir.specs.declared.insn.BinaryOp as vb
-use Rattle.suifvm_ir.specs.declared.insn.BinaryOp.TheVariants.{Add, Subtract, Multiply, Divide, Remainder, And, Or, ExclusiveOr}
+use Rattle.suifvm_ir.specs.declared.insn.VmUnaryOp as vu
+use Rattle.suifvm_ir.specs.declared.insn.VmBinaryOp as vb
+use Rattle.suifvm_ir.specs.declared.insn.VmBinaryOp.TheVariants.{Add, Subtract, Multiply, Divide, Remainder, And, Or, ExclusiveOr}
 use Rattle.suifvm_ir.specs.declared.insn.ShiftOp.{ShiftOp}
 use Rattle.suifvm_ir.specs.declared.insn.ShiftOp.TheVariants.{Left}
 use Rattle.suifvm_ir.specs.declared.insn.CompareOp.{CompareOp}
@@ -46,7 +46,7 @@ on_number_is t n f w = ap (λ x. if x then f t n else Fails) w
 pub on_numbers_is : (t : IntegerType) (x y : ℕ) (f : IntegerType → ℕ → ℕ → Answer) → is_word t x ≡ true → is_word t y ≡ true → vm.on_numbers (Some t) (Word x) (Word y) f ≡ f t x y
 on_numbers_is t x y f wx wy = on_number_is t x (λ u k. vm.on_number (Some t) (Word y) (λ u1 j. f u k j)) wx ∙ on_number_is t y (λ u j. f t x j) wy
 
-pub binary_is : (t : IntegerType) (m : Memory) (op : vb.BinaryOp) (x y : ℕ) → promote t ≡ t → is_word t x ≡ true → is_word t y ≡ true
+pub binary_is : (t : IntegerType) (m : Memory) (op : vb.VmBinaryOp) (x y : ℕ) → promote t ≡ t → is_word t x ≡ true → is_word t y ≡ true
     → vm.binary_answer m op (register_type (plain_of t)) (Word x) (Word y) ≡ vm.binary_number op t x y
 binary_is Char m op x y p wx wy = absurd (cc)
 binary_is UnsignedChar m op x y p wx wy = absurd (cc)
@@ -68,7 +68,7 @@ compare_is UnsignedInt m op x y p wx wy = on_numbers_is UnsignedInt x y (vm.comp
 compare_is Long m op x y p wx wy = on_numbers_is Long x y (vm.comparison_answer op) wx wy
 compare_is UnsignedLong m op x y p wx wy = on_numbers_is UnsignedLong x y (vm.comparison_answer op) wx wy
 
-pub unary_is : (t : IntegerType) (op : vu.UnaryOp) (x : ℕ) → is_word t x ≡ true → vm.unary_answer op (register_type (plain_of t)) (Word x) ≡ vm.unary_number op (promote t) x
+pub unary_is : (t : IntegerType) (op : vu.VmUnaryOp) (x : ℕ) → is_word t x ≡ true → vm.unary_answer op (register_type (plain_of t)) (Word x) ≡ vm.unary_number op (promote t) x
 unary_is Char op x w = on_number_is (promote Char) x (vm.unary_number op) (word_true (promote Char) x (promoted_word Char x w))
 unary_is UnsignedChar op x w = on_number_is (promote UnsignedChar) x (vm.unary_number op) (word_true (promote UnsignedChar) x (promoted_word UnsignedChar x w))
 unary_is Short op x w = on_number_is (promote Short) x (vm.unary_number op) (word_true (promote Short) x (promoted_word Short x w))
@@ -147,7 +147,7 @@ counts t c y w f none ne = by_count (shift_count t c y) refl ne
 -- ---- instructions
 
 module _ (t c : IntegerType) (own : ℕ) (r : Registers) (u : Outer) (left right x y : ℕ) (p : promote t ≡ t) (el : r left ≡ Word x) (er : r right ≡ Word y) (wx : is_word t x ≡ true) (wy : is_word c y ≡ true) where
-  calculates : (op : vb.BinaryOp) → c ≡ t → writes (vm.binary_answer u.memory op (register_type (plain_of t)) (r left) (r right)) u ≡ writes (vm.binary_number op t x y) u
+  calculates : (op : vb.VmBinaryOp) → c ≡ t → writes (vm.binary_answer u.memory op (register_type (plain_of t)) (r left) (r right)) u ≡ writes (vm.binary_number op t x y) u
   calculates op e =
       ap (λ a. writes a u) (ap (λ a. vm.binary_answer u.memory op (register_type (plain_of t)) a (r right)) el ∙ ap (λ a. vm.binary_answer u.memory op (register_type (plain_of t)) (Word x) a) er
       ∙ binary_is t u.memory op x y p wx (subst (λ z. is_word z y ≡ true) e wy))

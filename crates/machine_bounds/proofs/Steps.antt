@@ -15,7 +15,7 @@ use Rattle.alpha_isa.specs.Arithmetic.{OperationEffect, Keeps, Overflows, word_a
 use Rattle.alpha_isa.specs.Lawful as lawful
 use Rattle.alpha_isa.specs.Program.{Program, IsLawful, instruction_at, text_start, data_start, stack_start}
 use Rattle.alpha_isa.specs.State.{State, register, with_register, operand, lies_in, part_of, with_part, bytes_at, with_bytes}
-use Rattle.alpha_isa.specs.Step.{Next, Goes, Over, Done, Trap, Stuck, next_instruction, next_pc, load_into, go_on_stored, memory_step, branch_step, branch_target, is_taken, links, operate_step, input_word, input_rest, service_step, pal_step, insn_step, fetched_step, step, go_on, exec, address}
+use Rattle.alpha_isa.specs.Step.{MachineNext, Goes, Over, Done, Trap, Stuck, next_instruction, next_pc, load_into, go_on_stored, memory_step, branch_step, branch_target, is_taken, links, operate_step, input_word, input_rest, service_step, pal_step, insn_step, fetched_step, step, go_on, exec, address}
 use Rattle.alpha_isa.specs.Words.{insn_of}
 use Rattle.alpha_isa.proofs.Arithmetic.{sign_extended-below}
 use Rattle.alpha_isa.proofs.Words.{decoded_word}
@@ -64,7 +64,7 @@ quad-number bs h = omega (arith, byte-at bs 0 h, byte-at bs 1 h, byte-at bs 2 h,
 -- ---- states
 
 -- where the machine stands after a step
-abbrev NextIsBounded : Next → Type 0
+abbrev NextIsBounded : MachineNext → Type 0
 NextIsBounded (Goes t) = IsBounded t
 NextIsBounded (Over h t) = Unit {0}
 
@@ -229,7 +229,7 @@ step-bounded : (p : Program) → IsLawful p → (s : State) → IsBounded s → 
 unfolding step
 step-bounded p image s h = fetched-bounded p image s h (instruction_at p s.pc) refl
 
-go-on : (z : Next) (run : State → Next) → NextIsBounded z → ((t : State) → IsBounded t → NextIsBounded (run t)) → NextIsBounded (go_on z run)
+go-on : (z : MachineNext) (run : State → MachineNext) → NextIsBounded z → ((t : State) → IsBounded t → NextIsBounded (run t)) → NextIsBounded (go_on z run)
 go-on (Goes t) run k f = f t k
 go-on (Over e t) run k f = tt
 

@@ -5,14 +5,14 @@ use anyhow::{Result, bail};
 use row_sheets::number::quad;
 use std::alloc::Global;
 use suifvm_ir::block::Block;
-use temp_ir::insn::{Operand, Source, TempInsn};
+use temp_ir::insn::{FirstOperand, SecondOperand, TempInsn};
 use temp_ir::operation::{AddressOp, Operation};
 
 /// The text of a first operand.
-fn base_text(base: Source) -> &'static str {
+fn base_text(base: FirstOperand) -> &'static str {
     match base {
-        Source::Zero => "$31",
-        Source::Temp(_) => "t0",
+        FirstOperand::Zero => "$31",
+        FirstOperand::Temp(_) => "t0",
     }
 }
 
@@ -46,7 +46,7 @@ fn insn_text(alloc: Global, insn: &TempInsn) -> Result<String> {
         TempInsn::Operate {
             op,
             left,
-            right: Operand::Literal(number),
+            right: SecondOperand::Literal(number),
             ..
         } => {
             let name = operation_name(*op)?;

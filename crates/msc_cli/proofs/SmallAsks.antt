@@ -4,14 +4,14 @@ use Rattle.std.proofs.Math.ListN.{length-set}
 use Rattle.alpha_isa.specs.Words.{word_of}
 use Rattle.alpha_isa.specs.Program.{Program, word_address}
 use Rattle.alpha_isa.specs.State.{State}
-use Rattle.alpha_isa.specs.Step.{Halt, Next, Goes, Over, exec}
+use Rattle.alpha_isa.specs.Step.{Halt, MachineNext, Goes, Over, exec}
 use Rattle.alpha_run.specs.Services.{asks}
 use Rattle.msc_cli.specs.SmallImage.{small_code}
 use Rattle.msc_cli.proofs.SmallSteps.{drop-suc, call_asks, one_step, two_steps, service_steps}
 use Rattle.msc_cli.proofs.SmallRun.{AreBytes, after_put}
 
 -- what holds where a run stands
-at_place : (p : Program) (place t : State) (next : Next) → next ≡ Goes place → next ≡ Goes t → asks p 3 place ≡ false → asks p 3 t ≡ false
+at_place : (p : Program) (place t : State) (next : MachineNext) → next ≡ Goes place → next ≡ Goes t → asks p 3 place ≡ false → asks p 3 t ≡ false
 at_place p place t next is goes none = let same : place ≡ t = cc in subst (λ u. asks p 3 u ≡ false) same none
 
 ended : (halt : Halt) (s t : State) → Over halt s ≡ Goes t → ⊥

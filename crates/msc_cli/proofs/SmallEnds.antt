@@ -10,13 +10,13 @@ use Rattle.alpha_isa.specs.Behave as alpha
 use Rattle.alpha_run.specs.declared.ending.Ending.{Ending}
 use Rattle.alpha_run.specs.declared.ending.Ending.TheVariants as ending
 use Rattle.alpha_run.specs.Services.{asks}
-use Rattle.alpha_run.specs.Run.{Traffic, Behaves}
+use Rattle.alpha_run.specs.Run.{Traffic, MachineBehaves}
 use Rattle.msc_cli.specs.declared.outcome.Outcome.{Outcome}
 use Rattle.msc_cli.specs.declared.outcome.Outcome.TheVariants.{FileFault, Refused, NoMemory}
 use Rattle.msc_cli.specs.declared.outcome.SourceFault.TheVariants.{Form}
 use Rattle.msc_cli.specs.FromFile.{IsCause}
 use Rattle.msc_cli.specs.BuildImage.{IsCompiled, RefusesText}
-use Rattle.msc_cli.specs.RunImage.{outcome_of_ending, Runs, EndsWith}
+use Rattle.msc_cli.specs.RunImage.{outcome_of_ending, Runs, EndsWithStatus}
 use Rattle.msc_cli.specs.Limits.{default_stack, default_budget}
 use Rattle.msc_cli.proofs.Compile.{few_puts}
 use Rattle.msc_cli.proofs.SmallSame.{steps_count, image_of, machine_ends_later, machine_asks}
@@ -39,30 +39,30 @@ done text input u p small is =
     ∙ machine_ends_later u default_stack input default_budget (omega (arith, steps_count (written_by u)))
 
 by_ending : (p : Program) (u : SmallUnit) (input : List ℕ) (e : Ending) (before after : Traffic) → behave_a p default_stack input default_budget ≡ alpha.Done (written_by u) (status_of u) → AsksNone p input
-    → Behaves p default_stack input default_budget e before after → EndsWith (status_of u) (outcome_of_ending e)
+    → MachineBehaves p default_stack input default_budget e before after → EndsWithStatus (status_of u) (outcome_of_ending e)
 by_ending p u input (ending.Done status) before after d none b =
     let same : status_of u ≡ status = cc in
-    subst (λ s. EndsWith (status_of u) (outcome_of_ending (ending.Done s))) same (EndsWith.ran)
+    subst (λ s. EndsWithStatus (status_of u) (outcome_of_ending (ending.Done s))) same (EndsWithStatus.ran)
 by_ending p u input (ending.Trap code) before after d none b = let clash : ⊥ = cc in absurd clash
 by_ending p u input (ending.Stuck pc) before after d none b = let clash : ⊥ = cc in absurd clash
 by_ending p u input ending.Budget before after d none b = let clash : ⊥ = cc in absurd clash
 by_ending p u input ending.InputFault before after d none b =
     let clash : ◌≡◌ {A = Bool} false true = sym (none b.tried b.place b.stops.1) ∙ b.stops.2 in
     absurd (cc)
-by_ending p u input ending.WriteFault before after d none b = EndsWith.write_fault
+by_ending p u input ending.WriteFault before after d none b = EndsWithStatus.write_fault
 
-by_cause : (text : List ℕ) (u : SmallUnit) (answer : Outcome) → IsSmall text u → answer ≢ FileFault → IsCause (RefusesText (Some text)) answer → EndsWith (status_of u) answer
+by_cause : (text : List ℕ) (u : SmallUnit) (answer : Outcome) → IsSmall text u → answer ≢ FileFault → IsCause (RefusesText (Some text)) answer → EndsWithStatus (status_of u) answer
 by_cause text u FileFault small other c = absurd (other refl)
-by_cause text u NoMemory small other (inl short) = EndsWith.no_memory short
+by_cause text u NoMemory small other (inl short) = EndsWithStatus.no_memory short
 by_cause text u NoMemory small other (inr none) = absurd none
 by_cause text u (Refused Form) small other c = absurd (c u small)
 by_cause text u _ small other c = absurd c
 
-pub ends : (text input : List ℕ) (u : SmallUnit) (answer : Outcome) (before after : Traffic) → IsSmall text u → before.left ≡ Some input → Runs (Some text) answer before after → answer ≢ FileFault → EndsWith (status_of u) answer
+pub ends : (text input : List ℕ) (u : SmallUnit) (answer : Outcome) (before after : Traffic) → IsSmall text u → before.left ≡ Some input → Runs (Some text) answer before after → answer ≢ FileFault → EndsWithStatus (status_of u) answer
 ends text input u answer before after small told runs other = elim runs [
   | inl c ↦ by_cause text u answer small other c.0
   | inr m ↦ elim m.2 [
-    | inl none ↦ subst (EndsWith (status_of u)) (sym none.0) (EndsWith.no_memory none.2)
-    | inr run ↦ subst (EndsWith (status_of u)) (sym run.1) (by_ending m.0 u input run.0 before after (done text input u m.0 small m.1) (asks_none text input u m.0 small m.1) (run.2 input told))
+    | inl none ↦ subst (EndsWithStatus (status_of u)) (sym none.0) (EndsWithStatus.no_memory none.2)
+    | inr run ↦ subst (EndsWithStatus (status_of u)) (sym run.1) (by_ending m.0 u input run.0 before after (done text input u m.0 small m.1) (asks_none text input u m.0 small m.1) (run.2 input told))
   ]
 ]

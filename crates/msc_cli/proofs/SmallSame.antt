@@ -62,7 +62,7 @@ abbrev pub image_of : SmallUnit → Program
 image_of u = small_program (written_by u) (status_of u)
 
 -- a program within n turns: it has written a front of its whole output, or has ended
-pub data ProgramShape (whole : List ℕ) (status n : ℕ) (b : c.Behaviour) : Type 0 where
+pub data ProgramShape (whole : List ℕ) (status n : ℕ) (b : c.CBehaviour) : Type 0 where
   going : b ≡ c.More (take n whole) → ProgramShape whole status n b
   ended : b ≡ c.Done whole status → ProgramShape whole status n b
 
@@ -71,15 +71,15 @@ chosen whole status n true = going refl
 chosen whole status n false = ended refl
 
 -- what the two shapes say of an ending
-ends_whole : (whole : List ℕ) (status n : ℕ) (b : c.Behaviour) (output : List ℕ) (code : ℕ) → ProgramShape whole status n b → b ≡ c.Done output code → (whole ≡ output) × (status ≡ code)
+ends_whole : (whole : List ℕ) (status n : ℕ) (b : c.CBehaviour) (output : List ℕ) (code : ℕ) → ProgramShape whole status n b → b ≡ c.Done output code → (whole ≡ output) × (status ≡ code)
 ends_whole whole status n b output code (going e) h = let clash : ⊥ = cc in absurd clash
 ends_whole whole status n b output code (ended e) h = (cc, cc)
 
-never_traps : (whole : List ℕ) (status n : ℕ) (b : c.Behaviour) (output : List ℕ) (code : ℕ) → ProgramShape whole status n b → b ≡ c.Trap output code → ⊥
+never_traps : (whole : List ℕ) (status n : ℕ) (b : c.CBehaviour) (output : List ℕ) (code : ℕ) → ProgramShape whole status n b → b ≡ c.Trap output code → ⊥
 never_traps whole status n b output code (going e) h = cc
 never_traps whole status n b output code (ended e) h = cc
 
-writes_front : (whole : List ℕ) (status n : ℕ) (b : c.Behaviour) → ProgramShape whole status n b → IsPrefix (output_of_c b) whole
+writes_front : (whole : List ℕ) (status n : ℕ) (b : c.CBehaviour) → ProgramShape whole status n b → IsPrefix (output_of_c b) whole
 writes_front whole status n b (going e) = (drop n whole, sym (ap (λ x. output_of_c x ++ drop n whole) e ∙ take-append-drop n whole))
 writes_front whole status n b (ended e) = ([], sym (ap (λ x. output_of_c x ++ []) e ∙ append-nil whole))
 

@@ -5,7 +5,7 @@ use Rattle.alpha_isa.specs.Program.{Program}
 use Rattle.alpha_isa.specs.ImageFormat.{IsImage}
 use Rattle.alpha_run.specs.declared.ending.Ending.{Ending}
 use Rattle.alpha_run.specs.declared.ending.Ending.TheVariants as ending
-use Rattle.alpha_run.specs.Run.{Traffic, Behaves}
+use Rattle.alpha_run.specs.Run.{Traffic, MachineBehaves}
 use Rattle.msc_cli.specs.declared.outcome.Outcome.{Outcome}
 use Rattle.msc_cli.specs.declared.outcome.Outcome.TheVariants.{Ran, Trapped, Stuck, Budget, InputFault, WriteFault, BadImage, NoMemory}
 use Rattle.msc_cli.specs.FromFile.{Does}
@@ -25,7 +25,7 @@ outcome_of_ending ending.WriteFault = WriteFault
 -- the run of an image at the default stack and budget, on the input that is left, where it is told
 abbrev pub RunsBy : Program → Ending → Traffic → Traffic → Type 0
 RunsBy p e before after =
-    (input : List ℕ) → before.left ≡ Some input → Behaves p default_stack input default_budget e before after
+    (input : List ℕ) → before.left ≡ Some input → MachineBehaves p default_stack input default_budget e before after
 
 -- what is answered for an image: how its run ends, or want of memory, before anything is read or put
 abbrev pub RunsImage : Program → Outcome → Traffic → Traffic → Type 0
@@ -51,7 +51,7 @@ abbrev pub Executes : Option (List ℕ) → Outcome → Traffic → Traffic → 
 Executes bytes = Does (RefusesBytes bytes) (Holds bytes) RunsImage
 
 -- what a run of a small program may answer: its status, unless the output fails or memory is short
-pub data EndsWith (status : ℕ) : Outcome → Type 0 where
-  ran : EndsWith status (Ran status)
-  write_fault : EndsWith status WriteFault
-  no_memory : MemoryIsShort → EndsWith status NoMemory
+pub data EndsWithStatus (status : ℕ) : Outcome → Type 0 where
+  ran : EndsWithStatus status (Ran status)
+  write_fault : EndsWithStatus status WriteFault
+  no_memory : MemoryIsShort → EndsWithStatus status NoMemory

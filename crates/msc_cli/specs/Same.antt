@@ -11,7 +11,7 @@ abbrev pub IsPrefix : List ℕ → List ℕ → Type 0
 IsPrefix front bytes = (rest : List ℕ) × (bytes ≡ front ++ rest)
 
 -- what a C program wrote so far. Something undefined wrote nothing.
-abbrev pub output_of_c : c.Behaviour → List ℕ
+abbrev pub output_of_c : c.CBehaviour → List ℕ
 output_of_c (c.Done output status) = output
 output_of_c (c.Trap output code) = output
 output_of_c c.Undefined = []

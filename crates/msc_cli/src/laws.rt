@@ -6,7 +6,7 @@ ghost use Rattle.c_tree.specs.declared.declarations.TranslationUnit.{Translation
 ghost use Rattle.alpha_isa.specs.Program.{Program};
 ghost use Rattle.alpha_run.specs.Run.{Traffic};
 ghost use Rattle.alpha_isa.specs.ImageFormat.{IsImage};
-ghost use Rattle.msc_cli.specs.RunImage.{RunsBy, Runs, EndsWith};
+ghost use Rattle.msc_cli.specs.RunImage.{RunsBy, Runs, EndsWithStatus};
 ghost use Rattle.msc_cli.specs.MigrateImage.{Migrates};
 ghost use Rattle.alpha_items.specs.Assembly.{Assembly, IsWhole};
 ghost use Rattle.alpha_text.specs.Texts.{Texts, HasText};
@@ -31,7 +31,7 @@ pub fn a_run_is_the_program()
 pub fn a_small_program_ends()
     ensures { (text input : List ℕ) (u : SmallUnit) (answer : Answer) (before after : Traffic) → IsSmall text u →
         before.left ≡ Some input → Runs (Some text) answer before after → answer ≢ FileFault →
-        EndsWith (status_of u) answer }
+        EndsWithStatus (status_of u) answer }
 {}
 
 /// Bytes that hold an image are migrated, unless the outside fails or memory is short.

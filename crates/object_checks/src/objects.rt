@@ -2,12 +2,12 @@
 
 ghost use Rattle.std.specs.Prelude.{◌≡◌, ℕ, ◌+◌, ◌*◌, ◌/◌, ◌<◌, ◌≤◌, ◌^◌, All, length, slice_get, Option, Some};
 ghost use Rattle.std.specs.Bool.{OnTrue};
-ghost use Rattle.data_object.specs.declared.Cell.{Cell};
-ghost use Rattle.data_object.specs.declared.Cell.TheVariants.{AddressPart};
+ghost use Rattle.data_object.specs.declared.DataCell.{DataCell};
+ghost use Rattle.data_object.specs.declared.DataCell.TheVariants.{AddressPart};
 ghost use Rattle.data_object.specs.Globals.{AreLawful, IsLawfulCell, IsLawfulObject, Reaches, StandsWhole};
 ghost use Rattle.data_object.specs.Layout.{LieFrom};
 
-use data_object::{Cell, DataObject, MOST_DATA, next_place};
+use data_object::{DataCell, DataObject, MOST_DATA, next_place};
 
 /// Whether objects lie one behind the other, none of them past the end of the most data.
 fn lie_in_order(globals: &[DataObject]) -> bool
@@ -37,19 +37,19 @@ fn reaches(globals: &[DataObject], global: usize, plus: u64) -> bool
 }
 
 /// Whether a cell is the part of an address with this number.
-fn is_part(cell: &Cell, address: u32, moved: u64, number: u64) -> bool
+fn is_part(cell: &DataCell, address: u32, moved: u64, number: u64) -> bool
     ensures { OnTrue result (cell.now ≡ AddressPart address moved number) }
 {
     match cell {
-        Cell::Byte(_) => false,
-        Cell::AddressPart { global, plus, part } => {
+        DataCell::Byte(_) => false,
+        DataCell::AddressPart { global, plus, part } => {
             *global == address && *plus == moved && u64::from(*part) == number
         }
     }
 }
 
 /// Whether the cell at a place is there and is the part of an address with this number.
-fn has_part(cells: &[Cell], at: usize, address: u32, moved: u64, number: u64) -> bool
+fn has_part(cells: &[DataCell], at: usize, address: u32, moved: u64, number: u64) -> bool
     ensures { OnTrue result (slice_get cells.now at ≡ Some (AddressPart address moved number)) }
 {
     match cells.get(at) {
@@ -59,7 +59,7 @@ fn has_part(cells: &[Cell], at: usize, address: u32, moved: u64, number: u64) ->
 }
 
 /// Whether the eight parts of an address stand in order, from a place on.
-fn stands_whole(cells: &[Cell], first: usize, address: u32, moved: u64) -> bool
+fn stands_whole(cells: &[DataCell], first: usize, address: u32, moved: u64) -> bool
     ensures { OnTrue result (StandsWhole cells.now first address moved) }
 {
     for part in 0..8_usize {
@@ -74,15 +74,15 @@ fn stands_whole(cells: &[Cell], first: usize, address: u32, moved: u64) -> bool
 }
 
 /// Whether a cell at a place of an object is lawful.
-fn is_lawful_cell(globals: &[DataObject], object: &DataObject, at: usize, cell: &Cell) -> bool
+fn is_lawful_cell(globals: &[DataObject], object: &DataObject, at: usize, cell: &DataCell) -> bool
     ensures { OnTrue result (IsLawfulCell globals.now object.now at cell.now) }
 {
     match cell {
-        Cell::Byte(byte) => {
+        DataCell::Byte(byte) => {
             let _byte = *byte;
             true
         }
-        Cell::AddressPart { global, plus, .. } => {
+        DataCell::AddressPart { global, plus, .. } => {
             object.writable
                 && stands_whole(object.cells.as_slice(), at / 8 * 8, *global, *plus)
                 && reaches(globals, *global as usize, *plus)
@@ -93,7 +93,8 @@ fn is_lawful_cell(globals: &[DataObject], object: &DataObject, at: usize, cell: 
 /// Whether each cell of an object is lawful.
 fn has_lawful_cells(globals: &[DataObject], object: &DataObject) -> bool
     ensures { OnTrue result
-        ((at : ℕ) (c : Cell) → slice_get object.now.cells at ≡ Some c → IsLawfulCell globals.now object.now at c) }
+        ((at : ℕ) (c : DataCell) →
+        slice_get object.now.cells at ≡ Some c → IsLawfulCell globals.now object.now at c) }
 {
     let cells = object.cells.as_slice();
     for at in 0..cells.len() {

@@ -16,21 +16,21 @@ use Rattle.alloc_model.specs.declared.allocation.Transfer.{Transfer}
 use Rattle.alloc_model.specs.declared.allocation.Transfer.TheVariants.{Store, Load, Shift}
 use Rattle.alloc_model.specs.Contents.{Content}
 use Rattle.alloc_model.specs.Places.{Places, placed_site}
-use Rattle.flat_frames.specs.Shapes.{Shape}
+use Rattle.flat_frames.specs.Shapes.{FrameShape}
 use Rattle.frame_transfers.specs.Items.{items_of_transfers}
-use Rattle.frame_transfers.specs.Laws.{Call, IsCall, StandsFor}
-use Rattle.instruction_items.specs.Items.{Setting, insn_items}
+use Rattle.frame_transfers.specs.Laws.{Call, FitsTheStack, StandsFor}
+use Rattle.instruction_items.specs.Items.{ItemSetting, insn_items}
 use Rattle.instruction_items.specs.Laws.{usable, MayHold, IsStated, IsThere, HasOuter, IsOver}
 use Rattle.call_stacks.specs.Stacks.{Waiting, Start, StackIs}
 use Rattle.division_calls.specs.Divisions.{RoutinesStand, HasScratch}
 
 -- transfers on slots that are there and registers in which values may stand
-abbrev pub MayTransfer : Shape → Transfer → Type 0
+abbrev pub MayTransfer : FrameShape → Transfer → Type 0
 MayTransfer s (Store t r) = (t < s.temps) × MayHold s r
 MayTransfer s (Load t r) = (t < s.temps) × MayHold s r
 MayTransfer s (Shift t from to) = MayHold s from × MayHold s to
 
-abbrev pub AllMayTransfer : Shape → List Transfer → Type 0
+abbrev pub AllMayTransfer : FrameShape → List Transfer → Type 0
 AllMayTransfer s [] = Unit {0}
 AllMayTransfer s (x ∷ xs) = MayTransfer s x × AllMayTransfer s xs
 
@@ -60,7 +60,7 @@ pub record PointIsLeft (p : Program) (there : Labels) (start : Start) (l : ℕ) 
   pub outer : HasOuter o to
 
 -- the machine does what an act is, where contents are written by a function of them
-abbrev pub PointIsDone : Program → Labels → Start → Setting → (rest : List AsmItem) → (end : ℕ) → Call → List Waiting →
+abbrev pub PointIsDone : Program → Labels → Start → ItemSetting → (rest : List AsmItem) → (end : ℕ) → Call → List Waiting →
     (written : List Content → Places) → TempInsn → State → Act Content → Type 0
 PointIsDone p there start g rest end c gs written x s (Writes cs o) =
     PointIsPassed p there start rest end c gs o (written cs) s
@@ -76,8 +76,8 @@ PointIsDone p there start g rest end c gs written x s (Stops HasNoMeaning o) = U
 -- a site over registers and slots is done where its transfers and its instruction stand
 abbrev pub PointsAreDone : Type 0
 PointsAreDone =
-    (p : Program) (there : Labels) (start : Start) (g : Setting) (rest : List AsmItem) (end : ℕ) (c : Call)
-    (gs : List Waiting) (o : Outer) (store : Places) (s : State) → IsCall c → g.shape ≡ c.shape →
+    (p : Program) (there : Labels) (start : Start) (g : ItemSetting) (rest : List AsmItem) (end : ℕ) (c : Call)
+    (gs : List Waiting) (o : Outer) (store : Places) (s : State) → FitsTheStack c → g.shape ≡ c.shape →
     StackIs p there start c gs store s → HasOuter o s → RoutinesStand p there → HasScratch p c s →
     (widest : ℕ) → widest ≤ c.shape.outgoing + 6 →
     (transfers : List Transfer) (registers : List ℕ) (x : TempInsn) → AllMayTransfer c.shape transfers →

@@ -6,18 +6,18 @@ use Rattle.alpha_isa.specs.Program.{Program, IsLawful, data_of, data_start}
 use Rattle.item_steps.specs.Standing.{Labels}
 use Rattle.data_object.specs.declared.DataObject.{DataObject}
 use Rattle.data_object.specs.Layout.{LieFrom}
-use Rattle.suifvm_ir.specs.declared.function.Object.{Object}
-use Rattle.suifvm_ir.specs.declared.insn.Place.TheVariants.{Global, Local}
+use Rattle.suifvm_ir.specs.declared.function.MemoryLocal.{MemoryLocal}
+use Rattle.suifvm_ir.specs.declared.insn.VmObject.TheVariants.{Global, Local}
 use Rattle.suifvm_ir.specs.Programs.{global_reaches, local_reaches}
-use Rattle.temp_ir.specs.declared.insn.Operand.TheVariants as operand
+use Rattle.temp_ir.specs.declared.insn.SecondOperand.TheVariants as operand
 use Rattle.temp_ir.specs.declared.insn.TempInsn.{TempInsn}
 use Rattle.temp_ir.specs.declared.insn.TempInsn.TheVariants as i
 use Rattle.temp_ir.specs.Programs.{TempFn, function_takes, names_what_is_there}
 use Rattle.flat_globals.specs.Globals.{AreLaidOut, DataIs, extents_of}
 use Rattle.flat_globals.proofs.Lists.{append-size, replicate-size}
 use Rattle.frame_transfers.specs.Laws.{Call}
-use Rattle.instruction_items.specs.Items.{Setting}
-use Rattle.instruction_items.specs.Laws.{IsThere, IsGlobal, IsLocal}
+use Rattle.instruction_items.specs.Items.{ItemSetting}
+use Rattle.instruction_items.specs.Laws.{IsThere, IsGlobal, IsNearLocal}
 use Rattle.program_images.proofs.Lists.{get-map, get-below}
 use Rattle.program_images.proofs.Standing.{InsnStands, lawful-there}
 
@@ -30,7 +30,7 @@ aligned-at (x ∷ globals) end zero o h e =
     subst (λ (z : DataObject). z.offset % 8 ≡ 0) is (omega (arith, at))
 aligned-at (x ∷ globals) end (suc k) o h e = aligned-at globals (x.offset + x.size) k o h.1 e
 
-module _ (p : Program) (lawful : IsLawful p) (globals : List DataObject) (laid : AreLaidOut globals) (d : DataIs globals (data_start p) (data_of p)) (g : Setting) (offsets : (k : ℕ) (o : DataObject) → slice_get globals k ≡ Some o → g.global_at k ≡ o.offset) (c : Call) (extents : c.extents ≡ extents_of (data_start p) globals) where
+module _ (p : Program) (lawful : IsLawful p) (globals : List DataObject) (laid : AreLaidOut globals) (d : DataIs globals (data_start p) (data_of p)) (g : ItemSetting) (offsets : (k : ℕ) (o : DataObject) → slice_get globals k ≡ Some o → g.global_at k ≡ o.offset) (c : Call) (extents : c.extents ≡ extents_of (data_start p) globals) where
   data-small : length (data_of p) ≤ 67108864
   data-small =
       let sum = append-size p.bytes (replicate p.zeros 0) in
@@ -62,12 +62,12 @@ module _ (p : Program) (lawful : IsLawful p) (globals : List DataObject) (laid :
   global-named k plus None e h = absurd (cc)
   global-named k plus (Some o) e h = global-there k plus o e (leb-true plus o.size h)
 
-  module _ (objects : List Object) (sizes : c.shape.sizes ≡ map (λ (o : Object). o.size) objects) where
-    local-named : (k plus : ℕ) (o : Option Object) → slice_get objects k ≡ o → local_reaches plus o ≡ true → IsLocal c k plus
+  module _ (objects : List MemoryLocal) (sizes : c.shape.sizes ≡ map (λ (o : MemoryLocal). o.size) objects) where
+    local-named : (k plus : ℕ) (o : Option MemoryLocal) → slice_get objects k ≡ o → local_reaches plus o ≡ true → IsNearLocal c k plus
     local-named k plus None e h = absurd (cc)
     local-named k plus (Some o) e h = record {
       size = o.size;
-      made = ap (λ xs. slice_get xs k) sizes ∙ get-map (λ (z : Object). z.size) objects k o e;
+      made = ap (λ xs. slice_get xs k) sizes ∙ get-map (λ (z : MemoryLocal). z.size) objects k o e;
       within = leb-true plus o.size h;
     }
 

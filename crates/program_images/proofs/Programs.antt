@@ -19,12 +19,12 @@ use Rattle.temp_ir.specs.Insns.{targets_of, flows_on_of}
 use Rattle.temp_ir.specs.declared.insn.TempInsn.{TempInsn}
 use Rattle.temp_ir.specs.declared.insn.TempInsn.TheVariants as i
 use Rattle.temp_ir.specs.declared.program.TempProgram.{TempProgram}
-use Rattle.temp_ir.specs.Programs.{TempFn, is_main, main_count, names_what_is_there, IsLawfulFunction}
+use Rattle.temp_ir.specs.Programs.{TempFn, is_main, main_count, names_what_is_there, IsLawfulTempFn}
 use Rattle.alloc_model.specs.declared.allocation.Allocation.{Allocation}
-use Rattle.alloc_model.specs.Temporaries.{FunctionCode, code_of, main_of, TempsEnd}
+use Rattle.alloc_model.specs.Temporaries.{TemporaryCode, code_of, main_of, TempsEnd}
 use Rattle.alloc_model.specs.Places.{Plan, registers_at}
 use Rattle.flat_memory.specs.Bytes.{AreBytes}
-use Rattle.flat_frames.specs.Shapes.{Shape}
+use Rattle.flat_frames.specs.Shapes.{FrameShape}
 use Rattle.frame_transfers.specs.Items.{items_of_transfers}
 use Rattle.instruction_items.specs.Items.{function_label}
 use Rattle.instruction_items.specs.Laws.{IsThere}
@@ -43,7 +43,7 @@ use Rattle.global_data.specs.GlobalBytes.{global_bytes}
 use Rattle.global_data.proofs.Holds.{data_holds_objects}
 use Rattle.routine_places.proofs.Stand.{routines_stand}
 use Rattle.image_runs.specs.Images.{IsImageOf, ImagesKeep}
-use Rattle.program_images.specs.Programs.{plans_of, IsAllocated, Placing, HasItemsOf, Behaves}
+use Rattle.program_images.specs.Programs.{plans_of, IsAllocated, Placing, HasItemsOf, ImageBehaves}
 use Rattle.program_images.proofs.Lists.{all-get, get-map, Mapped, mapped, map-size}
 use Rattle.program_images.proofs.Standing.{InsnStands, behind-transfers, insn-stands}
 use Rattle.program_images.proofs.Names.{is-there, called-there}
@@ -123,11 +123,11 @@ module _ (asm : Assembly) (p : Program) (lawful : IsLawful p) (whole : IsWhole a
     source : Mapped code_of program.functions f a.function
     source = mapped code_of program.functions f a.function (ap (λ l. slice_get l f) allocated.functions ∙ get-map (λ (z : Plan). z.function) plans f a is)
 
-    source-lawful : IsLawfulFunction program.functions program.globals source.one
-    source-lawful = all-get (IsLawfulFunction program.functions program.globals) program.functions f source.one program.functions_lawful source.there
+    source-lawful : IsLawfulTempFn program.functions program.globals source.one
+    source-lawful = all-get (IsLawfulTempFn program.functions program.globals) program.functions f source.one program.functions_lawful source.there
 
     same-blocks : source.one.blocks ≡ a.function.blocks
-    same-blocks = ap (λ (c : FunctionCode). c.blocks) source.is
+    same-blocks = ap (λ (c : TemporaryCode). c.blocks) source.is
 
     are-blocks : AreBlocks a.function.blocks
     are-blocks = subst AreBlocks same-blocks (record { targets = source.one.targets; straight = source.one.straight; stops_there = source.one.stops })
@@ -158,7 +158,7 @@ module _ (asm : Assembly) (p : Program) (lawful : IsLawful p) (whole : IsWhole a
 
     names : (block at : ℕ) (x : TempInsn) → insn_at a.function.blocks block at ≡ Some x → IsThere p (q.setting f) (any_call b f) x
     names block at x e =
-        let sizes : (q.setting f).shape.sizes ≡ map (λ o. o.size) source.one.objects = ap (λ (s : Shape). s.sizes) (has.shapes f a is) ∙ sym (ap (λ (c : FunctionCode). c.sizes) source.is) in
+        let sizes : (q.setting f).shape.sizes ≡ map (λ o. o.size) source.one.objects = ap (λ (s : FrameShape). s.sizes) (has.shapes f a is) ∙ sym (ap (λ (c : TemporaryCode). c.sizes) source.is) in
         is-there p lawful program.globals laid data_is (q.setting f) (has.offsets f a is) (any_call b f) refl source.one.objects sizes there (text_words asm.items w.far) (registers_at a block (0 + at)) program.functions x (named block at x e) (insn-there block at x e)
 
     calls : (block at function arguments : ℕ) → insn_at a.function.blocks block at ≡ Some (i.Call function arguments) → function < length plans
@@ -204,11 +204,11 @@ module _ (asm : Assembly) (p : Program) (lawful : IsLawful p) (whole : IsWhole a
     };
   }
 
-  behaves : ImagesKeep → (input : List ℕ) → AreBytes input → (turns : ℕ) (e : Ending) → TempsEnd rooms program input turns e → ending_peak e ≤ stack → Behaves p plans stack input turns e
+  behaves : ImagesKeep → (input : List ℕ) → AreBytes input → (turns : ℕ) (e : Ending) → TempsEnd rooms program input turns e → ending_peak e ≤ stack → ImageBehaves p plans stack input turns e
   behaves keep input bytes turns e temps peak =
       let d = keep b program allocations stack image-of input bytes turns e temps peak in
       record { behaves = d.behaves; only = d.only }
 
-pub programs_behave : ImagesKeep → (asm : Assembly) (p : Program) → IsLawful p → IsWhole asm → (w : Words asm p) → (program : TempProgram) (allocations : List Allocation) (rooms : Rooms) (q : Placing) → IsAllocated program allocations rooms → HasItemsOf asm program (plans_of allocations) q → (stack : ℕ) → IsStack stack → (input : List ℕ) → AreBytes input → (turns : ℕ) (e : Ending) → TempsEnd rooms program input turns e → ending_peak e ≤ stack → Behaves p (plans_of allocations) stack input turns e
+pub programs_behave : ImagesKeep → (asm : Assembly) (p : Program) → IsLawful p → IsWhole asm → (w : Words asm p) → (program : TempProgram) (allocations : List Allocation) (rooms : Rooms) (q : Placing) → IsAllocated program allocations rooms → HasItemsOf asm program (plans_of allocations) q → (stack : ℕ) → IsStack stack → (input : List ℕ) → AreBytes input → (turns : ℕ) (e : Ending) → TempsEnd rooms program input turns e → ending_peak e ≤ stack → ImageBehaves p (plans_of allocations) stack input turns e
 programs_behave keep asm p lawful whole w program allocations rooms q allocated has stack is_stack input bytes turns e temps peak =
     behaves asm p lawful whole w program allocations rooms q allocated has stack is_stack keep input bytes turns e temps peak

@@ -13,9 +13,9 @@ use Rattle.item_steps.proofs.Standing.{insn-at, parts_stand}
 use Rattle.temp_ir.specs.declared.insn.TempInsn.{TempInsn}
 use Rattle.alloc_model.specs.declared.allocation.Transfer.{Transfer}
 use Rattle.alloc_model.specs.Places.{Plan, transfers_at, registers_at}
-use Rattle.flat_frames.specs.Shapes.{Shape}
+use Rattle.flat_frames.specs.Shapes.{FrameShape}
 use Rattle.frame_transfers.specs.Items.{transfer_items, items_of_transfers}
-use Rattle.instruction_items.specs.Items.{Setting, insn_items}
+use Rattle.instruction_items.specs.Items.{ItemSetting, insn_items}
 use Rattle.function_items.specs.Items.{jump_transfers, insns_items}
 
 -- items stand from some word on
@@ -29,16 +29,16 @@ behind-items p there end front back h =
     let z = parts_stand p there h.word end front back h.items_at in
     record { word = z.middle; items_at = z.second }
 
-pub behind-transfers : (p : Program) (there : Labels) (end : ℕ) (s : Shape) (xs : List Transfer) (rest : List AsmItem) → Somewhere p there (items_of_transfers s xs rest) end → Somewhere p there rest end
+pub behind-transfers : (p : Program) (there : Labels) (end : ℕ) (s : FrameShape) (xs : List Transfer) (rest : List AsmItem) → Somewhere p there (items_of_transfers s xs rest) end → Somewhere p there rest end
 behind-transfers p there end s [] rest h = h
 behind-transfers p there end s (x ∷ xs) rest h = behind-transfers p there end s xs rest (behind-items p there end (transfer_items s x) (items_of_transfers s xs rest) h)
 
 -- the items of an instruction stand
-pub record InsnStands (p : Program) (there : Labels) (g : Setting) (rs : List ℕ) (x : TempInsn) (end : ℕ) : Type 0 where
+pub record InsnStands (p : Program) (there : Labels) (g : ItemSetting) (rs : List ℕ) (x : TempInsn) (end : ℕ) : Type 0 where
   pub more : List AsmItem
   pub stands : Somewhere p there (insn_items g rs x ++ more) end
 
-pub insn-stands : (p : Program) (there : Labels) (end : ℕ) (a : Plan) (g : Setting) (block n : ℕ) (insns : List TempInsn) (tail : List AsmItem) (at : ℕ) (x : TempInsn) → slice_get insns at ≡ Some x → Somewhere p there (insns_items a g block n insns tail) end → InsnStands p there g (registers_at a block (n + at)) x end
+pub insn-stands : (p : Program) (there : Labels) (end : ℕ) (a : Plan) (g : ItemSetting) (block n : ℕ) (insns : List TempInsn) (tail : List AsmItem) (at : ℕ) (x : TempInsn) → slice_get insns at ≡ Some x → Somewhere p there (insns_items a g block n insns tail) end → InsnStands p there g (registers_at a block (n + at)) x end
 insn-stands p there end a g block n [] tail at x e h = absurd (cc)
 insn-stands p there end a g block n (y ∷ insns) tail zero x e h =
     let is : y ≡ x = cc in

@@ -23,7 +23,7 @@ use Rattle.alloc_model.specs.Places.{Plan, plan_of, functions_of}
 use Rattle.alloc_model.specs.Laws.{AllFaithful}
 use Rattle.flat_memory.specs.Bytes.{AreBytes}
 use Rattle.flat_frames.specs.Shapes.{frame_size}
-use Rattle.instruction_items.specs.Items.{Setting, function_label}
+use Rattle.instruction_items.specs.Items.{ItemSetting, function_label}
 use Rattle.call_exits.specs.Leaving.{ending_items}
 use Rattle.function_items.specs.Items.{function_items}
 use Rattle.function_shapes.specs.Shapes.{shape_of}
@@ -51,7 +51,7 @@ start_items main rest = Label 0 ∷ Branch Bsr 26 (function_label main) ∷ (end
 -- what the items of each function refer to, and what stands before and behind them; what stands behind the start piece;
 -- and what stands before and behind the division routines
 pub record Placing : Type 0 where
-  pub setting : (function : ℕ) → Setting
+  pub setting : (function : ℕ) → ItemSetting
   pub front : (function : ℕ) → List AsmItem
   pub behind : (function : ℕ) → List AsmItem
   pub after_start : List AsmItem
@@ -71,7 +71,7 @@ pub record HasItemsOf (asm : Assembly) (program : TempProgram) (plans : List Pla
       slice_get program.globals k ≡ Some o → (q.setting f).global_at k ≡ o.offset
 
 -- the image does what an ending of the program is, where the run may take so many turns, and nothing else
-pub record Behaves (p : Program) (plans : List Plan) (stack : ℕ) (input : List ℕ) (turns : ℕ) (e : Ending) : Type 0
+pub record ImageBehaves (p : Program) (plans : List Plan) (stack : ℕ) (input : List ℕ) (turns : ℕ) (e : Ending) : Type 0
   where
     pub behaves : HasBehaviour p stack input e
     pub only : (m : ℕ) → turns_for plans m ≤ turns → AgreesWith (behave_a p stack input m) e
@@ -85,4 +85,4 @@ ProgramsBehave =
     IsAllocated program allocations rooms → HasItemsOf asm program (plans_of allocations) q →
     (stack : ℕ) → IsStack stack → (input : List ℕ) → AreBytes input → (turns : ℕ) (e : Ending) →
     TempsEnd rooms program input turns e → ending_peak e ≤ stack →
-    Behaves p (plans_of allocations) stack input turns e
+    ImageBehaves p (plans_of allocations) stack input turns e

@@ -8,14 +8,14 @@ use Rattle.machine_model.specs.Laws.{IsPrefix}
 use Rattle.alloc_model.specs.Places.{Plan}
 use Rattle.flat_runs.specs.Runs.{turns_for}
 use Rattle.image_runs.specs.Images.{HasBehaviour, AgreesWith}
-use Rattle.program_images.specs.Programs.{Behaves}
+use Rattle.program_images.specs.Programs.{ImageBehaves}
 use Rattle.selection_laws.specs.Laws.{IsDefined}
 use Rattle.same_runs.specs.Same.{IsDoneAt, IsTrapAt, IsSame}
 
 prefix-same : (xs ys : List ℕ) → ys ≡ xs → IsPrefix xs ys
 prefix-same xs ys e = ([], e ∙ sym (append-nil xs))
 
-module _ (p : Program) (plans : List Plan) (stack : ℕ) (input : List ℕ) (at : (turns : ℕ) → Ending) (behaves : (n : ℕ) → Behaves p plans stack input n (at n)) (defined : (n : ℕ) → IsDefined (at n)) where
+module _ (p : Program) (plans : List Plan) (stack : ℕ) (input : List ℕ) (at : (turns : ℕ) → Ending) (behaves : (n : ℕ) → ImageBehaves p plans stack input n (at n)) (defined : (n : ℕ) → IsDefined (at n)) where
   -- the ending within enough turns agrees with what the image does
   agrees : (m : ℕ) → AgreesWith (behave_a p stack input m) (at (turns_for plans m))
   agrees m = (behaves (turns_for plans m)).only m (omega arith)
@@ -70,5 +70,5 @@ module _ (p : Program) (plans : List Plan) (stack : ℕ) (input : List ℕ) (at 
     only_outputs = λ m. (turns_for plans m, only-output (behave_a p stack input m) (at (turns_for plans m)) (defined (turns_for plans m)) (agrees m));
   }
 
-pub runs_are_same : (p : Program) (plans : List Plan) (stack : ℕ) (input : List ℕ) (at : (turns : ℕ) → Ending) → ((n : ℕ) → Behaves p plans stack input n (at n)) → ((n : ℕ) → IsDefined (at n)) → IsSame p stack input at
+pub runs_are_same : (p : Program) (plans : List Plan) (stack : ℕ) (input : List ℕ) (at : (turns : ℕ) → Ending) → ((n : ℕ) → ImageBehaves p plans stack input n (at n)) → ((n : ℕ) → IsDefined (at n)) → IsSame p stack input at
 runs_are_same p plans stack input at behaves defined = same p plans stack input at behaves defined

@@ -8,7 +8,7 @@ use Rattle.mem_model.specs.Ending.{Ending, Done, Trap, ending_output}
 use Rattle.machine_model.specs.Laws.{IsPrefix}
 use Rattle.selection_laws.specs.Laws.{IsDefined}
 use Rattle.alloc_model.specs.Places.{Plan}
-use Rattle.program_images.specs.Programs.{Behaves}
+use Rattle.program_images.specs.Programs.{ImageBehaves}
 
 -- a program that ends with a status, or traps, with an output, within some number of turns
 pub record IsDoneAt (at : (turns : ℕ) → Ending) (output : List ℕ) (status : ℕ) : Type 0 where
@@ -41,4 +41,4 @@ pub record IsSame (p : Program) (stack : ℕ) (input : List ℕ) (at : (turns : 
 abbrev pub RunsAreSame : Type 0
 RunsAreSame =
     (p : Program) (plans : List Plan) (stack : ℕ) (input : List ℕ) (at : (turns : ℕ) → Ending) →
-    ((n : ℕ) → Behaves p plans stack input n (at n)) → ((n : ℕ) → IsDefined (at n)) → IsSame p stack input at
+    ((n : ℕ) → ImageBehaves p plans stack input n (at n)) → ((n : ℕ) → IsDefined (at n)) → IsSame p stack input at

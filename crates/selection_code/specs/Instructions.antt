@@ -1,9 +1,9 @@
 -- What each instruction over virtual registers becomes.
 use Rattle.std.specs.Prelude.{ℕ, zero, suc, ◌+◌, ◌-◌, ◌==◌, nat_lt, pos, true, false, List, [], ◌∷◌, ◌++◌, length, Option, Some, None, if◌then◌else◌}
-use Rattle.suifvm_ir.specs.declared.insn.Builtin.{Builtin}
-use Rattle.suifvm_ir.specs.declared.insn.Builtin.TheVariants.{PutChar, GetChar, Abort, Exit}
-use Rattle.suifvm_ir.specs.declared.insn.Callee.{Callee}
-use Rattle.suifvm_ir.specs.declared.insn.Callee.TheVariants as c
+use Rattle.suifvm_ir.specs.declared.insn.VmBuiltin.{VmBuiltin}
+use Rattle.suifvm_ir.specs.declared.insn.VmBuiltin.TheVariants.{PutChar, GetChar, Abort, Exit}
+use Rattle.suifvm_ir.specs.declared.insn.VmCallee.{VmCallee}
+use Rattle.suifvm_ir.specs.declared.insn.VmCallee.TheVariants as c
 use Rattle.suifvm_ir.specs.declared.insn.TypedRegister.{TypedRegister}
 use Rattle.suifvm_ir.specs.declared.insn.VmInsn.{VmInsn}
 use Rattle.suifvm_ir.specs.declared.insn.VmInsn.TheVariants as vm
@@ -80,13 +80,13 @@ abbrev pub exit_items : (arguments : List ℕ) → List TempInsn
 exit_items [] = []
 exit_items (a ∷ arguments) = i.ToFixed Argument0 (temp_of a) ∷ i.SetFixed Value (pos 1) ∷ i.Serve End ∷ []
 
-abbrev pub builtin_items : Option ℕ → Builtin → (arguments : List ℕ) → List TempInsn
+abbrev pub builtin_items : Option ℕ → VmBuiltin → (arguments : List ℕ) → List TempInsn
 builtin_items destination PutChar arguments = put_char_items destination arguments
 builtin_items destination GetChar arguments = get_char_items destination
 builtin_items destination Abort arguments = abort_items
 builtin_items destination Exit arguments = exit_items arguments
 
-abbrev pub call_items : Option ℕ → Callee → (arguments : List ℕ) → List TempInsn
+abbrev pub call_items : Option ℕ → VmCallee → (arguments : List ℕ) → List TempInsn
 call_items destination (c.Function k) arguments = function_items destination k arguments
 call_items destination (c.Builtin b) arguments = builtin_items destination b arguments
 

@@ -9,8 +9,8 @@ ghost use Rattle.selection_code.specs.Fields.{IsNumbered};
 use crate::temporaries::temp_of;
 use std::alloc::AllocError;
 use suifvm_ir::block::Block;
-use suifvm_ir::insn::{Builtin, Callee, TypedRegister};
-use temp_ir::insn::{FixedRegister, Operand, Source, TempInsn};
+use suifvm_ir::insn::{TypedRegister, VmBuiltin, VmCallee};
+use temp_ir::insn::{FirstOperand, FixedRegister, SecondOperand, TempInsn};
 use temp_ir::operation::{Operation, Service};
 
 /// The number of registers in which arguments are passed.
@@ -137,8 +137,8 @@ fn put_byte(
         Some(register) => out.push(TempInsn::Operate {
             op: Operation::Zapnot,
             destination: temp_of(register),
-            left: Source::Temp(temp_of(argument)),
-            right: Operand::Literal(1),
+            left: FirstOperand::Temp(temp_of(argument)),
+            right: SecondOperand::Literal(1),
         }),
         None => Ok(()),
     }
@@ -236,7 +236,7 @@ fn put_exit(out: &mut Block<TempInsn>, arguments: &[u32]) -> Result<(), AllocErr
 fn put_builtin(
     out: &mut Block<TempInsn>,
     destination: Option<u32>,
-    builtin: Builtin,
+    builtin: VmBuiltin,
     arguments: &[u32],
 ) -> Result<(), AllocError>
     requires registers { All IsNumbered arguments.now }
@@ -244,10 +244,10 @@ fn put_builtin(
     ensures { OnOk result (out.new ≡ out.old ++ code.builtin_items destination builtin arguments.now) }
 {
     match builtin {
-        Builtin::PutChar => put_putchar(out, destination, arguments),
-        Builtin::GetChar => put_getchar(out, destination),
-        Builtin::Abort => put_abort(out),
-        Builtin::Exit => put_exit(out, arguments),
+        VmBuiltin::PutChar => put_putchar(out, destination, arguments),
+        VmBuiltin::GetChar => put_getchar(out, destination),
+        VmBuiltin::Abort => put_abort(out),
+        VmBuiltin::Exit => put_exit(out, arguments),
     }
 }
 
@@ -255,7 +255,7 @@ fn put_builtin(
 pub fn put_call(
     out: &mut Block<TempInsn>,
     destination: Option<u32>,
-    callee: Callee,
+    callee: VmCallee,
     arguments: &[u32],
 ) -> Result<(), AllocError>
     requires few { length arguments.now < 2 ^ 32 }
@@ -264,8 +264,8 @@ pub fn put_call(
     ensures { OnOk result (out.new ≡ out.old ++ code.call_items destination callee arguments.now) }
 {
     match callee {
-        Callee::Function(function) => put_function(out, destination, function, arguments),
-        Callee::Builtin(builtin) => put_builtin(out, destination, builtin, arguments),
+        VmCallee::Function(function) => put_function(out, destination, function, arguments),
+        VmCallee::Builtin(builtin) => put_builtin(out, destination, builtin, arguments),
     }
 }
 

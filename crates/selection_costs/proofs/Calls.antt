@@ -3,12 +3,12 @@ use Rattle.std.proofs.Common.{◌≡◌, ℕ, zero, suc, ◌+◌, ◌-◌, ◌�
 use Rattle.std.specs.Prelude.{◌&&◌, ◌==◌, cond, count_by, nat_lt, if◌then◌else◌}
 use Rattle.std.proofs.lemmas.List.Sums.{sum_by-cons, sum_by-append}
 use Rattle.suifvm_ir.specs.declared.types.VmType.{VmType}
-use Rattle.suifvm_ir.specs.declared.insn.BinaryOp.{BinaryOp}
-use Rattle.suifvm_ir.specs.declared.insn.BinaryOp.TheVariants.{Add, Subtract, Multiply, Divide, Remainder, And, Or, ExclusiveOr}
-use Rattle.suifvm_ir.specs.declared.insn.Builtin.{Builtin}
-use Rattle.suifvm_ir.specs.declared.insn.Builtin.TheVariants.{PutChar, GetChar, Abort, Exit}
-use Rattle.suifvm_ir.specs.declared.insn.Callee.{Callee}
-use Rattle.suifvm_ir.specs.declared.insn.Callee.TheVariants as callee
+use Rattle.suifvm_ir.specs.declared.insn.VmBinaryOp.{VmBinaryOp}
+use Rattle.suifvm_ir.specs.declared.insn.VmBinaryOp.TheVariants.{Add, Subtract, Multiply, Divide, Remainder, And, Or, ExclusiveOr}
+use Rattle.suifvm_ir.specs.declared.insn.VmBuiltin.{VmBuiltin}
+use Rattle.suifvm_ir.specs.declared.insn.VmBuiltin.TheVariants.{PutChar, GetChar, Abort, Exit}
+use Rattle.suifvm_ir.specs.declared.insn.VmCallee.{VmCallee}
+use Rattle.suifvm_ir.specs.declared.insn.VmCallee.TheVariants as callee
 use Rattle.suifvm_ir.specs.declared.insn.TypedRegister.{TypedRegister}
 use Rattle.suifvm_ir.specs.declared.insn.VmInsn.{VmInsn}
 use Rattle.suifvm_ir.specs.declared.insn.VmInsn.TheVariants as x
@@ -72,7 +72,7 @@ simple_few xs e = omega (arith, no_calls xs e)
 
 -- ---- instructions
 
-binary_few : (op : BinaryOp) (ty : VmType) (d a b : ℕ) → count_by is_call (binary_items op ty d a b) ≤ most_binary_calls op
+binary_few : (op : VmBinaryOp) (ty : VmType) (d a b : ℕ) → count_by is_call (binary_items op ty d a b) ≤ most_binary_calls op
 binary_few Add ty d a b = omega arith
 binary_few Subtract ty d a b = omega arith
 binary_few Multiply ty d a b = omega arith
@@ -122,13 +122,13 @@ exit_few : (arguments : List ℕ) → count_by is_call (exit_items arguments) �
 exit_few [] = omega arith
 exit_few (a ∷ arguments) = omega arith
 
-builtin_few : (d : Option ℕ) (b : Builtin) (arguments : List ℕ) → count_by is_call (builtin_items d b arguments) ≤ 0
+builtin_few : (d : Option ℕ) (b : VmBuiltin) (arguments : List ℕ) → count_by is_call (builtin_items d b arguments) ≤ 0
 builtin_few d PutChar arguments = put_char_few d arguments
 builtin_few d GetChar arguments = result_few d
 builtin_few d Abort arguments = omega arith
 builtin_few d Exit arguments = exit_few arguments
 
-call_few : (d : Option ℕ) (c : Callee) (arguments : List ℕ) → count_by is_call (call_items d c arguments) ≤ 1
+call_few : (d : Option ℕ) (c : VmCallee) (arguments : List ℕ) → count_by is_call (call_items d c arguments) ≤ 1
 call_few d (callee.Function k) arguments =
     omega (
       arith,

@@ -8,16 +8,16 @@ use Rattle.alpha_isa.specs.Arithmetic.{fits, word_from}
 use Rattle.suifvm_ir.specs.declared.types.VmType.{VmType}
 use Rattle.suifvm_ir.specs.declared.types.MemoryType.{MemoryType}
 use Rattle.suifvm_ir.specs.declared.types.MemoryType.TheVariants.{S8, U8, S16, U16, S32, U32, S64, U64, P64}
-use Rattle.suifvm_ir.specs.declared.insn.BinaryOp.{BinaryOp}
-use Rattle.suifvm_ir.specs.declared.insn.BinaryOp.TheVariants.{Add, Subtract, Multiply, Divide, Remainder, And, Or, ExclusiveOr}
+use Rattle.suifvm_ir.specs.declared.insn.VmBinaryOp.{VmBinaryOp}
+use Rattle.suifvm_ir.specs.declared.insn.VmBinaryOp.TheVariants.{Add, Subtract, Multiply, Divide, Remainder, And, Or, ExclusiveOr}
 use Rattle.suifvm_ir.specs.declared.insn.ShiftOp.{ShiftOp}
 use Rattle.suifvm_ir.specs.declared.insn.ShiftOp.TheVariants.{ArithmeticRight, Left, LogicalRight}
 use Rattle.suifvm_ir.specs.declared.insn.CompareOp.{CompareOp}
 use Rattle.suifvm_ir.specs.declared.insn.CompareOp.TheVariants.{Equal, NotEqual, Less, LessOrEqual}
-use Rattle.suifvm_ir.specs.declared.insn.Builtin.{Builtin}
-use Rattle.suifvm_ir.specs.declared.insn.Builtin.TheVariants.{PutChar, GetChar, Abort, Exit}
-use Rattle.suifvm_ir.specs.declared.insn.Callee.{Callee}
-use Rattle.suifvm_ir.specs.declared.insn.Callee.TheVariants as callee
+use Rattle.suifvm_ir.specs.declared.insn.VmBuiltin.{VmBuiltin}
+use Rattle.suifvm_ir.specs.declared.insn.VmBuiltin.TheVariants.{PutChar, GetChar, Abort, Exit}
+use Rattle.suifvm_ir.specs.declared.insn.VmCallee.{VmCallee}
+use Rattle.suifvm_ir.specs.declared.insn.VmCallee.TheVariants as callee
 use Rattle.suifvm_ir.specs.declared.insn.TypedRegister.{TypedRegister}
 use Rattle.suifvm_ir.specs.declared.insn.VmInsn.{VmInsn}
 use Rattle.suifvm_ir.specs.declared.insn.VmInsn.TheVariants as x
@@ -25,8 +25,8 @@ use Rattle.suifvm_ir.specs.Functions.{count_of}
 use Rattle.suifvm_ir.specs.Programs.{weight_of}
 use Rattle.suifvm_ir.specs.Cost.{most_insns}
 use Rattle.temp_ir.specs.declared.operation.Operation.TheVariants.{Addq}
-use Rattle.temp_ir.specs.declared.insn.Source.TheVariants as source
-use Rattle.temp_ir.specs.declared.insn.Operand.TheVariants as operand
+use Rattle.temp_ir.specs.declared.insn.FirstOperand.TheVariants as source
+use Rattle.temp_ir.specs.declared.insn.SecondOperand.TheVariants as operand
 use Rattle.temp_ir.specs.declared.insn.TempInsn.{TempInsn}
 use Rattle.temp_ir.specs.declared.insn.TempInsn.TheVariants.{Operate, Call}
 use Rattle.alpha_forms.specs.Constants.{constant_items}
@@ -68,7 +68,7 @@ store_short ty p plus a = by_fit (fits w16 plus)
     by_fit true = omega arith
     by_fit false = omega (arith, length-append (far_items p plus) (near_store ty a 0 (pos 0)), far_short p plus)
 
-binary_short : (op : BinaryOp) (ty : VmType) (d a b : ℕ) → length (binary_items op ty d a b) ≤ 4
+binary_short : (op : VmBinaryOp) (ty : VmType) (d a b : ℕ) → length (binary_items op ty d a b) ≤ 4
 binary_short Add ty d a b = omega arith
 binary_short Subtract ty d a b = omega arith
 binary_short Multiply ty d a b = omega arith
@@ -117,13 +117,13 @@ exit_short : (arguments : List ℕ) → length (exit_items arguments) ≤ 4
 exit_short [] = omega arith
 exit_short (a ∷ arguments) = omega arith
 
-builtin_short : (d : Option ℕ) (b : Builtin) (arguments : List ℕ) → length (builtin_items d b arguments) ≤ 4
+builtin_short : (d : Option ℕ) (b : VmBuiltin) (arguments : List ℕ) → length (builtin_items d b arguments) ≤ 4
 builtin_short d PutChar arguments = put_char_short d arguments
 builtin_short d GetChar arguments = omega (arith, result_short d)
 builtin_short d Abort arguments = omega arith
 builtin_short d Exit arguments = exit_short arguments
 
-call_short : (d : Option ℕ) (c : Callee) (arguments : List ℕ) → length (call_items d c arguments) ≤ 4 + length arguments
+call_short : (d : Option ℕ) (c : VmCallee) (arguments : List ℕ) → length (call_items d c arguments) ≤ 4 + length arguments
 call_short d (callee.Function k) arguments = omega (arith, length-append (pass_items 0 arguments) (Call k (length arguments) ∷ result_items d), length-pass 0 arguments, result_short d)
 call_short d (callee.Builtin b) arguments = omega (arith, builtin_short d b arguments)
 

@@ -12,9 +12,9 @@ use Rattle.alpha_isa.specs.Step as isa
 use Rattle.suifvm_ir.specs.declared.types.VmType.{VmType}
 use Rattle.suifvm_ir.specs.declared.types.VmType.TheVariants.{S64}
 use Rattle.suifvm_ir.specs.declared.types.MemoryType.TheVariants.{U8}
-use Rattle.suifvm_ir.specs.declared.insn.BranchOp.{BranchOp}
-use Rattle.suifvm_ir.specs.declared.insn.Builtin.TheVariants.{PutChar, GetChar, Abort, Exit}
-use Rattle.suifvm_ir.specs.declared.insn.Callee.TheVariants as callee
+use Rattle.suifvm_ir.specs.declared.insn.VmBranchOp.{VmBranchOp}
+use Rattle.suifvm_ir.specs.declared.insn.VmBuiltin.TheVariants.{PutChar, GetChar, Abort, Exit}
+use Rattle.suifvm_ir.specs.declared.insn.VmCallee.TheVariants as callee
 use Rattle.suifvm_ir.specs.declared.insn.VmInsn.{VmInsn}
 use Rattle.suifvm_ir.specs.declared.insn.VmInsn.TheVariants as x
 use Rattle.suifvm_ir.specs.Insns.{named_register}
@@ -103,7 +103,7 @@ module _ (rooms : Rooms) (fs : List VmFunction) (n : ℕ) (ih : Simulates rooms 
       (λ there st. enter_block rooms fs n ih g block own r (without (is_emptied (i.Jump (suc block))) s) f vs ts w e h.number h.holds h.held ordinary waits defined
       (vm_acts rooms fs n ih g b at place own r s f (x.Jump (suc block)) left vs ts w e h ordinary waits defined is (Jumps 0 w.outer) refl refl))
 
-  pub branch_step : (op : BranchOp) (ty : VmType) (a block : ℕ) → 0 < block → Steps (x.Branch op ty a block)
+  pub branch_step : (op : VmBranchOp) (ty : VmType) (a block : ℕ) → 0 < block → Steps (x.Branch op ty a block)
   branch_step op ty a zero some h is = absurd (omega (arith, some))
   branch_step op ty a (suc block) some h is =
       last_step rooms fs n ih g b at place own r s f y left vs ts w e h ordinary waits defined is [] z (insns_items left) s refl refl refl

@@ -10,7 +10,7 @@ use Rattle.mem_model.specs.World.{Meter, World, Rooms, enter_call, leave_call}
 use Rattle.mem_model.specs.Ending.{Ending, Done}
 use Rattle.machine_model.specs.Code.{Calls, Returns}
 use Rattle.machine_model.specs.Machine.{Frame, Over, world_of, begin_locals, end_locals, act_on, go_on, exec, resume, return_to, status_ending}
-use Rattle.suifvm_ir.specs.declared.insn.Callee.TheVariants as callee
+use Rattle.suifvm_ir.specs.declared.insn.VmCallee.TheVariants as callee
 use Rattle.suifvm_ir.specs.declared.insn.TypedRegister.{TypedRegister}
 use Rattle.suifvm_ir.specs.declared.insn.VmInsn.{VmInsn}
 use Rattle.suifvm_ir.specs.declared.insn.VmInsn.TheVariants as x

@@ -11,9 +11,9 @@ use Rattle.mem_model.specs.World.{World, Rooms, enter_call}
 use Rattle.mem_model.specs.Ending.{Ending}
 use Rattle.machine_model.specs.Machine.{Frame, Over, world_of, begin_locals, exec, start}
 use Rattle.machine_model.proofs.Runs.{one_ending}
-use Rattle.suifvm_ir.specs.declared.insn.Builtin.TheVariants.{PutChar, GetChar, Abort, Exit}
-use Rattle.suifvm_ir.specs.declared.insn.Callee.{Callee}
-use Rattle.suifvm_ir.specs.declared.insn.Callee.TheVariants as callee
+use Rattle.suifvm_ir.specs.declared.insn.VmBuiltin.TheVariants.{PutChar, GetChar, Abort, Exit}
+use Rattle.suifvm_ir.specs.declared.insn.VmCallee.{VmCallee}
+use Rattle.suifvm_ir.specs.declared.insn.VmCallee.TheVariants as callee
 use Rattle.suifvm_ir.specs.declared.insn.VmInsn.{VmInsn}
 use Rattle.suifvm_ir.specs.declared.insn.VmInsn.TheVariants as x
 use Rattle.suifvm_ir.specs.Insns.{targets_of}
@@ -79,7 +79,7 @@ module _ (rooms : Rooms) (fs : List VmFunction) (globals : List DataObject) (law
     Steps y = Here rooms fs g b at place r s f (y ∷ left) → exec Value Registers rooms (vm_code (map code_of fs)) (suc n) (vm_conf rooms fs g b at own r vs w) ≡ Over e →
         Reaches rooms fs (temp_conf rooms fs g b place own s ts w) e
 
-    call_step : (d : Option ℕ) (c : Callee) (arguments : List ℕ) → callee_takes fs (length arguments) c ≡ true → Steps (x.Call d c arguments)
+    call_step : (d : Option ℕ) (c : VmCallee) (arguments : List ℕ) → callee_takes fs (length arguments) c ≡ true → Steps (x.Call d c arguments)
     call_step d (callee.Function k) arguments takes =
         let h = called k (length arguments) takes in
         function_step rooms fs n ih g b at place own r s f left vs ts w e ordinary waits defined d k arguments h.function h.there h.takes

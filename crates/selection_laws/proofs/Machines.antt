@@ -18,7 +18,7 @@ use Rattle.temp_ir.specs.Insns.{flows_on_of}
 use Rattle.alloc_model.specs.Contents.{Content}
 use Rattle.alloc_model.specs.Stores.{without, put_all}
 use Rattle.alloc_model.specs.Effect.{holder_eq, holders_read, holders_written, is_emptied, widest_call, does, takes_turn}
-use Rattle.alloc_model.specs.Temporaries.{FunctionCode, Temps, blocks_in, temp_site, next_site, flows_out, goes_on, is_left_at, next_if, site_or_next, site_in, temp_site_at, temp_code}
+use Rattle.alloc_model.specs.Temporaries.{TemporaryCode, Temps, blocks_in, temp_site, next_site, flows_out, goes_on, is_left_at, next_if, site_or_next, site_in, temp_site_at, temp_code}
 use Rattle.alpha_forms.specs.Straight.{Ran, After, Halted, NotStraight, goes_with, runs}
 
 -- ---- lists
@@ -87,7 +87,7 @@ all_flow xs h = by_last (last_of xs) refl
     by_last None e = refl
     by_last (Some x) e = from_all xs _ x h e
 
-module _ (functions : List FunctionCode) (g b : ℕ) (fn : FunctionCode) (number : slice_get functions g ≡ Some fn) where
+module _ (functions : List TemporaryCode) (g b : ℕ) (fn : TemporaryCode) (number : slice_get functions g ≡ Some fn) where
   pub site_there : (at : ℕ) (x : TempInsn) (left : List TempInsn) → Standing fn.blocks b at (x ∷ left) →
       (temp_code functions).site (record { function = g; block = b; at = at }) ≡ Some (temp_site (widest_call fn.blocks) x)
   site_there at x left s =
@@ -135,7 +135,7 @@ act_flows widest own (i.Serve service) cs ds o p e = refl
 act_flows widest own (i.Return with_value) cs ds o p e = absurd (cc)
 act_flows widest own i.Mark cs ds o p e = refl
 
-module _ (rooms : Rooms) (functions : List FunctionCode) where
+module _ (rooms : Rooms) (functions : List TemporaryCode) where
   abbrev pub code : Code Content Temps
   code = temp_code functions
 
@@ -163,7 +163,7 @@ module _ (rooms : Rooms) (functions : List FunctionCode) where
       last (Goes l) = refl
       last (Over e) = refl
 
-  module _ (g b own : ℕ) (ts : List (Frame Temps)) (m : Meter) (fn : FunctionCode) (number : slice_get functions g ≡ Some fn) where
+  module _ (g b own : ℕ) (ts : List (Frame Temps)) (m : Meter) (fn : TemporaryCode) (number : slice_get functions g ≡ Some fn) where
     -- where straight code comes to
     pub record CameBehind (at : ℕ) (s : Temps) (o : Outer) (ys : List TempInsn) (t : Temps) (p : Outer) : Type 0 where
       pub place : ℕ

@@ -17,8 +17,8 @@ use Rattle.mem_model.specs.Memory.{Memory, Object, object_at, no_object, fresh_o
 use Rattle.mem_model.proofs.Changes.{store_at-ok, copy_is, outside-stands, length-bytes_of}
 use Rattle.mem_model.proofs.RowValues.{length-parts_of}
 use Rattle.data_object.specs.declared.DataObject.{DataObject}
-use Rattle.data_object.specs.declared.Cell.{Cell}
-use Rattle.data_object.specs.declared.Cell.TheVariants.{Byte, AddressPart}
+use Rattle.data_object.specs.declared.DataCell.{DataCell}
+use Rattle.data_object.specs.declared.DataCell.TheVariants.{Byte, AddressPart}
 use Rattle.data_object.specs.Globals.{IsLawfulCell, IsLawfulObject, AreLawful}
 use Rattle.data_object.specs.Start.{memory_cell, start_object, start_memory}
 use Rattle.c_arithmetic.specs.declared.integer_type.IntegerType.{IntegerType}
@@ -108,11 +108,11 @@ zeros : (n : ℕ) → AreCells (replicate n (m.Byte 0))
 zeros zero = tt
 zeros (suc n) = (omega arith, zeros n)
 
-cells_from : (globals : List DataObject) (o : DataObject) (k : ℕ) (cells : List Cell) → ((at : ℕ) (c : Cell) → slice_get cells at ≡ Some c → IsLawfulCell globals o (k + at) c) → AreCells (map memory_cell cells)
+cells_from : (globals : List DataObject) (o : DataObject) (k : ℕ) (cells : List DataCell) → ((at : ℕ) (c : DataCell) → slice_get cells at ≡ Some c → IsLawfulCell globals o (k + at) c) → AreCells (map memory_cell cells)
 cells_from globals o k [] h = tt
 cells_from globals o k (c ∷ cells) h = (first c (h 0 c refl), cells_from globals o (suc k) cells (λ at d e. subst (λ n. IsLawfulCell globals o n d) (shift at) (h (suc at) d e)))
   where
-    first : (c : Cell) → IsLawfulCell globals o (k + 0) c → IsCell (memory_cell c)
+    first : (c : DataCell) → IsLawfulCell globals o (k + 0) c → IsCell (memory_cell c)
     first (Byte b) h = h
     first (AddressPart global plus part) h = tt
 

@@ -11,12 +11,12 @@ use Rattle.machine_model.specs.Machine.{Frame, Over, exec}
 use Rattle.suifvm_ir.specs.declared.types.VmType.{VmType}
 use Rattle.suifvm_ir.specs.declared.types.MemoryType.{MemoryType}
 use Rattle.suifvm_ir.specs.declared.types.Alignment.{Alignment}
-use Rattle.suifvm_ir.specs.declared.insn.Place.{Place}
-use Rattle.suifvm_ir.specs.declared.insn.Place.TheVariants.{Global, Local}
-use Rattle.suifvm_ir.specs.declared.insn.UnaryOp.{UnaryOp}
-use Rattle.suifvm_ir.specs.declared.insn.UnaryOp.TheVariants.{Move, Negate, Complement}
-use Rattle.suifvm_ir.specs.declared.insn.BinaryOp.{BinaryOp}
-use Rattle.suifvm_ir.specs.declared.insn.BinaryOp.TheVariants.{Add, Subtract, Multiply, Divide, Remainder, And, Or, ExclusiveOr}
+use Rattle.suifvm_ir.specs.declared.insn.VmObject.{VmObject}
+use Rattle.suifvm_ir.specs.declared.insn.VmObject.TheVariants.{Global, Local}
+use Rattle.suifvm_ir.specs.declared.insn.VmUnaryOp.{VmUnaryOp}
+use Rattle.suifvm_ir.specs.declared.insn.VmUnaryOp.TheVariants.{Move, Negate, Complement}
+use Rattle.suifvm_ir.specs.declared.insn.VmBinaryOp.{VmBinaryOp}
+use Rattle.suifvm_ir.specs.declared.insn.VmBinaryOp.TheVariants.{Add, Subtract, Multiply, Divide, Remainder, And, Or, ExclusiveOr}
 use Rattle.suifvm_ir.specs.declared.insn.ShiftOp.{ShiftOp}
 use Rattle.suifvm_ir.specs.declared.insn.ShiftOp.TheVariants.{ArithmeticRight, Left, LogicalRight}
 use Rattle.suifvm_ir.specs.declared.insn.CompareOp.{CompareOp}
@@ -47,12 +47,12 @@ use Rattle.selection_laws.proofs.Steps.{of_register, IsOrdinary, vm_conf, temp_c
 
 -- ---- the forms, by their operation
 
-unary_done : (op : UnaryOp) → UnaryIsDone op
+unary_done : (op : VmUnaryOp) → UnaryIsDone op
 unary_done Move = moves_done
 unary_done Negate = negations_done
 unary_done Complement = complements_done
 
-binary_done : (op : BinaryOp) → BinaryIsDone op
+binary_done : (op : VmBinaryOp) → BinaryIsDone op
 binary_done Add = sums_done
 binary_done Subtract = differences_done
 binary_done Multiply = products_done
@@ -73,7 +73,7 @@ compare_done NotEqual = inequalities_done
 compare_done Less = less_done
 compare_done LessOrEqual = at_most_done
 
-place_held : (own : ℕ) (place : Place) (plus : ℕ) → IsHeld (place_address own place plus)
+place_held : (own : ℕ) (place : VmObject) (plus : ℕ) → IsHeld (place_address own place plus)
 place_held own (Global k) plus = tt
 place_held own (Local k) plus = tt
 
@@ -92,7 +92,7 @@ module _ (rooms : Rooms) (fs : List VmFunction) (n : ℕ) (ih : Simulates rooms 
       value_step rooms fs n ih g b at place own r s f (x.LoadConstant ty d word) left vs ts w e h ordinary waits defined is d (when_value ty (Word word)) refl refl refl
       (constants_loaded widest own (temp_of d) word ty s w.outer small) (value_held ty (Word word) small)
 
-  pub address_step : (d : ℕ) (object : Place) (plus : ℕ) → Steps (x.LoadAddress d object plus)
+  pub address_step : (d : ℕ) (object : VmObject) (plus : ℕ) → Steps (x.LoadAddress d object plus)
   address_step d object plus h is =
       value_step rooms fs n ih g b at place own r s f (x.LoadAddress d object plus) left vs ts w e h ordinary waits defined is d (Gives (place_address own object plus)) refl refl refl
       (addresses_loaded widest own (temp_of d) plus object s w.outer) (place_held own object plus)
@@ -113,12 +113,12 @@ module _ (rooms : Rooms) (fs : List VmFunction) (n : ℕ) (ih : Simulates rooms 
       (copies_done widest own (temp_of to) (temp_of from) size align s w.outer (r to) (r from) (of_register to) (of_register from) ordinary.memory (eqb-true (size % alignment_bytes align) 0 whole) (h.holds to) (h.holds from))
       (copied_bytes w.outer.memory (r to) (r from) size (alignment_bytes align) ordinary.memory)
 
-  pub unary_step : (op : UnaryOp) (ty : VmType) (d a : ℕ) → Steps (x.Unary op ty d a)
+  pub unary_step : (op : VmUnaryOp) (ty : VmType) (d a : ℕ) → Steps (x.Unary op ty d a)
   unary_step op ty d a h is =
       value_step rooms fs n ih g b at place own r s f (x.Unary op ty d a) left vs ts w e h ordinary waits defined is d (unary_answer op ty (r a)) refl refl refl
       (unary_done op ty widest own (temp_of d) (temp_of a) s w.outer (r a) (of_register a) (h.held a) (h.holds a)) (unary_held op ty (r a) (h.held a))
 
-  pub binary_step : (op : BinaryOp) (ty : VmType) (d a c : ℕ) → Steps (x.Binary op ty d a c)
+  pub binary_step : (op : VmBinaryOp) (ty : VmType) (d a c : ℕ) → Steps (x.Binary op ty d a c)
   binary_step op ty d a c h is =
       value_step rooms fs n ih g b at place own r s f (x.Binary op ty d a c) left vs ts w e h ordinary waits defined is d (binary_answer w.outer.memory op ty (r a) (r c)) refl refl refl
       (binary_done op ty widest own (temp_of d) (temp_of a) (temp_of c) s w.outer (r a) (r c) (of_register a) (of_register c) (h.holds a) (h.holds c)) (binary_held w.outer.memory op ty (r a) (r c))

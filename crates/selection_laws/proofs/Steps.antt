@@ -10,7 +10,7 @@ use Rattle.mem_model.specs.World.{Outer, Meter, World, Rooms, outer_with_memory,
 use Rattle.mem_model.specs.Ending.{Ending, Trap, Undefined, More}
 use Rattle.machine_model.specs.Code.{Traps, HasNoMeaning, Act, Writes, Stops}
 use Rattle.machine_model.specs.Machine.{Frame, Config, Next, Goes, Over, turn_if, act_on, step_with, step_at, step, go_on, exec}
-use Rattle.suifvm_ir.specs.declared.insn.Callee.TheVariants as callee
+use Rattle.suifvm_ir.specs.declared.insn.VmCallee.TheVariants as callee
 use Rattle.suifvm_ir.specs.declared.insn.VmInsn.{VmInsn}
 use Rattle.suifvm_ir.specs.declared.insn.VmInsn.TheVariants as x
 use Rattle.suifvm_ir.specs.Insns.{named_register, reads_of, writes_of}

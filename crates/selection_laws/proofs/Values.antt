@@ -22,10 +22,10 @@ use Rattle.c_arithmetic.proofs.Results.{sum-word, difference-word, product-word,
 use Rattle.suifvm_ir.specs.declared.types.VmType.{VmType}
 use Rattle.suifvm_ir.specs.declared.types.VmType.TheVariants.{S32, U32, S64, U64, P64}
 use Rattle.suifvm_ir.specs.declared.types.MemoryType.{MemoryType}
-use Rattle.suifvm_ir.specs.declared.insn.UnaryOp.{UnaryOp}
-use Rattle.suifvm_ir.specs.declared.insn.UnaryOp.TheVariants.{Move, Negate, Complement}
-use Rattle.suifvm_ir.specs.declared.insn.BinaryOp.{BinaryOp}
-use Rattle.suifvm_ir.specs.declared.insn.BinaryOp.TheVariants.{Add, Subtract, Multiply, Divide, Remainder, And, Or, ExclusiveOr}
+use Rattle.suifvm_ir.specs.declared.insn.VmUnaryOp.{VmUnaryOp}
+use Rattle.suifvm_ir.specs.declared.insn.VmUnaryOp.TheVariants.{Move, Negate, Complement}
+use Rattle.suifvm_ir.specs.declared.insn.VmBinaryOp.{VmBinaryOp}
+use Rattle.suifvm_ir.specs.declared.insn.VmBinaryOp.TheVariants.{Add, Subtract, Multiply, Divide, Remainder, And, Or, ExclusiveOr}
 use Rattle.suifvm_ir.specs.declared.insn.ShiftOp.{ShiftOp}
 use Rattle.suifvm_ir.specs.declared.insn.ShiftOp.TheVariants.{ArithmeticRight, Left, LogicalRight}
 use Rattle.suifvm_ir.specs.declared.insn.CompareOp.{CompareOp}
@@ -86,17 +86,17 @@ value_held ty v h = by_type (is_value_of ty v)
 
 -- ---- operations
 
-unary_number_held : (op : UnaryOp) (t : IntegerType) (n : ℕ) → is_word t n ≡ true → AnswerIsHeld (unary_number op t n)
+unary_number_held : (op : VmUnaryOp) (t : IntegerType) (n : ℕ) → is_word t n ≡ true → AnswerIsHeld (unary_number op t n)
 unary_number_held Move t n e = word_held t n e
 unary_number_held Negate t n e = outcome_held t (c.negation t n) (negation-word t n)
 unary_number_held Complement t n e = extension-below t _
 
-unary_pointer_held : (op : UnaryOp) (v : Value) → IsHeld v → AnswerIsHeld (unary_pointer op v)
+unary_pointer_held : (op : VmUnaryOp) (v : Value) → IsHeld v → AnswerIsHeld (unary_pointer op v)
 unary_pointer_held Move v h = value_held P64 v h
 unary_pointer_held Negate v h = tt
 unary_pointer_held Complement v h = tt
 
-pub unary_held : (op : UnaryOp) (ty : VmType) (v : Value) → IsHeld v → AnswerIsHeld (unary_answer op ty v)
+pub unary_held : (op : VmUnaryOp) (ty : VmType) (v : Value) → IsHeld v → AnswerIsHeld (unary_answer op ty v)
 unary_held op S32 v h = number_held Int v (unary_number op) (unary_number_held op Int)
 unary_held op U32 v h = number_held UnsignedInt v (unary_number op) (unary_number_held op UnsignedInt)
 unary_held op S64 v h = number_held Long v (unary_number op) (unary_number_held op Long)
@@ -113,7 +113,7 @@ conversion_held None t v = tt
 pub convert_held : (from : MemoryType) (to : VmType) (v : Value) → AnswerIsHeld (convert_answer from to v)
 convert_held from to v = conversion_held (memory_integer from) (integer_of to) v
 
-binary_number_held : (op : BinaryOp) (t : IntegerType) (a b : ℕ) → AnswerIsHeld (binary_number op t a b)
+binary_number_held : (op : VmBinaryOp) (t : IntegerType) (a b : ℕ) → AnswerIsHeld (binary_number op t a b)
 binary_number_held Add t a b = outcome_held t (c.sum t a b) (sum-word t a b)
 binary_number_held Subtract t a b = outcome_held t (c.difference t a b) (difference-word t a b)
 binary_number_held Multiply t a b = outcome_held t (c.product t a b) (product-word t a b)
@@ -136,7 +136,7 @@ distance_held : (z : Option ℤ) → AnswerIsHeld (distance_answer z)
 distance_held (Some z) = extension-below Long (residue z)
 distance_held None = tt
 
-pointer_held : (m : Memory) (op : BinaryOp) (a b : Value) → AnswerIsHeld (pointer_answer m op a b)
+pointer_held : (m : Memory) (op : VmBinaryOp) (a b : Value) → AnswerIsHeld (pointer_answer m op a b)
 pointer_held m Add a (Word n) = moved_held m a _
 pointer_held m Add a (Address p) = tt
 pointer_held m Add a Unset = tt
@@ -148,7 +148,7 @@ pointer_held m And a b = tt
 pointer_held m Or a b = tt
 pointer_held m ExclusiveOr a b = tt
 
-pub binary_held : (m : Memory) (op : BinaryOp) (ty : VmType) (a b : Value) → AnswerIsHeld (binary_answer m op ty a b)
+pub binary_held : (m : Memory) (op : VmBinaryOp) (ty : VmType) (a b : Value) → AnswerIsHeld (binary_answer m op ty a b)
 binary_held m op S32 a b = numbers_held Int a b (binary_number op) (binary_number_held op Int)
 binary_held m op U32 a b = numbers_held UnsignedInt a b (binary_number op) (binary_number_held op UnsignedInt)
 binary_held m op S64 a b = numbers_held Long a b (binary_number op) (binary_number_held op Long)

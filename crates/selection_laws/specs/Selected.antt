@@ -4,12 +4,12 @@ use Rattle.suifvm_ir.specs.Functions.{AllInsns}
 use Rattle.suifvm_ir.specs.Programs.{VmFunction}
 use Rattle.suifvm_ir.specs.declared.program.VmProgram.{VmProgram}
 use Rattle.temp_ir.specs.declared.program.TempProgram.{TempProgram}
-use Rattle.alloc_model.specs.Temporaries.{FunctionCode, code_of}
+use Rattle.alloc_model.specs.Temporaries.{TemporaryCode, code_of}
 use Rattle.selection_code.specs.Fields.{HasFields}
 use Rattle.selection_code.specs.Functions.{function_blocks}
 
 -- the code of a function
-abbrev pub selected_code : VmFunction → FunctionCode
+abbrev pub selected_code : VmFunction → TemporaryCode
 selected_code f = record { sizes = map (λ o. o.size) f.objects; blocks = function_blocks f.params f.blocks }
 
 pub record IsSelected (program : VmProgram) (selected : TempProgram) : Type 0 where

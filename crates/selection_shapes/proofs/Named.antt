@@ -4,14 +4,14 @@ use Rattle.std.specs.Prelude.{◌&&◌, nat_lt, IsTrue, slice_get, if◌then◌e
 use Rattle.std.specs.List.{list_all}
 use Rattle.std.proofs.lemmas.Bool.{and_from}
 use Rattle.data_object.specs.declared.DataObject.{DataObject}
-use Rattle.suifvm_ir.specs.declared.function.Object.{Object}
+use Rattle.suifvm_ir.specs.declared.function.MemoryLocal.{MemoryLocal}
 use Rattle.suifvm_ir.specs.declared.types.VmType.{VmType}
-use Rattle.suifvm_ir.specs.declared.insn.BinaryOp.{BinaryOp}
-use Rattle.suifvm_ir.specs.declared.insn.BinaryOp.TheVariants.{Add, Subtract, Multiply, Divide, Remainder, And, Or, ExclusiveOr}
-use Rattle.suifvm_ir.specs.declared.insn.Builtin.{Builtin}
-use Rattle.suifvm_ir.specs.declared.insn.Builtin.TheVariants.{PutChar, GetChar, Abort, Exit}
-use Rattle.suifvm_ir.specs.declared.insn.Callee.{Callee}
-use Rattle.suifvm_ir.specs.declared.insn.Callee.TheVariants as callee
+use Rattle.suifvm_ir.specs.declared.insn.VmBinaryOp.{VmBinaryOp}
+use Rattle.suifvm_ir.specs.declared.insn.VmBinaryOp.TheVariants.{Add, Subtract, Multiply, Divide, Remainder, And, Or, ExclusiveOr}
+use Rattle.suifvm_ir.specs.declared.insn.VmBuiltin.{VmBuiltin}
+use Rattle.suifvm_ir.specs.declared.insn.VmBuiltin.TheVariants.{PutChar, GetChar, Abort, Exit}
+use Rattle.suifvm_ir.specs.declared.insn.VmCallee.{VmCallee}
+use Rattle.suifvm_ir.specs.declared.insn.VmCallee.TheVariants as callee
 use Rattle.suifvm_ir.specs.declared.insn.TypedRegister.{TypedRegister}
 use Rattle.suifvm_ir.specs.declared.insn.VmInsn.{VmInsn}
 use Rattle.suifvm_ir.specs.declared.insn.VmInsn.TheVariants as x
@@ -36,7 +36,7 @@ simple_nameless (z ∷ xs) e =
     let p = both (is_simple z) (are_simple xs) e in
     and_from (is_nameless z) (are_nameless xs) (both (is_nameless z) (is_plain z) (both _ (is_nameless z && is_plain z) p.0).1).0 (simple_nameless xs p.1)
 
-binary_nameless : (op : BinaryOp) (ty : VmType) (d a b : ℕ) → are_nameless (binary_items op ty d a b) ≡ true
+binary_nameless : (op : VmBinaryOp) (ty : VmType) (d a b : ℕ) → are_nameless (binary_items op ty d a b) ≡ true
 binary_nameless Add ty d a b = refl
 binary_nameless Subtract ty d a b = refl
 binary_nameless Multiply ty d a b = refl
@@ -84,7 +84,7 @@ exit_nameless : (arguments : List ℕ) → are_nameless (exit_items arguments) �
 exit_nameless [] = refl
 exit_nameless (a ∷ arguments) = refl
 
-builtin_nameless : (d : Option ℕ) (b : Builtin) (arguments : List ℕ) → are_nameless (builtin_items d b arguments) ≡ true
+builtin_nameless : (d : Option ℕ) (b : VmBuiltin) (arguments : List ℕ) → are_nameless (builtin_items d b arguments) ≡ true
 builtin_nameless d PutChar arguments = put_char_nameless d arguments
 builtin_nameless d GetChar arguments = result_nameless d
 builtin_nameless d Abort arguments = refl
@@ -94,7 +94,7 @@ return_nameless : (value : Option TypedRegister) → are_nameless (return_items 
 return_nameless None = refl
 return_nameless (Some value) = refl
 
-module _ (fs : List vm.VmFunction) (ts : List TempFn) (globals : List DataObject) (objects : List Object)
+module _ (fs : List vm.VmFunction) (ts : List TempFn) (globals : List DataObject) (objects : List MemoryLocal)
     (same : (k count : ℕ) → vm.function_takes count (slice_get fs k) ≡ true → function_takes count (slice_get ts k) ≡ true) where
   abbrev There : TempInsn → Type 0
   There z = names_what_is_there ts globals objects z ≡ true
@@ -128,7 +128,7 @@ module _ (fs : List vm.VmFunction) (ts : List TempFn) (globals : List DataObject
   one_there : (z : TempInsn) → names_what_is_there ts globals objects z ≡ true → All There (z ∷ [])
   one_there z h = all_more There z [] h (all_nil There)
 
-  call_there : (d : Option ℕ) (c : Callee) (arguments : List ℕ) → vm.callee_takes fs (length arguments) c ≡ true → All There (call_items d c arguments)
+  call_there : (d : Option ℕ) (c : VmCallee) (arguments : List ℕ) → vm.callee_takes fs (length arguments) c ≡ true → All There (call_items d c arguments)
   call_there d (callee.Function k) arguments h =
       all_append There (pass_items 0 arguments) (i.Call k (length arguments) ∷ result_items d) (nameless_there (pass_items 0 arguments) (passes_nameless 0 arguments))
       (all_more There (i.Call k (length arguments)) (result_items d) (same k (length arguments) h) (nameless_there (result_items d) (result_nameless d)))

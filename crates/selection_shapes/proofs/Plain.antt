@@ -14,19 +14,19 @@ use Rattle.suifvm_ir.specs.declared.types.VmType.{VmType}
 use Rattle.suifvm_ir.specs.declared.types.MemoryType.{MemoryType}
 use Rattle.suifvm_ir.specs.declared.types.MemoryType.TheVariants as m
 use Rattle.suifvm_ir.specs.declared.types.Alignment.{Alignment}
-use Rattle.suifvm_ir.specs.declared.insn.BinaryOp.{BinaryOp}
-use Rattle.suifvm_ir.specs.declared.insn.BinaryOp.TheVariants.{Add, Subtract, Multiply, Divide, Remainder, And, Or, ExclusiveOr}
+use Rattle.suifvm_ir.specs.declared.insn.VmBinaryOp.{VmBinaryOp}
+use Rattle.suifvm_ir.specs.declared.insn.VmBinaryOp.TheVariants.{Add, Subtract, Multiply, Divide, Remainder, And, Or, ExclusiveOr}
 use Rattle.suifvm_ir.specs.declared.insn.ShiftOp.{ShiftOp}
 use Rattle.suifvm_ir.specs.declared.insn.ShiftOp.TheVariants.{ArithmeticRight, Left, LogicalRight}
 use Rattle.suifvm_ir.specs.declared.insn.CompareOp.{CompareOp}
 use Rattle.suifvm_ir.specs.declared.insn.CompareOp.TheVariants.{Equal, NotEqual, Less, LessOrEqual}
-use Rattle.suifvm_ir.specs.declared.insn.Builtin.{Builtin}
-use Rattle.suifvm_ir.specs.declared.insn.Builtin.TheVariants.{PutChar, GetChar, Abort, Exit}
-use Rattle.suifvm_ir.specs.declared.insn.Callee.{Callee}
-use Rattle.suifvm_ir.specs.declared.insn.Callee.TheVariants as callee
+use Rattle.suifvm_ir.specs.declared.insn.VmBuiltin.{VmBuiltin}
+use Rattle.suifvm_ir.specs.declared.insn.VmBuiltin.TheVariants.{PutChar, GetChar, Abort, Exit}
+use Rattle.suifvm_ir.specs.declared.insn.VmCallee.{VmCallee}
+use Rattle.suifvm_ir.specs.declared.insn.VmCallee.TheVariants as callee
 use Rattle.suifvm_ir.specs.Programs.{alignment_bytes}
 use Rattle.temp_ir.specs.declared.operation.AddressOp.TheVariants.{Lda, Ldah}
-use Rattle.temp_ir.specs.declared.insn.Source.TheVariants as source
+use Rattle.temp_ir.specs.declared.insn.FirstOperand.TheVariants as source
 use Rattle.temp_ir.specs.declared.insn.TempInsn.{TempInsn}
 use Rattle.temp_ir.specs.declared.insn.TempInsn.TheVariants as i
 use Rattle.temp_ir.specs.Insns.{targets_of, flows_on_of}
@@ -142,7 +142,7 @@ parts_simple al (suc n) to from at =
 
 -- ---- operations
 
-pub binary_plain : (op : BinaryOp) (ty : VmType) (d a b : ℕ) → are_plain (binary_items op ty d a b) ≡ true
+pub binary_plain : (op : VmBinaryOp) (ty : VmType) (d a b : ℕ) → are_plain (binary_items op ty d a b) ≡ true
 binary_plain Add ty d a b = refl
 binary_plain Subtract ty d a b = refl
 binary_plain Multiply ty d a b = refl
@@ -233,12 +233,12 @@ exit_plain : (arguments : List ℕ) → are_plain (exit_items arguments) ≡ tru
 exit_plain [] = refl
 exit_plain (a ∷ arguments) = refl
 
-builtin_plain : (d : Option ℕ) (b : Builtin) (arguments : List ℕ) → are_plain (builtin_items d b arguments) ≡ true
+builtin_plain : (d : Option ℕ) (b : VmBuiltin) (arguments : List ℕ) → are_plain (builtin_items d b arguments) ≡ true
 builtin_plain d PutChar arguments = put_char_plain d arguments
 builtin_plain d GetChar arguments = result_plain d
 builtin_plain d Abort arguments = refl
 builtin_plain d Exit arguments = exit_plain arguments
 
-pub call_plain : (d : Option ℕ) (c : Callee) (arguments : List ℕ) → are_plain (call_items d c arguments) ≡ true
+pub call_plain : (d : Option ℕ) (c : VmCallee) (arguments : List ℕ) → are_plain (call_items d c arguments) ≡ true
 call_plain d (callee.Function k) arguments = plain-append (pass_items 0 arguments) (i.Call k (length arguments) ∷ result_items d) (passes_plain 0 arguments) (result_plain d)
 call_plain d (callee.Builtin b) arguments = builtin_plain d b arguments

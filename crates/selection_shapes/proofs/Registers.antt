@@ -10,15 +10,15 @@ use Rattle.suifvm_ir.specs.declared.types.VmType.{VmType}
 use Rattle.suifvm_ir.specs.declared.types.MemoryType.{MemoryType}
 use Rattle.suifvm_ir.specs.declared.types.MemoryType.TheVariants as m
 use Rattle.suifvm_ir.specs.declared.types.Alignment.{Alignment}
-use Rattle.suifvm_ir.specs.declared.insn.BinaryOp.{BinaryOp}
-use Rattle.suifvm_ir.specs.declared.insn.BinaryOp.TheVariants.{Add, Subtract, Multiply, Divide, Remainder, And, Or, ExclusiveOr}
+use Rattle.suifvm_ir.specs.declared.insn.VmBinaryOp.{VmBinaryOp}
+use Rattle.suifvm_ir.specs.declared.insn.VmBinaryOp.TheVariants.{Add, Subtract, Multiply, Divide, Remainder, And, Or, ExclusiveOr}
 use Rattle.suifvm_ir.specs.declared.insn.ShiftOp.{ShiftOp}
 use Rattle.suifvm_ir.specs.declared.insn.ShiftOp.TheVariants.{ArithmeticRight, Left, LogicalRight}
 use Rattle.suifvm_ir.specs.declared.insn.CompareOp.{CompareOp}
 use Rattle.suifvm_ir.specs.declared.insn.CompareOp.TheVariants.{Equal, NotEqual, Less, LessOrEqual}
-use Rattle.suifvm_ir.specs.declared.insn.Builtin.TheVariants.{PutChar, GetChar, Abort, Exit}
-use Rattle.suifvm_ir.specs.declared.insn.Callee.{Callee}
-use Rattle.suifvm_ir.specs.declared.insn.Callee.TheVariants as callee
+use Rattle.suifvm_ir.specs.declared.insn.VmBuiltin.TheVariants.{PutChar, GetChar, Abort, Exit}
+use Rattle.suifvm_ir.specs.declared.insn.VmCallee.{VmCallee}
+use Rattle.suifvm_ir.specs.declared.insn.VmCallee.TheVariants as callee
 use Rattle.suifvm_ir.specs.declared.insn.TypedRegister.{TypedRegister}
 use Rattle.suifvm_ir.specs.declared.insn.VmInsn.{VmInsn}
 use Rattle.suifvm_ir.specs.declared.insn.VmInsn.TheVariants as x
@@ -27,9 +27,9 @@ use Rattle.suifvm_ir.specs.Functions.{AllInsns, UsesRegisters}
 use Rattle.suifvm_ir.specs.Programs.{alignment_bytes}
 use Rattle.temp_ir.specs.declared.operation.AddressOp.TheVariants.{Lda, Ldah}
 use Rattle.temp_ir.specs.declared.operation.Operation.TheVariants.{Bis, Addq}
-use Rattle.temp_ir.specs.declared.operation.Routine.{Routine}
-use Rattle.temp_ir.specs.declared.insn.Source.TheVariants as source
-use Rattle.temp_ir.specs.declared.insn.Operand.TheVariants as operand
+use Rattle.temp_ir.specs.declared.operation.DivisionRoutine.{DivisionRoutine}
+use Rattle.temp_ir.specs.declared.insn.FirstOperand.TheVariants as source
+use Rattle.temp_ir.specs.declared.insn.SecondOperand.TheVariants as operand
 use Rattle.temp_ir.specs.declared.insn.TempInsn.{TempInsn}
 use Rattle.temp_ir.specs.declared.insn.TempInsn.TheVariants as i
 use Rattle.temp_ir.specs.Insns.{reads_of, writes_of}
@@ -163,10 +163,10 @@ module _ (n : ℕ) (some : 4 ≤ n) where
 
   -- ---- operations
 
-  division_uses : (r : Routine) (d a b : ℕ) → d < n → a < n → b < n → AllUse n (division_items r d a b)
+  division_uses : (r : DivisionRoutine) (d a b : ℕ) → d < n → a < n → b < n → AllUse n (division_items r d a b)
   division_uses r d a b f g h = use_more _ _ (one a g, none) (use_more _ _ (one b h, none) (use_more _ _ (none, none) (use_one _ (none, one d f))))
 
-  binary_uses : (op : BinaryOp) (ty : VmType) (d a b : ℕ) → d < n → a < n → b < n → AllUse n (binary_items op ty d a b)
+  binary_uses : (op : VmBinaryOp) (ty : VmType) (d a b : ℕ) → d < n → a < n → b < n → AllUse n (binary_items op ty d a b)
   binary_uses Add ty d a b f g h = use_one _ (two a b g h, one d f)
   binary_uses Subtract ty d a b f g h = use_one _ (two a b g h, one d f)
   binary_uses Multiply ty d a b f g h = use_one _ (two a b g h, one d f)
@@ -283,7 +283,7 @@ module _ (count : ℕ) where
       use_more (count + 4) some _ _ (one (count + 4) some (temp_of a) (room a (all_first (λ r. r < count) a arguments h)), none (count + 4) some)
       (no_temps _ _ refl refl (no_temps _ [] refl refl (use_nil (count + 4) some)))
 
-  call_use : (d : Option ℕ) (c : Callee) (arguments : List ℕ) → All (λ r. r < count) arguments → All (λ r. r < count) (vm.named_register d) → AllUse (count + 4) (call_items d c arguments)
+  call_use : (d : Option ℕ) (c : VmCallee) (arguments : List ℕ) → All (λ r. r < count) arguments → All (λ r. r < count) (vm.named_register d) → AllUse (count + 4) (call_items d c arguments)
   call_use d (callee.Function k) arguments h g =
       use_both (count + 4) some (pass_items 0 arguments) (i.Call k (length arguments) ∷ result_items d) (passes_use 0 arguments h) (no_temps (i.Call k (length arguments)) (result_items d) refl refl (result_use d g))
   call_use d (callee.Builtin PutChar) arguments h g = put_char_use d arguments h g

@@ -5,15 +5,15 @@ use Rattle.std.specs.List.{list_all}
 use Rattle.std.proofs.lemmas.Bool.{and_from, eqb-true}
 use Rattle.std.proofs.lemmas.List.{append_assoc}
 use Rattle.suifvm_ir.specs.declared.types.VmType.{VmType}
-use Rattle.suifvm_ir.specs.declared.insn.BinaryOp.{BinaryOp}
-use Rattle.suifvm_ir.specs.declared.insn.BinaryOp.TheVariants.{Add, Subtract, Multiply, Divide, Remainder, And, Or, ExclusiveOr}
-use Rattle.suifvm_ir.specs.declared.insn.Builtin.TheVariants.{PutChar, GetChar, Abort, Exit}
-use Rattle.suifvm_ir.specs.declared.insn.Callee.{Callee}
-use Rattle.suifvm_ir.specs.declared.insn.Callee.TheVariants as callee
+use Rattle.suifvm_ir.specs.declared.insn.VmBinaryOp.{VmBinaryOp}
+use Rattle.suifvm_ir.specs.declared.insn.VmBinaryOp.TheVariants.{Add, Subtract, Multiply, Divide, Remainder, And, Or, ExclusiveOr}
+use Rattle.suifvm_ir.specs.declared.insn.VmBuiltin.TheVariants.{PutChar, GetChar, Abort, Exit}
+use Rattle.suifvm_ir.specs.declared.insn.VmCallee.{VmCallee}
+use Rattle.suifvm_ir.specs.declared.insn.VmCallee.TheVariants as callee
 use Rattle.suifvm_ir.specs.declared.insn.TypedRegister.{TypedRegister}
 use Rattle.suifvm_ir.specs.declared.insn.VmInsn.{VmInsn}
 use Rattle.suifvm_ir.specs.declared.insn.VmInsn.TheVariants as x
-use Rattle.temp_ir.specs.declared.operation.Routine.{Routine}
+use Rattle.temp_ir.specs.declared.operation.DivisionRoutine.{DivisionRoutine}
 use Rattle.temp_ir.specs.declared.insn.TempInsn.{TempInsn}
 use Rattle.temp_ir.specs.declared.insn.TempInsn.TheVariants as i
 use Rattle.temp_ir.specs.Fixed.{argument_registers, fixed_reads_of, has_number, written_behind, is_settled_block, is_settled}
@@ -49,10 +49,10 @@ simple_settles (z ∷ xs) e written ys h =
 
 -- ---- divisions
 
-division_settles : (r : Routine) (d a b : ℕ) → Settles (division_items r d a b)
+division_settles : (r : DivisionRoutine) (d a b : ℕ) → Settles (division_items r d a b)
 division_settles r d a b written ys h = h _
 
-binary_settles : (op : BinaryOp) (ty : VmType) (d a b : ℕ) → Settles (binary_items op ty d a b)
+binary_settles : (op : VmBinaryOp) (ty : VmType) (d a b : ℕ) → Settles (binary_items op ty d a b)
 binary_settles Add ty d a b = λ written ys h. h _
 binary_settles Subtract ty d a b = λ written ys h. h _
 binary_settles Multiply ty d a b = λ written ys h. h _
@@ -110,7 +110,7 @@ exit_settles : (arguments : List ℕ) → Settles (exit_items arguments)
 exit_settles [] written ys h = h written
 exit_settles (a ∷ arguments) written ys h = h _
 
-call_settles : (d : Option ℕ) (c : Callee) (arguments : List ℕ) → Settles (call_items d c arguments)
+call_settles : (d : Option ℕ) (c : VmCallee) (arguments : List ℕ) → Settles (call_items d c arguments)
 call_settles d (callee.Function f) arguments = function_settles d f arguments
 call_settles d (callee.Builtin PutChar) arguments = put_char_settles d arguments
 call_settles d (callee.Builtin GetChar) arguments = get_char_settles d arguments

@@ -5,19 +5,19 @@ use Rattle.alpha_isa.specs.State.{State}
 use Rattle.item_steps.specs.Standing.{Labels}
 use Rattle.alpha_rt.specs.Calls.{scratch_size}
 use Rattle.alloc_model.specs.Places.{Places}
-use Rattle.flat_frames.specs.Shapes.{Shape, frame_size}
+use Rattle.flat_frames.specs.Shapes.{FrameShape, frame_size}
 use Rattle.frame_transfers.specs.Laws.{Call}
 use Rattle.call_stacks.specs.Stacks.{Waiting, Start, StackIs}
 use Rattle.call_entries.specs.Entering.{HasRoom}
 use Rattle.division_calls.specs.Divisions.{HasScratch}
 
 -- the bytes of the frames of a call and of those that wait for it
-abbrev pub frames_size : Shape → List Waiting → ℕ
+abbrev pub frames_size : FrameShape → List Waiting → ℕ
 frames_size s [] = frame_size s
 frames_size s (g ∷ gs) = frame_size s + frames_size g.shape gs
 
 -- a frame and the scratch bytes of a routine, for each of them: what the rooms of functions have to hold
-abbrev pub rooms_size : Shape → List Waiting → ℕ
+abbrev pub rooms_size : FrameShape → List Waiting → ℕ
 rooms_size s [] = frame_size s + scratch_size
 rooms_size s (g ∷ gs) = frame_size s + scratch_size + rooms_size g.shape gs
 
@@ -37,6 +37,6 @@ ScratchIsThere =
 abbrev pub RoomIsThere : Type 0
 RoomIsThere =
     (p : Program) (there : Labels) (start : Start) (c : Call) (gs : List Waiting) (held : Places) (s : State)
-    (called : Shape) → StackIs p there start c gs held s →
+    (called : FrameShape) → StackIs p there start c gs held s →
     stack_start p + (frame_size called + scratch_size + rooms_size c.shape gs) ≤ start.top →
     frame_size called + frame_size c.shape < 2147450880 → HasRoom p c called

@@ -2,8 +2,8 @@
 -- instruction counts 24 words, a call or a division 160 more, and an edge 536 words, since splitting it may add a block
 -- of one jump and an edge, each end of which may move values.
 use Rattle.std.specs.Prelude.{ℕ, ◌+◌, ◌*◌, List, length, sum_by}
-use Rattle.suifvm_ir.specs.declared.insn.BinaryOp.{BinaryOp}
-use Rattle.suifvm_ir.specs.declared.insn.BinaryOp.TheVariants.{Divide, Remainder}
+use Rattle.suifvm_ir.specs.declared.insn.VmBinaryOp.{VmBinaryOp}
+use Rattle.suifvm_ir.specs.declared.insn.VmBinaryOp.TheVariants.{Divide, Remainder}
 use Rattle.suifvm_ir.specs.declared.insn.VmInsn.{VmInsn}
 use Rattle.suifvm_ir.specs.declared.insn.VmInsn.TheVariants.{LoadConstant, LoadAddress, Load, Store, Copy, Unary, Binary, Shift, Convert, Compare, Branch, Jump, Call, Return, Mark, Nop}
 use Rattle.suifvm_ir.specs.Insns.{targets_of, flows_on_of}
@@ -30,7 +30,7 @@ most_insns Mark = 1
 most_insns Nop = 0
 
 -- the most calls that an operator becomes: a division is a call of a routine
-abbrev pub most_binary_calls : BinaryOp → ℕ
+abbrev pub most_binary_calls : VmBinaryOp → ℕ
 most_binary_calls Divide = 1
 most_binary_calls Remainder = 1
 most_binary_calls op = 0

@@ -2,13 +2,13 @@
 use Rattle.std.specs.Prelude.{ℕ, zero, Bool, true, false, List, [], ◌∷◌, Option, Some, None}
 use Rattle.suifvm_ir.specs.declared.types.VmType.{VmType}
 use Rattle.suifvm_ir.specs.declared.types.VmType.TheVariants.{S32, U32, S64, U64, P64}
-use Rattle.suifvm_ir.specs.declared.insn.UnaryOp.{UnaryOp}
-use Rattle.suifvm_ir.specs.declared.insn.UnaryOp.TheVariants.{Move, Negate, Complement}
-use Rattle.suifvm_ir.specs.declared.insn.BinaryOp.{BinaryOp}
-use Rattle.suifvm_ir.specs.declared.insn.BinaryOp.TheVariants.{Add, Subtract, Multiply, Divide, Remainder, And, Or, ExclusiveOr}
-use Rattle.suifvm_ir.specs.declared.insn.Builtin.TheVariants.{Abort}
-use Rattle.suifvm_ir.specs.declared.insn.Callee.{Callee}
-use Rattle.suifvm_ir.specs.declared.insn.Callee.TheVariants.{Builtin}
+use Rattle.suifvm_ir.specs.declared.insn.VmUnaryOp.{VmUnaryOp}
+use Rattle.suifvm_ir.specs.declared.insn.VmUnaryOp.TheVariants.{Move, Negate, Complement}
+use Rattle.suifvm_ir.specs.declared.insn.VmBinaryOp.{VmBinaryOp}
+use Rattle.suifvm_ir.specs.declared.insn.VmBinaryOp.TheVariants.{Add, Subtract, Multiply, Divide, Remainder, And, Or, ExclusiveOr}
+use Rattle.suifvm_ir.specs.declared.insn.VmBuiltin.TheVariants.{Abort}
+use Rattle.suifvm_ir.specs.declared.insn.VmCallee.{VmCallee}
+use Rattle.suifvm_ir.specs.declared.insn.VmCallee.TheVariants.{Builtin}
 use Rattle.suifvm_ir.specs.declared.insn.TypedRegister.{TypedRegister}
 use Rattle.suifvm_ir.specs.declared.insn.VmInsn.{VmInsn}
 use Rattle.suifvm_ir.specs.declared.insn.VmInsn.TheVariants.{LoadConstant, LoadAddress, Load, Store, Copy, Unary, Binary, Shift, Convert, Compare, Branch, Jump, Call, Return, Mark, Nop}
@@ -89,12 +89,12 @@ is_signed S64 = true
 is_signed U64 = false
 is_signed P64 = false
 
-abbrev pub unary_may_trap : UnaryOp → VmType → Bool
+abbrev pub unary_may_trap : VmUnaryOp → VmType → Bool
 unary_may_trap Move ty = false
 unary_may_trap Negate ty = is_signed ty
 unary_may_trap Complement ty = false
 
-abbrev pub binary_may_trap : BinaryOp → VmType → Bool
+abbrev pub binary_may_trap : VmBinaryOp → VmType → Bool
 binary_may_trap Add ty = is_signed ty
 binary_may_trap Subtract ty = is_signed ty
 binary_may_trap Multiply ty = is_signed ty
@@ -104,7 +104,7 @@ binary_may_trap And ty = false
 binary_may_trap Or ty = false
 binary_may_trap ExclusiveOr ty = false
 
-abbrev pub call_may_trap : Callee → Bool
+abbrev pub call_may_trap : VmCallee → Bool
 call_may_trap (Builtin Abort) = true
 call_may_trap _ = false
 

@@ -4,15 +4,15 @@ use Rattle.std.specs.List.{list_all}
 use Rattle.data_object.specs.declared.DataObject.{DataObject}
 use Rattle.suifvm_ir.specs.declared.types.Alignment.{Alignment}
 use Rattle.suifvm_ir.specs.declared.types.Alignment.TheVariants.{One, Two, Four, Eight}
-use Rattle.suifvm_ir.specs.declared.insn.Place.{Place}
-use Rattle.suifvm_ir.specs.declared.insn.Place.TheVariants.{Global, Local}
-use Rattle.suifvm_ir.specs.declared.insn.Builtin.{Builtin}
-use Rattle.suifvm_ir.specs.declared.insn.Builtin.TheVariants as b
-use Rattle.suifvm_ir.specs.declared.insn.Callee.{Callee}
-use Rattle.suifvm_ir.specs.declared.insn.Callee.TheVariants as c
+use Rattle.suifvm_ir.specs.declared.insn.VmObject.{VmObject}
+use Rattle.suifvm_ir.specs.declared.insn.VmObject.TheVariants.{Global, Local}
+use Rattle.suifvm_ir.specs.declared.insn.VmBuiltin.{VmBuiltin}
+use Rattle.suifvm_ir.specs.declared.insn.VmBuiltin.TheVariants as b
+use Rattle.suifvm_ir.specs.declared.insn.VmCallee.{VmCallee}
+use Rattle.suifvm_ir.specs.declared.insn.VmCallee.TheVariants as c
 use Rattle.suifvm_ir.specs.declared.insn.VmInsn.{VmInsn}
 use Rattle.suifvm_ir.specs.declared.insn.VmInsn.TheVariants.{LoadAddress, Copy, Call, Mark}
-use Rattle.suifvm_ir.specs.declared.function.Object.{Object}
+use Rattle.suifvm_ir.specs.declared.function.MemoryLocal.{MemoryLocal}
 use Rattle.suifvm_ir.specs.declared.function.Func.{Func}
 use Rattle.suifvm_ir.specs.contracts.references.VmInsnInsn.TheImpl.{ghosts}
 use Rattle.suifvm_ir.specs.Insns.{targets_of}
@@ -34,16 +34,16 @@ abbrev pub global_reaches : (plus : ℕ) → Option DataObject → Bool
 global_reaches plus None = false
 global_reaches plus (Some o) = nat_le plus o.size
 
-abbrev pub local_reaches : (plus : ℕ) → Option Object → Bool
+abbrev pub local_reaches : (plus : ℕ) → Option MemoryLocal → Bool
 local_reaches plus None = false
 local_reaches plus (Some o) = nat_le plus o.size
 
-abbrev pub place_reaches : List DataObject → List Object → (plus : ℕ) → Place → Bool
+abbrev pub place_reaches : List DataObject → List MemoryLocal → (plus : ℕ) → VmObject → Bool
 place_reaches globals objects plus (Global k) = global_reaches plus (slice_get globals k)
 place_reaches globals objects plus (Local k) = local_reaches plus (slice_get objects k)
 
 -- how many arguments a built-in function takes
-abbrev pub builtin_parameters : Builtin → ℕ
+abbrev pub builtin_parameters : VmBuiltin → ℕ
 builtin_parameters b.PutChar = 1
 builtin_parameters b.GetChar = 0
 builtin_parameters b.Abort = 0
@@ -54,7 +54,7 @@ abbrev pub function_takes : (count : ℕ) → Option VmFunction → Bool
 function_takes count None = false
 function_takes count (Some f) = f.params == count
 
-abbrev pub callee_takes : List VmFunction → (count : ℕ) → Callee → Bool
+abbrev pub callee_takes : List VmFunction → (count : ℕ) → VmCallee → Bool
 callee_takes functions count (c.Function k) = function_takes count (slice_get functions k)
 callee_takes functions count (c.Builtin builtin) = builtin_parameters builtin == count
 
@@ -67,7 +67,7 @@ alignment_bytes Eight = 8
 
 -- what an instruction names is there: an address lies in its object or at its end, a call gives as many arguments as
 -- the function takes, a copy has a whole number of units of its alignment
-abbrev pub names_what_is_there : List VmFunction → List DataObject → List Object → VmInsn → Bool
+abbrev pub names_what_is_there : List VmFunction → List DataObject → List MemoryLocal → VmInsn → Bool
 names_what_is_there functions globals objects (LoadAddress destination place plus) =
     place_reaches globals objects plus place
 names_what_is_there functions globals objects (Copy to from size align) = size % alignment_bytes align == 0

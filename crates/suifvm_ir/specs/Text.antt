@@ -6,22 +6,22 @@ use Rattle.suifvm_ir.specs.declared.types.VmType.{VmType}
 use Rattle.suifvm_ir.specs.declared.types.VmType.TheVariants as v
 use Rattle.suifvm_ir.specs.declared.types.MemoryType.{MemoryType}
 use Rattle.suifvm_ir.specs.declared.types.MemoryType.TheVariants as m
-use Rattle.suifvm_ir.specs.declared.insn.UnaryOp.{UnaryOp}
-use Rattle.suifvm_ir.specs.declared.insn.UnaryOp.TheVariants.{Move, Negate, Complement}
-use Rattle.suifvm_ir.specs.declared.insn.BinaryOp.{BinaryOp}
-use Rattle.suifvm_ir.specs.declared.insn.BinaryOp.TheVariants.{Add, Subtract, Multiply, Divide, Remainder, And, Or, ExclusiveOr}
+use Rattle.suifvm_ir.specs.declared.insn.VmUnaryOp.{VmUnaryOp}
+use Rattle.suifvm_ir.specs.declared.insn.VmUnaryOp.TheVariants.{Move, Negate, Complement}
+use Rattle.suifvm_ir.specs.declared.insn.VmBinaryOp.{VmBinaryOp}
+use Rattle.suifvm_ir.specs.declared.insn.VmBinaryOp.TheVariants.{Add, Subtract, Multiply, Divide, Remainder, And, Or, ExclusiveOr}
 use Rattle.suifvm_ir.specs.declared.insn.ShiftOp.{ShiftOp}
 use Rattle.suifvm_ir.specs.declared.insn.ShiftOp.TheVariants.{ArithmeticRight, Left, LogicalRight}
 use Rattle.suifvm_ir.specs.declared.insn.CompareOp.{CompareOp}
 use Rattle.suifvm_ir.specs.declared.insn.CompareOp.TheVariants.{Equal, NotEqual, Less, LessOrEqual}
-use Rattle.suifvm_ir.specs.declared.insn.BranchOp.{BranchOp}
-use Rattle.suifvm_ir.specs.declared.insn.BranchOp.TheVariants.{IfTrue, IfFalse}
-use Rattle.suifvm_ir.specs.declared.insn.Place.{Place}
-use Rattle.suifvm_ir.specs.declared.insn.Place.TheVariants.{Global, Local}
-use Rattle.suifvm_ir.specs.declared.insn.Builtin.{Builtin}
-use Rattle.suifvm_ir.specs.declared.insn.Builtin.TheVariants.{PutChar, GetChar, Abort, Exit}
-use Rattle.suifvm_ir.specs.declared.insn.Callee.{Callee}
-use Rattle.suifvm_ir.specs.declared.insn.Callee.TheVariants as callee
+use Rattle.suifvm_ir.specs.declared.insn.VmBranchOp.{VmBranchOp}
+use Rattle.suifvm_ir.specs.declared.insn.VmBranchOp.TheVariants.{IfTrue, IfFalse}
+use Rattle.suifvm_ir.specs.declared.insn.VmObject.{VmObject}
+use Rattle.suifvm_ir.specs.declared.insn.VmObject.TheVariants.{Global, Local}
+use Rattle.suifvm_ir.specs.declared.insn.VmBuiltin.{VmBuiltin}
+use Rattle.suifvm_ir.specs.declared.insn.VmBuiltin.TheVariants.{PutChar, GetChar, Abort, Exit}
+use Rattle.suifvm_ir.specs.declared.insn.VmCallee.{VmCallee}
+use Rattle.suifvm_ir.specs.declared.insn.VmCallee.TheVariants as callee
 use Rattle.suifvm_ir.specs.declared.insn.TypedRegister.{TypedRegister}
 use Rattle.suifvm_ir.specs.declared.insn.VmInsn.{VmInsn}
 use Rattle.suifvm_ir.specs.declared.insn.VmInsn.TheVariants.{LoadConstant, LoadAddress, Load, Store, Copy, Unary, Binary, Shift, Convert, Compare, Branch, Jump, Call, Return, Mark, Nop}
@@ -48,12 +48,12 @@ memory_word m.S64 = codes "s64"
 memory_word m.U64 = codes "u64"
 memory_word m.P64 = codes "p64"
 
-abbrev pub unary_word : UnaryOp → List ℕ
+abbrev pub unary_word : VmUnaryOp → List ℕ
 unary_word Move = codes "mov"
 unary_word Negate = codes "neg"
 unary_word Complement = codes "not"
 
-abbrev pub binary_word : BinaryOp → List ℕ
+abbrev pub binary_word : VmBinaryOp → List ℕ
 binary_word Add = codes "add"
 binary_word Subtract = codes "sub"
 binary_word Multiply = codes "mul"
@@ -74,11 +74,11 @@ compare_word NotEqual = codes "sne"
 compare_word Less = codes "sl"
 compare_word LessOrEqual = codes "sle"
 
-abbrev pub branch_word : BranchOp → List ℕ
+abbrev pub branch_word : VmBranchOp → List ℕ
 branch_word IfTrue = codes "btrue"
 branch_word IfFalse = codes "bfalse"
 
-abbrev pub builtin_word : Builtin → List ℕ
+abbrev pub builtin_word : VmBuiltin → List ℕ
 builtin_word PutChar = codes "putchar"
 builtin_word GetChar = codes "getchar"
 builtin_word Abort = codes "abort"
@@ -92,7 +92,7 @@ register_text register = codes "v" ++ decimal register
 abbrev pub block_name : ℕ → List ℕ
 block_name block = codes "B" ++ decimal block
 
-abbrev pub place_name : Place → List ℕ
+abbrev pub place_name : VmObject → List ℕ
 place_name (Global k) = codes "g" ++ decimal k
 place_name (Local k) = codes "m" ++ decimal k
 
@@ -113,7 +113,7 @@ abbrev pub name_in : Option VmFunction → List ℕ
 name_in None = []
 name_in (Some f) = f.name
 
-abbrev pub callee_name : List VmFunction → Callee → List ℕ
+abbrev pub callee_name : List VmFunction → VmCallee → List ℕ
 callee_name functions (callee.Function k) = name_in (slice_get functions k)
 callee_name functions (callee.Builtin builtin) = builtin_word builtin
 

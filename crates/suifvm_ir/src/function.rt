@@ -9,7 +9,7 @@ use pass_core::Insn;
 
 /// A memory local of a function: an object that lives as long as a call.
 #[derive(Clone, Copy, Debug, PartialEq, Eq)]
-pub struct Object {
+pub struct MemoryLocal {
     /// The bytes that it takes.
     pub size: u64,
     /// The alignment of its type, in bytes.
@@ -25,7 +25,7 @@ pub struct Func<I: Insn> {
     /// The number of registers or temporaries.
     pub temps: u32,
     /// The memory locals.
-    pub objects: Seq<Object>,
+    pub objects: Seq<MemoryLocal>,
     pub blocks: Seq<Block<I>>,
     // a target is a block other than the entry
     pub ghost targets: { AllInsns (GoesToBlocks I.targets (length blocks)) blocks },

@@ -3,12 +3,12 @@
 //! A register is named by its number, a block by its number in the function, a function, an object of static
 //! storage and a memory local by theirs.
 
-use crate::operands::Operands;
+use crate::operands::ArgumentRegisters;
 use crate::types::{Alignment, MemoryType, VmType};
 
 /// An operation on one register.
 #[derive(Clone, Copy, Debug, PartialEq, Eq)]
-pub enum UnaryOp {
+pub enum VmUnaryOp {
     /// A copy.
     Move,
     /// The negation. That of a signed number traps where it does not fit.
@@ -20,7 +20,7 @@ pub enum UnaryOp {
 /// An operation on two registers of one type. Signed sums, differences, products and quotients trap where they do
 /// not fit, quotients and remainders where the divisor is zero.
 #[derive(Clone, Copy, Debug, PartialEq, Eq)]
-pub enum BinaryOp {
+pub enum VmBinaryOp {
     /// The sum, or a pointer moved by bytes.
     Add,
     /// The difference, or the distance of two pointers in bytes.
@@ -57,7 +57,7 @@ pub enum CompareOp {
 
 /// When a branch is taken.
 #[derive(Clone, Copy, Debug, PartialEq, Eq)]
-pub enum BranchOp {
+pub enum VmBranchOp {
     /// Where the value is neither zero nor null.
     IfTrue,
     /// Where the value is zero or null.
@@ -66,7 +66,7 @@ pub enum BranchOp {
 
 /// An object that has an address before an instruction is done.
 #[derive(Clone, Copy, Debug, PartialEq, Eq)]
-pub enum Place {
+pub enum VmObject {
     /// An object of static storage.
     Global(u32),
     /// A memory local of this call.
@@ -75,7 +75,7 @@ pub enum Place {
 
 /// A function that every program has.
 #[derive(Clone, Copy, Debug, PartialEq, Eq)]
-pub enum Builtin {
+pub enum VmBuiltin {
     /// `int putchar(int)` (C99 7.19.7.9).
     PutChar,
     /// `int getchar(void)` (C99 7.19.7.6).
@@ -88,10 +88,10 @@ pub enum Builtin {
 
 /// What is called.
 #[derive(Clone, Copy, Debug, PartialEq, Eq)]
-pub enum Callee {
+pub enum VmCallee {
     /// A function of the program.
     Function(u32),
-    Builtin(Builtin),
+    Builtin(VmBuiltin),
 }
 
 /// A register with the type in which it is read.
@@ -113,7 +113,7 @@ pub enum VmInsn {
     /// `lda`: the register is the address of the object, moved by so many bytes.
     LoadAddress {
         destination: u32,
-        place: Place,
+        place: VmObject,
         plus: u64,
     },
     /// `lod`: the register is what stands at the pointer moved by so many bytes, extended by the type.
@@ -139,14 +139,14 @@ pub enum VmInsn {
     },
     /// `mov`, `neg`, `not`.
     Unary {
-        op: UnaryOp,
+        op: VmUnaryOp,
         ty: VmType,
         destination: u32,
         source: u32,
     },
     /// `add`, `sub`, `mul`, `div`, `rem`, `and`, `ior`, `xor`.
     Binary {
-        op: BinaryOp,
+        op: VmBinaryOp,
         ty: VmType,
         destination: u32,
         left: u32,
@@ -177,7 +177,7 @@ pub enum VmInsn {
     },
     /// `btrue`, `bfalse`.
     Branch {
-        op: BranchOp,
+        op: VmBranchOp,
         ty: VmType,
         source: u32,
         block: u32,
@@ -189,8 +189,8 @@ pub enum VmInsn {
     /// `cal`: a call, whose result is put into the register, if one is named.
     Call {
         destination: Option<u32>,
-        callee: Callee,
-        arguments: Operands,
+        callee: VmCallee,
+        arguments: ArgumentRegisters,
     },
     /// `ret`: the end of the call, with a value or without.
     Return {

@@ -8,11 +8,11 @@ use std::marker::Model;
 
 /// The registers that a call hands over, in order. Contracts see their list.
 #[derive(Drop)]
-pub struct Operands {
+pub struct ArgumentRegisters {
     registers: SmallVec<u32, 4>,
 }
 
-impl Model for Operands {
+impl Model for ArgumentRegisters {
     ghost use Rattle.std.specs.Prelude.{List, ℕ};
 
     ghost Value = { List ℕ };
@@ -20,21 +20,21 @@ impl Model for Operands {
     ghost view = { λ o. o.registers.items };
 }
 
-impl Operands {
+impl ArgumentRegisters {
     /// No register.
-    pub fn new(alloc: Global) -> Operands
+    pub fn new(alloc: Global) -> ArgumentRegisters
         ensures { result ≡ [] }
     {
-        Operands {
+        ArgumentRegisters {
             registers: SmallVec::new(alloc),
         }
     }
 
     /// These registers. It fails only where memory is short.
-    pub fn from_slice(alloc: Global, registers: &[u32]) -> Result<Operands, AllocError>
+    pub fn from_slice(alloc: Global, registers: &[u32]) -> Result<ArgumentRegisters, AllocError>
         ensures { IfOk result (λ o. o ≡ registers.now) }
     {
-        Ok(Operands {
+        Ok(ArgumentRegisters {
             registers: SmallVec::from_slice(alloc, registers)?,
         })
     }

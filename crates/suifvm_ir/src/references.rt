@@ -4,7 +4,7 @@ ghost use Rattle.std.specs.Prelude.{◌≡◌, ℕ, [], ◌∷◌, slice_get, Op
 ghost use Rattle.suifvm_ir.specs.Insns as insns;
 ghost use Rattle.suifvm_ir.specs.model.Targets.{insn_laws};
 
-use crate::insn::{BinaryOp, Builtin, Callee, TypedRegister, UnaryOp, VmInsn};
+use crate::insn::{TypedRegister, VmBinaryOp, VmBuiltin, VmCallee, VmInsn, VmUnaryOp};
 use crate::types::VmType;
 use pass_core::Insn;
 use std::alloc::Global;
@@ -55,34 +55,34 @@ fn is_signed(ty: VmType) -> bool
 }
 
 /// Whether an operation on one register of the type may trap.
-fn unary_may_trap(op: UnaryOp, ty: VmType) -> bool
+fn unary_may_trap(op: VmUnaryOp, ty: VmType) -> bool
     ensures { result ≡ insns.unary_may_trap op ty }
 {
     match op {
-        UnaryOp::Move | UnaryOp::Complement => false,
-        UnaryOp::Negate => is_signed(ty),
+        VmUnaryOp::Move | VmUnaryOp::Complement => false,
+        VmUnaryOp::Negate => is_signed(ty),
     }
 }
 
 /// Whether an operation on two registers of the type may trap.
-fn binary_may_trap(op: BinaryOp, ty: VmType) -> bool
+fn binary_may_trap(op: VmBinaryOp, ty: VmType) -> bool
     ensures { result ≡ insns.binary_may_trap op ty }
 {
     match op {
-        BinaryOp::Add | BinaryOp::Subtract | BinaryOp::Multiply => is_signed(ty),
-        BinaryOp::Divide | BinaryOp::Remainder => true,
-        BinaryOp::And | BinaryOp::Or | BinaryOp::ExclusiveOr => false,
+        VmBinaryOp::Add | VmBinaryOp::Subtract | VmBinaryOp::Multiply => is_signed(ty),
+        VmBinaryOp::Divide | VmBinaryOp::Remainder => true,
+        VmBinaryOp::And | VmBinaryOp::Or | VmBinaryOp::ExclusiveOr => false,
     }
 }
 
 /// Whether a call itself is a trap.
-fn call_may_trap(callee: Callee) -> bool
+fn call_may_trap(callee: VmCallee) -> bool
     ensures { result ≡ insns.call_may_trap callee }
 {
     match callee {
-        Callee::Builtin(Builtin::Abort) => true,
-        Callee::Builtin(Builtin::PutChar | Builtin::GetChar | Builtin::Exit) => false,
-        Callee::Function(_) => false,
+        VmCallee::Builtin(VmBuiltin::Abort) => true,
+        VmCallee::Builtin(VmBuiltin::PutChar | VmBuiltin::GetChar | VmBuiltin::Exit) => false,
+        VmCallee::Function(_) => false,
     }
 }
 

@@ -5,7 +5,7 @@ ghost use Rattle.std.specs.Fmt.{signed_decimal};
 ghost use Rattle.suifvm_ir.specs.Text as text;
 
 use crate::function::Func;
-use crate::insn::{Callee, Place, TypedRegister, VmInsn};
+use crate::insn::{TypedRegister, VmCallee, VmInsn, VmObject};
 use crate::words::{
     binary_word, branch_word, builtin_word, compare_word, memory_word, shift_word, type_word,
     unary_word,
@@ -53,15 +53,15 @@ pub fn put_block(out: &mut Vec<u8>, block: u32) -> Result<(), AllocError>
 }
 
 /// Puts the name of an object.
-fn put_place(out: &mut Vec<u8>, place: Place) -> Result<(), AllocError>
+fn put_place(out: &mut Vec<u8>, place: VmObject) -> Result<(), AllocError>
     ensures { OnOk result (out.new.items ≡ out.old.items ++ text.place_name place) }
 {
     match place {
-        Place::Global(k) => {
+        VmObject::Global(k) => {
             put(out, "g")?;
             put_number(out, u64::from(k))
         }
-        Place::Local(k) => {
+        VmObject::Local(k) => {
             put(out, "m")?;
             put_number(out, u64::from(k))
         }
@@ -128,16 +128,16 @@ fn put_arguments(out: &mut Vec<u8>, registers: &[u32]) -> Result<(), AllocError>
 fn put_callee(
     out: &mut Vec<u8>,
     functions: &[Func<VmInsn>],
-    callee: Callee,
+    callee: VmCallee,
 ) -> Result<(), AllocError>
     ensures { OnOk result (out.new.items ≡ out.old.items ++ text.callee_name functions.now callee) }
 {
     match callee {
-        Callee::Function(k) => match functions.get(k as usize) {
+        VmCallee::Function(k) => match functions.get(k as usize) {
             None => Ok(()),
             Some(function) => out.extend_from_slice(function.name.as_slice()),
         },
-        Callee::Builtin(builtin) => put(out, builtin_word(builtin)),
+        VmCallee::Builtin(builtin) => put(out, builtin_word(builtin)),
     }
 }
 
@@ -187,7 +187,7 @@ fn put_constant(out: &mut Vec<u8>, ty: &str, destination: u32, word: u64) -> Res
 fn put_address(
     out: &mut Vec<u8>,
     destination: u32,
-    place: Place,
+    place: VmObject,
     plus: u64,
 ) -> Result<(), AllocError>
     ensures { OnOk result (out.new.items ≡ out.old.items
@@ -298,7 +298,7 @@ fn put_call(
     out: &mut Vec<u8>,
     functions: &[Func<VmInsn>],
     destination: Option<u32>,
-    callee: Callee,
+    callee: VmCallee,
     arguments: &[u32],
 ) -> Result<(), AllocError>
     ensures { OnOk result (out.new.items ≡ out.old.items

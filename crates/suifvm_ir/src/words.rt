@@ -4,7 +4,7 @@ ghost use Rattle.std.specs.Prelude.{◌≡◌};
 ghost use Rattle.suifvm_ir.specs.Text as text;
 ghost use Rattle.suifvm_ir.specs.Programs.{alignment_bytes};
 
-use crate::insn::{BinaryOp, BranchOp, Builtin, CompareOp, ShiftOp, UnaryOp};
+use crate::insn::{CompareOp, ShiftOp, VmBinaryOp, VmBranchOp, VmBuiltin, VmUnaryOp};
 use crate::types::{Alignment, MemoryType, VmType};
 
 /// The word of a type of registers.
@@ -38,29 +38,29 @@ pub fn memory_word(ty: MemoryType) -> &'static str
 }
 
 /// The word of an operation on one register.
-pub fn unary_word(op: UnaryOp) -> &'static str
+pub fn unary_word(op: VmUnaryOp) -> &'static str
     ensures { result.now ≡ text.unary_word op }
 {
     match op {
-        UnaryOp::Move => "mov",
-        UnaryOp::Negate => "neg",
-        UnaryOp::Complement => "not",
+        VmUnaryOp::Move => "mov",
+        VmUnaryOp::Negate => "neg",
+        VmUnaryOp::Complement => "not",
     }
 }
 
 /// The word of an operation on two registers.
-pub fn binary_word(op: BinaryOp) -> &'static str
+pub fn binary_word(op: VmBinaryOp) -> &'static str
     ensures { result.now ≡ text.binary_word op }
 {
     match op {
-        BinaryOp::Add => "add",
-        BinaryOp::Subtract => "sub",
-        BinaryOp::Multiply => "mul",
-        BinaryOp::Divide => "div",
-        BinaryOp::Remainder => "rem",
-        BinaryOp::And => "and",
-        BinaryOp::Or => "ior",
-        BinaryOp::ExclusiveOr => "xor",
+        VmBinaryOp::Add => "add",
+        VmBinaryOp::Subtract => "sub",
+        VmBinaryOp::Multiply => "mul",
+        VmBinaryOp::Divide => "div",
+        VmBinaryOp::Remainder => "rem",
+        VmBinaryOp::And => "and",
+        VmBinaryOp::Or => "ior",
+        VmBinaryOp::ExclusiveOr => "xor",
     }
 }
 
@@ -88,24 +88,24 @@ pub fn compare_word(op: CompareOp) -> &'static str
 }
 
 /// The word of a branch.
-pub fn branch_word(op: BranchOp) -> &'static str
+pub fn branch_word(op: VmBranchOp) -> &'static str
     ensures { result.now ≡ text.branch_word op }
 {
     match op {
-        BranchOp::IfTrue => "btrue",
-        BranchOp::IfFalse => "bfalse",
+        VmBranchOp::IfTrue => "btrue",
+        VmBranchOp::IfFalse => "bfalse",
     }
 }
 
 /// The name of a built-in function.
-pub fn builtin_word(builtin: Builtin) -> &'static str
+pub fn builtin_word(builtin: VmBuiltin) -> &'static str
     ensures { result.now ≡ text.builtin_word builtin }
 {
     match builtin {
-        Builtin::PutChar => "putchar",
-        Builtin::GetChar => "getchar",
-        Builtin::Abort => "abort",
-        Builtin::Exit => "exit",
+        VmBuiltin::PutChar => "putchar",
+        VmBuiltin::GetChar => "getchar",
+        VmBuiltin::Abort => "abort",
+        VmBuiltin::Exit => "exit",
     }
 }
 

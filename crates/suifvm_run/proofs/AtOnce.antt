@@ -8,7 +8,7 @@ use Rattle.machine_model.specs.Code.{Jumps}
 use Rattle.machine_model.specs.Machine.{Goes}
 use Rattle.suifvm_ir.specs.declared.insn.VmInsn.{VmInsn}
 use Rattle.suifvm_ir.specs.declared.insn.VmInsn.TheVariants.{Jump, Mark}
-use Rattle.suifvm_ir.specs.declared.insn.BranchOp.{BranchOp}
+use Rattle.suifvm_ir.specs.declared.insn.VmBranchOp.{VmBranchOp}
 use Rattle.suifvm_ir.specs.Insns.{writes_of, targets_of}
 use Rattle.vm_meaning.specs.declared.answer.Answer.{Answer}
 use Rattle.vm_meaning.specs.declared.answer.Answer.TheVariants.{Gives}
@@ -52,17 +52,17 @@ module _ (m new : Machine) (done : Bool) where
   gave_two f d n v x w y first second is k =
       gave_constant (f x y) d n (ap (λ z. f z y) (sym first) ∙ ap (f v) (sym second) ∙ is) k
 
-  abbrev pub Branched : BranchOp → Option Bool → (block : ℕ) → Type 0
+  abbrev pub Branched : VmBranchOp → Option Bool → (block : ℕ) → Type 0
   Branched op test block = (i : VmInsn) → targets_of i ≡ block ∷ [] → writes_of i ≡ [] → TurnIs m new turn.Goes (λ rooms h. act_there rooms m h i (branches op test (world_in m h).outer))
 
   abbrev pub Jumped : (block : ℕ) → Type 0
   Jumped block = TurnIs m new turn.Goes (λ rooms h. Goes (at_block block (config_of m h)))
 
-  pub branched_there : (op : BranchOp) (b : Bool) (block : ℕ) → is_taken op b ≡ true → OnTrue done (Jumped block) → OnTrue done (Branched op (Some b) block)
+  pub branched_there : (op : VmBranchOp) (b : Bool) (block : ℕ) → is_taken op b ≡ true → OnTrue done (Jumped block) → OnTrue done (Branched op (Some b) block)
   branched_there op b block taken t =
       where_done done (Jumped block) (Branched op (Some b) block) (λ t i target none. branch_taken m new turn.Goes i op (Some b) b block refl taken target none t) t
 
-  pub branched_on : (op : BranchOp) (b : Bool) (test : Option Bool) (block : ℕ) → test ≡ Some b → OnTrue done (Branched op (Some b) block) → OnTrue done (Branched op test block)
+  pub branched_on : (op : VmBranchOp) (b : Bool) (test : Option Bool) (block : ℕ) → test ≡ Some b → OnTrue done (Branched op (Some b) block) → OnTrue done (Branched op test block)
   branched_on op b test block is t =
       where_done done (Branched op (Some b) block) (Branched op test block) (λ t i target none.
       turn_as m new turn.Goes (λ rooms h. act_there rooms m h i (branches op (Some b) (world_in m h).outer)) (λ rooms h. act_there rooms m h i (branches op test (world_in m h).outer))

@@ -8,7 +8,7 @@ use Rattle.mem_model.specs.Ending.{Undefined}
 use Rattle.mem_model.specs.declared.value.Value.{Value}
 use Rattle.mem_model.proofs.Objects.{begins_change}
 use Rattle.machine_model.specs.Machine.{Config, Over, Goes, go_on, step_at}
-use Rattle.suifvm_ir.specs.declared.function.Object.{Object}
+use Rattle.suifvm_ir.specs.declared.function.MemoryLocal.{MemoryLocal}
 use Rattle.vm_meaning.specs.Behave.{Registers, registers_of, sizes_in, vm_code}
 use Rattle.suifvm_run.specs.declared.machine.Call.{Call}
 use Rattle.suifvm_run.specs.declared.machine.Machine.{Machine}
@@ -48,8 +48,8 @@ module _ (m : Machine) (main turns : ℕ) (old : Memory) (made : ℕ)
 
     count : m.made ≡ length m.memory
     count =
-        let began = (begins_change old (map (λ (o : Object). o.size) m.here.table.now.objects.now)).count in
-        let sizes : length (map (λ (o : Object). o.size) m.here.table.now.objects.now) ≡ length m.here.table.now.objects.now = length-map m.here.table.now.objects.now (λ (o : Object). o.size) in
+        let began = (begins_change old (map (λ (o : MemoryLocal). o.size) m.here.table.now.objects.now)).count in
+        let sizes : length (map (λ (o : MemoryLocal). o.size) m.here.table.now.objects.now) ≡ length m.here.table.now.objects.now = length-map m.here.table.now.objects.now (λ (o : MemoryLocal). o.size) in
         more ∙ ap (λ n. n + length m.here.table.now.objects.now) made_is ∙ ap (λ n. length old + n) (sym sizes) ∙ sym began ∙ sym (ap length memory)
 
     pub begins : Begins m.program.now main old turns m

@@ -11,11 +11,11 @@ use Rattle.machine_model.specs.Code.{Act, Writes, Jumps, Calls, Returns, Stops, 
 use Rattle.machine_model.specs.Machine.{Config, Next, Goes, world_of, turn_if, jump_to, act_on, step_at, step_with}
 use Rattle.suifvm_ir.specs.declared.insn.VmInsn.{VmInsn}
 use Rattle.suifvm_ir.specs.declared.insn.TypedRegister.{TypedRegister}
-use Rattle.suifvm_ir.specs.declared.insn.BranchOp.{BranchOp}
-use Rattle.suifvm_ir.specs.declared.insn.Builtin.{Builtin}
-use Rattle.suifvm_ir.specs.declared.insn.Builtin.TheVariants.{PutChar, GetChar, Abort, Exit}
-use Rattle.suifvm_ir.specs.declared.insn.Callee.{Callee}
-use Rattle.suifvm_ir.specs.declared.insn.Callee.TheVariants as c
+use Rattle.suifvm_ir.specs.declared.insn.VmBranchOp.{VmBranchOp}
+use Rattle.suifvm_ir.specs.declared.insn.VmBuiltin.{VmBuiltin}
+use Rattle.suifvm_ir.specs.declared.insn.VmBuiltin.TheVariants.{PutChar, GetChar, Abort, Exit}
+use Rattle.suifvm_ir.specs.declared.insn.VmCallee.{VmCallee}
+use Rattle.suifvm_ir.specs.declared.insn.VmCallee.TheVariants as c
 use Rattle.suifvm_ir.specs.Insns.{reads_of, writes_of, targets_of, named_register, returned_register}
 use Rattle.vm_meaning.specs.Effect.{input_word, does, takes_turn, fails, first, puts_char, exits, builtin_act, callee_act, call_act, return_act, is_taken, branches}
 use Rattle.vm_meaning.specs.Operations.{is_set, is_value_of}
@@ -157,30 +157,30 @@ exit_unset m r value i is sound failed = as_act m m r i (exits Unset) (exits val
 
 -- ---- calls of built-in functions
 
-pub builtin_put : (m new : Machine) (r : Turn) (i : VmInsn) (builtin : Builtin) (vs : List Value) (value : Value) → builtin ≡ PutChar → value ≡ first vs → TurnIs m new r (λ rooms h. act_there rooms m h i (puts_char value (world_in m h).outer)) → TurnIs m new r (λ rooms h. act_there rooms m h i (builtin_act builtin vs (world_in m h).outer))
+pub builtin_put : (m new : Machine) (r : Turn) (i : VmInsn) (builtin : VmBuiltin) (vs : List Value) (value : Value) → builtin ≡ PutChar → value ≡ first vs → TurnIs m new r (λ rooms h. act_there rooms m h i (puts_char value (world_in m h).outer)) → TurnIs m new r (λ rooms h. act_there rooms m h i (builtin_act builtin vs (world_in m h).outer))
 builtin_put m new r i builtin vs value is value_is t = as_act m new r i (puts_char value) (builtin_act builtin vs) (λ o. ap (λ v. puts_char v o) value_is ∙ ap (λ b. builtin_act b vs o) (sym is)) t
 
-pub builtin_exit : (m new : Machine) (r : Turn) (i : VmInsn) (builtin : Builtin) (vs : List Value) (value : Value) → builtin ≡ Exit → value ≡ first vs → TurnIs m new r (λ rooms h. act_there rooms m h i (exits value (world_in m h).outer)) → TurnIs m new r (λ rooms h. act_there rooms m h i (builtin_act builtin vs (world_in m h).outer))
+pub builtin_exit : (m new : Machine) (r : Turn) (i : VmInsn) (builtin : VmBuiltin) (vs : List Value) (value : Value) → builtin ≡ Exit → value ≡ first vs → TurnIs m new r (λ rooms h. act_there rooms m h i (exits value (world_in m h).outer)) → TurnIs m new r (λ rooms h. act_there rooms m h i (builtin_act builtin vs (world_in m h).outer))
 builtin_exit m new r i builtin vs value is value_is t = as_act m new r i (exits value) (builtin_act builtin vs) (λ o. ap (λ v. exits v o) value_is ∙ ap (λ b. builtin_act b vs o) (sym is)) t
 
-pub builtin_get : (m : Machine) (d : Option ℕ) (i : VmInsn) (builtin : Builtin) (vs : List Value) → builtin ≡ GetChar → IsSound m → m.here.at < length m.here.row.now.insns.items → writes_of i ≡ named_register d → TurnIs m m (turn.Takes d) (λ rooms h. act_there rooms m h i (builtin_act builtin vs (world_in m h).outer))
+pub builtin_get : (m : Machine) (d : Option ℕ) (i : VmInsn) (builtin : VmBuiltin) (vs : List Value) → builtin ≡ GetChar → IsSound m → m.here.at < length m.here.row.now.insns.items → writes_of i ≡ named_register d → TurnIs m m (turn.Takes d) (λ rooms h. act_there rooms m h i (builtin_act builtin vs (world_in m h).outer))
 builtin_get m d i builtin vs is sound place written = as_act m m (turn.Takes d) i (builtin_act GetChar vs) (builtin_act builtin vs) (λ o. ap (λ b. builtin_act b vs o) (sym is)) (takes_turn_to m d i sound place written)
 
-pub builtin_abort : (m : Machine) (i : VmInsn) (builtin : Builtin) (vs : List Value) → builtin ≡ Abort → TurnIs m m (turn.Over (stop.Traps 2)) (λ rooms h. act_there rooms m h i (builtin_act builtin vs (world_in m h).outer))
+pub builtin_abort : (m : Machine) (i : VmInsn) (builtin : VmBuiltin) (vs : List Value) → builtin ≡ Abort → TurnIs m m (turn.Over (stop.Traps 2)) (λ rooms h. act_there rooms m h i (builtin_act builtin vs (world_in m h).outer))
 builtin_abort m i builtin vs is = as_act m m (turn.Over (stop.Traps 2)) i (builtin_act Abort vs) (builtin_act builtin vs) (λ o. ap (λ b. builtin_act b vs o) (sym is)) (traps_turn m 2 i)
 
 -- ---- calls
 
-abbrev call_if : Callee → List Value → Bool → Outer → Act Value
+abbrev call_if : VmCallee → List Value → Bool → Outer → Act Value
 call_if callee vs b o = if b then callee_act callee vs o else fails o
 
-pub call_unset : (m : Machine) (r : Turn) (i : VmInsn) (callee : Callee) (vs : List Value) → list_all is_set vs ≡ false → IsSound m → r ≡ turn.Over (stop.Undefined (m.here.row.now.first + m.here.at)) → TurnIs m m r (λ rooms h. act_there rooms m h i (call_act callee vs (world_in m h).outer))
+pub call_unset : (m : Machine) (r : Turn) (i : VmInsn) (callee : VmCallee) (vs : List Value) → list_all is_set vs ≡ false → IsSound m → r ≡ turn.Over (stop.Undefined (m.here.row.now.first + m.here.at)) → TurnIs m m r (λ rooms h. act_there rooms m h i (call_act callee vs (world_in m h).outer))
 call_unset m r i callee vs unset sound failed = as_act m m r i fails (call_act callee vs) (λ o. ap (λ b. call_if callee vs b o) (sym unset)) (fails_turn m r i sound failed)
 
-pub call_function : (m new : Machine) (r : Turn) (i : VmInsn) (callee : Callee) (k : ℕ) (vs : List Value) → callee ≡ c.Function k → list_all is_set vs ≡ true → TurnIs m new r (λ rooms h. act_there rooms m h i (Calls k vs (world_in m h).outer)) → TurnIs m new r (λ rooms h. act_there rooms m h i (call_act callee vs (world_in m h).outer))
+pub call_function : (m new : Machine) (r : Turn) (i : VmInsn) (callee : VmCallee) (k : ℕ) (vs : List Value) → callee ≡ c.Function k → list_all is_set vs ≡ true → TurnIs m new r (λ rooms h. act_there rooms m h i (Calls k vs (world_in m h).outer)) → TurnIs m new r (λ rooms h. act_there rooms m h i (call_act callee vs (world_in m h).outer))
 call_function m new r i callee k vs is set t = as_act m new r i (Calls k vs) (call_act callee vs) (λ o. ap (λ x. callee_act x vs o) (sym is) ∙ ap (λ b. call_if callee vs b o) (sym set)) t
 
-pub call_builtin : (m new : Machine) (r : Turn) (i : VmInsn) (callee : Callee) (builtin : Builtin) (vs : List Value) → callee ≡ c.Builtin builtin → list_all is_set vs ≡ true → TurnIs m new r (λ rooms h. act_there rooms m h i (builtin_act builtin vs (world_in m h).outer)) → TurnIs m new r (λ rooms h. act_there rooms m h i (call_act callee vs (world_in m h).outer))
+pub call_builtin : (m new : Machine) (r : Turn) (i : VmInsn) (callee : VmCallee) (builtin : VmBuiltin) (vs : List Value) → callee ≡ c.Builtin builtin → list_all is_set vs ≡ true → TurnIs m new r (λ rooms h. act_there rooms m h i (builtin_act builtin vs (world_in m h).outer)) → TurnIs m new r (λ rooms h. act_there rooms m h i (call_act callee vs (world_in m h).outer))
 call_builtin m new r i callee builtin vs is set t = as_act m new r i (builtin_act builtin vs) (call_act callee vs) (λ o. ap (λ x. callee_act x vs o) (sym is) ∙ ap (λ b. call_if callee vs b o) (sym set)) t
 
 -- ---- returns
@@ -220,7 +220,7 @@ advanced m new i sound place is none =
 abbrev branch_if : Bool → Outer → Act Value
 branch_if b o = if b then Jumps 0 o else Writes [] o
 
-pub branch_failure : (m : Machine) (r : Turn) (i : VmInsn) (op : BranchOp) (test : Option Bool) → test ≡ None → IsSound m → r ≡ turn.Over (stop.Undefined (m.here.row.now.first + m.here.at)) → TurnIs m m r (λ rooms h. act_there rooms m h i (branches op test (world_in m h).outer))
+pub branch_failure : (m : Machine) (r : Turn) (i : VmInsn) (op : VmBranchOp) (test : Option Bool) → test ≡ None → IsSound m → r ≡ turn.Over (stop.Undefined (m.here.row.now.first + m.here.at)) → TurnIs m m r (λ rooms h. act_there rooms m h i (branches op test (world_in m h).outer))
 branch_failure m r i op test is sound failed = as_act m m r i fails (branches op test) (λ o. ap (λ x. branches op x o) (sym is)) (fails_turn m r i sound failed)
 
 pub jumped : (m new : Machine) (r : Turn) (i : VmInsn) (block : ℕ) → targets_of i ≡ block ∷ [] → writes_of i ≡ [] → TurnIs m new r (λ rooms h. Goes (at_block block (config_of m h))) → TurnIs m new r (λ rooms h. act_there rooms m h i (Jumps 0 (world_in m h).outer))
@@ -235,10 +235,10 @@ jumped m new r i block target none t = turn_as m new r (λ rooms h. Goes (at_blo
       world = world_in m h;
     })
 
-pub branch_taken : (m new : Machine) (r : Turn) (i : VmInsn) (op : BranchOp) (test : Option Bool) (b : Bool) (block : ℕ) → test ≡ Some b → is_taken op b ≡ true → targets_of i ≡ block ∷ [] → writes_of i ≡ [] → TurnIs m new r (λ rooms h. Goes (at_block block (config_of m h))) → TurnIs m new r (λ rooms h. act_there rooms m h i (branches op test (world_in m h).outer))
+pub branch_taken : (m new : Machine) (r : Turn) (i : VmInsn) (op : VmBranchOp) (test : Option Bool) (b : Bool) (block : ℕ) → test ≡ Some b → is_taken op b ≡ true → targets_of i ≡ block ∷ [] → writes_of i ≡ [] → TurnIs m new r (λ rooms h. Goes (at_block block (config_of m h))) → TurnIs m new r (λ rooms h. act_there rooms m h i (branches op test (world_in m h).outer))
 branch_taken m new r i op test b block is taken target none t = as_act m new r i (Jumps 0) (branches op test) (λ o. ap (λ x. branch_if x o) (sym taken) ∙ ap (λ x. branches op x o) (sym is)) (jumped m new r i block target none t)
 
-pub branch_passed : (m new : Machine) (i : VmInsn) (op : BranchOp) (test : Option Bool) (b : Bool) → test ≡ Some b → is_taken op b ≡ false → IsSound m → m.here.at < length m.here.row.now.insns.items → new ≡ record m { here = record m.here { at = m.here.at + 1 } } → writes_of i ≡ [] → TurnIs m new turn.Goes (λ rooms h. act_there rooms m h i (branches op test (world_in m h).outer))
+pub branch_passed : (m new : Machine) (i : VmInsn) (op : VmBranchOp) (test : Option Bool) (b : Bool) → test ≡ Some b → is_taken op b ≡ false → IsSound m → m.here.at < length m.here.row.now.insns.items → new ≡ record m { here = record m.here { at = m.here.at + 1 } } → writes_of i ≡ [] → TurnIs m new turn.Goes (λ rooms h. act_there rooms m h i (branches op test (world_in m h).outer))
 branch_passed m new i op test b is passed sound place new_is none = as_act m new turn.Goes i (Writes []) (branches op test) (λ o. ap (λ x. branch_if x o) (sym passed) ∙ ap (λ x. branches op x o) (sym is)) (advanced m new i sound place new_is none)
 
 -- ---- an instruction

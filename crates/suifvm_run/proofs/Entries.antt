@@ -10,7 +10,7 @@ use Rattle.mem_model.specs.Ending.{Undefined}
 use Rattle.mem_model.proofs.Objects.{begins_change}
 use Rattle.machine_model.specs.Code.{Calls}
 use Rattle.machine_model.specs.Machine.{Frame, Config, Next, Goes, Over, go_on, step_at}
-use Rattle.suifvm_ir.specs.declared.function.Object.{Object}
+use Rattle.suifvm_ir.specs.declared.function.MemoryLocal.{MemoryLocal}
 use Rattle.suifvm_ir.specs.declared.insn.VmInsn.{VmInsn}
 use Rattle.vm_meaning.specs.Behave.{Registers, registers_of, vm_code}
 use Rattle.suifvm_run.specs.declared.machine.Call.{Call}
@@ -59,8 +59,8 @@ module _ (m new : Machine) (k : ℕ) (vs : List Value) (i : VmInsn) (sound : IsS
 
     count : new.made ≡ length new.memory
     count =
-        let began = (begins_change m.memory (map (λ (o : Object). o.size) new.here.table.now.objects.now)).count in
-        let sizes : length (map (λ (o : Object). o.size) new.here.table.now.objects.now) ≡ length new.here.table.now.objects.now = length-map new.here.table.now.objects.now (λ (o : Object). o.size) in
+        let began = (begins_change m.memory (map (λ (o : MemoryLocal). o.size) new.here.table.now.objects.now)).count in
+        let sizes : length (map (λ (o : MemoryLocal). o.size) new.here.table.now.objects.now) ≡ length new.here.table.now.objects.now = length-map new.here.table.now.objects.now (λ (o : MemoryLocal). o.size) in
         made ∙ ap (λ n. n + length new.here.table.now.objects.now) sound.made ∙ ap (λ n. length m.memory + n) (sym sizes)
         ∙ sym began ∙ sym (ap length memory)
 

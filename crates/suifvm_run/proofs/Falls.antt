@@ -12,7 +12,7 @@ use Rattle.mem_model.specs.World.{Outer, Meter, World, Rooms, take_turn}
 use Rattle.mem_model.specs.Ending.{Ending}
 use Rattle.machine_model.specs.Code.{Act, Writes, Jumps, Calls, Returns, Stops, Site, Point}
 use Rattle.machine_model.specs.Machine.{Frame, Config, Next, Goes, Over, step, step_at, step_with, act_on, jump_to, return_to, resume, turn_if, world_of, go_on, exec}
-use Rattle.suifvm_ir.specs.declared.insn.BranchOp.{BranchOp}
+use Rattle.suifvm_ir.specs.declared.insn.VmBranchOp.{VmBranchOp}
 use Rattle.suifvm_ir.specs.declared.insn.TypedRegister.{TypedRegister}
 use Rattle.suifvm_ir.specs.declared.insn.VmInsn.{VmInsn}
 use Rattle.suifvm_ir.specs.declared.insn.VmInsn.TheVariants.{LoadConstant, LoadAddress, Load, Store, Copy, Unary, Binary, Shift, Convert, Compare, Branch, Jump, Call, Return, Mark, Nop}
@@ -155,7 +155,7 @@ if_calm : (b : Bool) (x y : Act Value) → NoCall x → NoCall y → NoCall (if 
 if_calm true x y h k = h
 if_calm false x y h k = k
 
-branches_calm : (op : BranchOp) (test : Option Bool) (o : Outer) → NoCall (branches op test o)
+branches_calm : (op : VmBranchOp) (test : Option Bool) (o : Outer) → NoCall (branches op test o)
 branches_calm op None o = tt
 branches_calm op (Some test) o = if_calm (is_taken op test) (Jumps 0 o) (Writes [] o) tt tt
 

@@ -7,13 +7,13 @@ use Rattle.machine_model.specs.Code.{Act}
 use Rattle.suifvm_ir.specs.declared.types.VmType.{VmType}
 use Rattle.suifvm_ir.specs.declared.types.MemoryType.{MemoryType}
 use Rattle.suifvm_ir.specs.declared.types.Alignment.{Alignment}
-use Rattle.suifvm_ir.specs.declared.insn.UnaryOp.{UnaryOp}
-use Rattle.suifvm_ir.specs.declared.insn.BinaryOp.{BinaryOp}
+use Rattle.suifvm_ir.specs.declared.insn.VmUnaryOp.{VmUnaryOp}
+use Rattle.suifvm_ir.specs.declared.insn.VmBinaryOp.{VmBinaryOp}
 use Rattle.suifvm_ir.specs.declared.insn.ShiftOp.{ShiftOp}
 use Rattle.suifvm_ir.specs.declared.insn.CompareOp.{CompareOp}
-use Rattle.suifvm_ir.specs.declared.insn.BranchOp.{BranchOp}
-use Rattle.suifvm_ir.specs.declared.insn.Place.{Place}
-use Rattle.suifvm_ir.specs.declared.insn.Callee.{Callee}
+use Rattle.suifvm_ir.specs.declared.insn.VmBranchOp.{VmBranchOp}
+use Rattle.suifvm_ir.specs.declared.insn.VmObject.{VmObject}
+use Rattle.suifvm_ir.specs.declared.insn.VmCallee.{VmCallee}
 use Rattle.suifvm_ir.specs.declared.insn.TypedRegister.{TypedRegister}
 use Rattle.suifvm_ir.specs.declared.insn.VmInsn.{VmInsn}
 use Rattle.suifvm_ir.specs.declared.insn.VmInsn.TheVariants.{LoadConstant, LoadAddress, Load, Store, Copy, Unary, Binary, Shift, Convert, Compare, Branch, Call, Return}
@@ -42,7 +42,7 @@ module _ (m new : Machine) (r : Turn) (insn : VmInsn) where
   pub constant_done : (ty : VmType) (d word : ℕ) (answer : Answer) → insn ≡ LoadConstant ty d word → answer ≡ when_value ty (Word word) → Does (LoadConstant ty d word) (writes answer) → Done
   constant_done ty d word answer is a t = done_as m new r insn (LoadConstant ty d word) (writes answer) is (λ o same. ap (λ x. writes x o) a) t
 
-  pub address_done : (d : ℕ) (place : Place) (plus : ℕ) (v : Value) → insn ≡ LoadAddress d place plus → v ≡ place_address m.here.own place plus → Does (LoadAddress d place plus) (writes (Gives v)) → Done
+  pub address_done : (d : ℕ) (place : VmObject) (plus : ℕ) (v : Value) → insn ≡ LoadAddress d place plus → v ≡ place_address m.here.own place plus → Does (LoadAddress d place plus) (writes (Gives v)) → Done
   address_done d place plus v is a t = done_as m new r insn (LoadAddress d place plus) (writes (Gives v)) is (λ o same. ap (λ x. writes (Gives x) o) a) t
 
   pub load_done : (ty : MemoryType) (d p : ℕ) (plus by : ℤ) (a : Value) (answer : Answer) → insn ≡ Load ty d p plus → a ≡ rs p → by ≡ plus → answer ≡ loaded_answer m.memory ty a by → Does (Load ty d p plus) (writes answer) → Done
@@ -57,11 +57,11 @@ module _ (m new : Machine) (r : Turn) (insn : VmInsn) where
   copy_done to from size align is t = done_as m new r insn (Copy to from size align) (changes (copied_memory m.memory (rs to) (rs from) size (alignment_bytes align))) is
       (λ o same. ap (λ x. changes (copied_memory x (rs to) (rs from) size (alignment_bytes align)) o) (sym same)) t
 
-  pub unary_done : (op : UnaryOp) (ty : VmType) (d s : ℕ) (a : Value) (answer : Answer) → insn ≡ Unary op ty d s → a ≡ rs s → answer ≡ unary_answer op ty a → Does (Unary op ty d s) (writes answer) → Done
+  pub unary_done : (op : VmUnaryOp) (ty : VmType) (d s : ℕ) (a : Value) (answer : Answer) → insn ≡ Unary op ty d s → a ≡ rs s → answer ≡ unary_answer op ty a → Does (Unary op ty d s) (writes answer) → Done
   unary_done op ty d s a answer is read e t = done_as m new r insn (Unary op ty d s) (writes answer) is
       (λ o same. ap (λ x. writes x o) (e ∙ ap (unary_answer op ty) read)) t
 
-  pub binary_done : (op : BinaryOp) (ty : VmType) (d x y : ℕ) (a b : Value) (answer : Answer) → insn ≡ Binary op ty d x y → a ≡ rs x → b ≡ rs y → answer ≡ binary_answer m.memory op ty a b → Does (Binary op ty d x y) (writes answer) → Done
+  pub binary_done : (op : VmBinaryOp) (ty : VmType) (d x y : ℕ) (a b : Value) (answer : Answer) → insn ≡ Binary op ty d x y → a ≡ rs x → b ≡ rs y → answer ≡ binary_answer m.memory op ty a b → Does (Binary op ty d x y) (writes answer) → Done
   binary_done op ty d x y a b answer is first second e t = done_as m new r insn (Binary op ty d x y) (writes answer) is
       (λ o same. ap (λ z. writes z o) (e ∙ ap (λ z. binary_answer m.memory op ty z b) first ∙ ap (λ z. binary_answer m.memory op ty (rs x) z) second ∙ ap (λ z. binary_answer z op ty (rs x) (rs y)) (sym same))) t
 
@@ -77,11 +77,11 @@ module _ (m new : Machine) (r : Turn) (insn : VmInsn) where
   compare_done op ty d x y a b answer is first second e t = done_as m new r insn (Compare op ty d x y) (writes answer) is
       (λ o same. ap (λ z. writes z o) (e ∙ ap (λ z. compare_answer m.memory op ty z b) first ∙ ap (λ z. compare_answer m.memory op ty (rs x) z) second ∙ ap (λ z. compare_answer z op ty (rs x) (rs y)) (sym same))) t
 
-  pub branch_done : (op : BranchOp) (ty : VmType) (s block : ℕ) (a : Value) (test : Option Bool) → insn ≡ Branch op ty s block → a ≡ rs s → test ≡ value_holds m.memory ty a → Does (Branch op ty s block) (branches op test) → Done
+  pub branch_done : (op : VmBranchOp) (ty : VmType) (s block : ℕ) (a : Value) (test : Option Bool) → insn ≡ Branch op ty s block → a ≡ rs s → test ≡ value_holds m.memory ty a → Does (Branch op ty s block) (branches op test) → Done
   branch_done op ty s block a test is read e t = done_as m new r insn (Branch op ty s block) (branches op test) is
       (λ o same. ap (λ x. branches op x o) (e ∙ ap (value_holds m.memory ty) read ∙ ap (λ x. value_holds x ty (rs s)) (sym same))) t
 
-  pub call_done : (d : Option ℕ) (callee : Callee) (arguments slice : List ℕ) → insn ≡ Call d callee arguments → slice ≡ arguments → Does (Call d callee arguments) (call_act callee (map rs slice)) → Done
+  pub call_done : (d : Option ℕ) (callee : VmCallee) (arguments slice : List ℕ) → insn ≡ Call d callee arguments → slice ≡ arguments → Does (Call d callee arguments) (call_act callee (map rs slice)) → Done
   call_done d callee arguments slice is read t = done_as m new r insn (Call d callee arguments) (call_act callee (map rs slice)) is (λ o same. ap (λ x. call_act callee (map rs x) o) read) t
 
   pub return_done : (value : Option TypedRegister) → insn ≡ Return value → Does (Return value) (return_act value (map rs (returned_register value))) → Done

@@ -9,7 +9,7 @@ use Rattle.mem_model.specs.World.{World, Rooms, room_of}
 use Rattle.mem_model.proofs.Objects.{ends_change}
 use Rattle.machine_model.specs.Code.{Code, Returns}
 use Rattle.machine_model.specs.Machine.{Frame, Next, Goes, Over, go_on, status_ending, resume, return_to}
-use Rattle.suifvm_ir.specs.declared.function.Object.{Object}
+use Rattle.suifvm_ir.specs.declared.function.MemoryLocal.{MemoryLocal}
 use Rattle.suifvm_ir.specs.declared.insn.VmInsn.{VmInsn}
 use Rattle.suifvm_ir.specs.Insns.{writes_of, named_register}
 use Rattle.vm_meaning.specs.Behave.{Registers, registers_of, set_registers, first_or_unset, value_status, sizes_in, insn_site, site_or_next, vm_code}
@@ -38,7 +38,7 @@ there_is xs now at r within read = slice_get-map now xs at ∙ ap (option_map no
 -- how many objects a function has
 local_count : (m : Machine) → IsSound m → length (sizes_in (slice_get (program_of m) m.here.function)) ≡ length m.here.table.now.objects.now
 local_count m sound =
-    ap length (sizes_are m.program.now m.here.function m.here.table.now sound.here.table) ∙ length-map m.here.table.now.objects.now (λ (o : Object). o.size)
+    ap length (sizes_are m.program.now m.here.function m.here.table.now sound.here.table) ∙ length-map m.here.table.now.objects.now (λ (o : MemoryLocal). o.size)
 
 abbrev left : Rooms → Machine → Hidden → Hidden
 left rooms m h = record h { room = h.room - room_of rooms m.here.function }

@@ -14,7 +14,7 @@ use Rattle.suifvm_run.specs.declared.machine.Machine.{Machine}
 use Rattle.suifvm_run.specs.declared.machine.Stop.{Stop}
 use Rattle.suifvm_run.specs.declared.machine.Turn.TheVariants as turn
 use Rattle.suifvm_run.specs.declared.tables.ProgramTable.{ProgramTable}
-use Rattle.suifvm_run.specs.Run.{Steps, Traffic, Behaves, Stops, run_of, count_plus}
+use Rattle.suifvm_run.specs.Run.{Steps, Traffic, VmBehaves, Stops, run_of, count_plus}
 use Rattle.suifvm_run.specs.model.Begin.{start_at, first_hidden, Begins, EndsAtOnce, IsOverAtOnce}
 use Rattle.suifvm_run.specs.model.Progress.{run_from, StandsAt, stop_ending}
 use Rattle.suifvm_run.specs.model.Stops.{IsRun, StopsAs}
@@ -88,7 +88,7 @@ stops_of rooms program input turns e.InputFault last s = s
 stops_of rooms program input turns e.WriteFault last s = s
 stops_of rooms program input turns e.NoMemory last s = s
 
-behaves : (rooms : Rooms) (program : VmProgram) (input : List ℕ) (turns : ℕ) (ending : VmEnding) (told after : Traffic) → IsRun (run_of rooms program input turns) turns ending told after → Behaves rooms program input turns ending told after
+behaves : (rooms : Rooms) (program : VmProgram) (input : List ℕ) (turns : ℕ) (ending : VmEnding) (told after : Traffic) → IsRun (run_of rooms program input turns) turns ending told after → VmBehaves rooms program input turns ending told after
 behaves rooms program input turns ending told after r = record {
   last = r.last;
   stops = stops_of rooms program input turns ending r.last r.stops;
@@ -98,7 +98,7 @@ behaves rooms program input turns ending told after r = record {
 }
 
 -- the run of the tables of a program, in the memory that it starts with, is its run
-pub whole : (p : ProgramTable) (program : VmProgram) (main : ℕ) (memory : Memory) (rooms : Rooms) (input : List ℕ) (turns : ℕ) (ending : VmEnding) (told after : Traffic) → functions_of p ≡ map code_of program.functions → memory ≡ start_memory program.globals → main ≡ main_of program.functions → IsRun (run_from rooms p (start_at rooms p main memory turns input)) turns ending told after → Behaves rooms program input turns ending told after
+pub whole : (p : ProgramTable) (program : VmProgram) (main : ℕ) (memory : Memory) (rooms : Rooms) (input : List ℕ) (turns : ℕ) (ending : VmEnding) (told after : Traffic) → functions_of p ≡ map code_of program.functions → memory ≡ start_memory program.globals → main ≡ main_of program.functions → IsRun (run_from rooms p (start_at rooms p main memory turns input)) turns ending told after → VmBehaves rooms program input turns ending told after
 whole p program main memory rooms input turns ending told after functions objects number r =
     behaves rooms program input turns ending told after
     (subst (λ fs. IsRun (vm_run rooms fs (main_of program.functions) (world_with (start_memory program.globals) input turns)) turns ending told after) functions
@@ -106,7 +106,7 @@ whole p program main memory rooms input turns ending told after functions object
     (subst (λ x. IsRun (vm_run rooms (functions_of p) main (world_with x input turns)) turns ending told after) objects r)))
 
 -- without memory for its tables or objects it is at its start
-pub not_begun : (program : VmProgram) (rooms : Rooms) (input : List ℕ) (turns : ℕ) (told : Traffic) → told.left ≡ Some input → Behaves rooms program input turns e.NoMemory told told
+pub not_begun : (program : VmProgram) (rooms : Rooms) (input : List ℕ) (turns : ℕ) (told : Traffic) → told.left ≡ Some input → VmBehaves rooms program input turns e.NoMemory told told
 not_begun program rooms input turns told left = record {
   last = (first_of program).world;
   stops = record { steps = 0; config = first_of program; goes = refl; world = refl };

@@ -65,7 +65,7 @@ pub record Traffic : Type 0 where
   pub taken : Option (List ℕ)
 
 -- the run of a program on an input with so many turns that stopped: how, and what it did to the input and the output
-pub record Behaves (rooms : Rooms) (program : VmProgram) (input : List ℕ) (turns : ℕ) (ending : VmEnding)
+pub record VmBehaves (rooms : Rooms) (program : VmProgram) (input : List ℕ) (turns : ℕ) (ending : VmEnding)
     (told after : Traffic) : Type 0 where
   pub last : World
   pub stops : Stops rooms program input turns ending last

@@ -15,7 +15,7 @@ ghost use Rattle.vm_meaning.specs.Operations as operations;
 use crate::machine::{Call, Machine, Stop, Turn, block_at, function_at, register_in};
 use mem_model::value::Value;
 use std::alloc::AllocError;
-use suifvm_ir::insn::{Builtin, Callee, TypedRegister, VmInsn};
+use suifvm_ir::insn::{TypedRegister, VmBuiltin, VmCallee, VmInsn};
 use vm_operations::numbers::is_value_of;
 use vm_operations::objects::{MOST_OBJECTS, begin_objects, end_objects};
 
@@ -253,7 +253,7 @@ impl<'c, 'p> Machine<'c, 'p> {
     fn call_builtin(
         &mut self,
         destination: Option<u32>,
-        builtin: Builtin,
+        builtin: VmBuiltin,
         arguments: &[u32],
     ) -> Turn
         requires sound { config.IsSound self.old }
@@ -266,10 +266,10 @@ impl<'c, 'p> Machine<'c, 'p> {
     {
         let value = first(self.stack.as_slice(), self.here.base, arguments);
         match builtin {
-            Builtin::PutChar => self.put_char(destination, value),
-            Builtin::GetChar => Turn::Takes(destination),
-            Builtin::Abort => Turn::Over(Stop::Traps(2)),
-            Builtin::Exit => self.exit(value),
+            VmBuiltin::PutChar => self.put_char(destination, value),
+            VmBuiltin::GetChar => Turn::Takes(destination),
+            VmBuiltin::Abort => Turn::Over(Stop::Traps(2)),
+            VmBuiltin::Exit => self.exit(value),
         }
     }
 
@@ -278,7 +278,7 @@ impl<'c, 'p> Machine<'c, 'p> {
     pub(crate) fn call(
         &mut self,
         destination: Option<u32>,
-        callee: Callee,
+        callee: VmCallee,
         arguments: &[u32],
     ) -> Turn
         requires sound { config.IsSound self.old }
@@ -292,8 +292,8 @@ impl<'c, 'p> Machine<'c, 'p> {
             return self.fail();
         }
         match callee {
-            Callee::Function(function) => self.enter(function, arguments),
-            Callee::Builtin(builtin) => self.call_builtin(destination, builtin, arguments),
+            VmCallee::Function(function) => self.enter(function, arguments),
+            VmCallee::Builtin(builtin) => self.call_builtin(destination, builtin, arguments),
         }
     }
 }

@@ -17,7 +17,7 @@ use crate::machine::{Call, Machine, Turn, block_at};
 use crate::step::address_of;
 use crate::steps::is_taken;
 use mem_model::value::Value;
-use suifvm_ir::insn::{BinaryOp, BranchOp, CompareOp, Place, ShiftOp, UnaryOp, VmInsn};
+use suifvm_ir::insn::{CompareOp, ShiftOp, VmBinaryOp, VmBranchOp, VmInsn, VmObject, VmUnaryOp};
 use suifvm_ir::types::{MemoryType, VmType};
 use vm_meaning::answer::Answer;
 use vm_operations::given::{binary_word, compare_word, given_word, word_holds};
@@ -106,7 +106,7 @@ impl<'c, 'p> Machine<'c, 'p> {
     #[inline(always)]
     fn quick_binary(
         &mut self,
-        op: BinaryOp,
+        op: VmBinaryOp,
         ty: VmType,
         destination: u32,
         left: u32,
@@ -182,7 +182,7 @@ impl<'c, 'p> Machine<'c, 'p> {
 
     /// An operation on one number, or a copy of a word.
     #[inline(always)]
-    fn quick_unary(&mut self, op: UnaryOp, ty: VmType, destination: u32, source: u32) -> bool
+    fn quick_unary(&mut self, op: VmUnaryOp, ty: VmType, destination: u32, source: u32) -> bool
         requires sound { config.IsSound self.old }
         requires within { self.old.here.at < length self.old.here.row.now.insns.items }
         ensures done { OnTrue result ((i : Insn) → insns.writes_of i ≡ destination ∷ [] →
@@ -286,7 +286,7 @@ impl<'c, 'p> Machine<'c, 'p> {
 
     /// The address of an object.
     #[inline(never)]
-    fn quick_address(&mut self, destination: u32, place: Place, plus: u64) -> bool
+    fn quick_address(&mut self, destination: u32, place: VmObject, plus: u64) -> bool
         requires sound { config.IsSound self.old }
         requires within { self.old.here.at < length self.old.here.row.now.insns.items }
         ensures done { OnTrue result ((i : Insn) → insns.writes_of i ≡ destination ∷ [] →
@@ -305,7 +305,7 @@ impl<'c, 'p> Machine<'c, 'p> {
     #[inline(never)]
     fn quick_pointer(
         &mut self,
-        op: BinaryOp,
+        op: VmBinaryOp,
         ty: VmType,
         destination: u32,
         left: u32,
@@ -328,7 +328,7 @@ impl<'c, 'p> Machine<'c, 'p> {
     #[inline(always)]
     fn quick_two(
         &mut self,
-        op: BinaryOp,
+        op: VmBinaryOp,
         ty: VmType,
         destination: u32,
         left: u32,
@@ -401,7 +401,7 @@ impl<'c, 'p> Machine<'c, 'p> {
 
     /// Goes on with a block where a test says so, and else with the next instruction.
     #[inline(always)]
-    fn quick_test(&mut self, op: BranchOp, test: bool, block: u32) -> bool
+    fn quick_test(&mut self, op: VmBranchOp, test: bool, block: u32) -> bool
         requires sound { config.IsSound self.old }
         requires within { self.old.here.at < length self.old.here.row.now.insns.items }
         ensures done { OnTrue result ((i : Insn) → insns.targets_of i ≡ block ∷ [] → insns.writes_of i ≡ [] →
@@ -419,7 +419,7 @@ impl<'c, 'p> Machine<'c, 'p> {
 
     /// A branch on a number.
     #[inline(always)]
-    fn quick_branch(&mut self, op: BranchOp, ty: VmType, source: u32, block: u32) -> bool
+    fn quick_branch(&mut self, op: VmBranchOp, ty: VmType, source: u32, block: u32) -> bool
         requires sound { config.IsSound self.old }
         requires within { self.old.here.at < length self.old.here.row.now.insns.items }
         ensures done { OnTrue result ((i : Insn) → insns.targets_of i ≡ block ∷ [] → insns.writes_of i ≡ [] →

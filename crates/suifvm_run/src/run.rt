@@ -4,7 +4,7 @@ ghost use Rattle.std.specs.Prelude.{◌≡◌, ◌<◌, ℕ, List, length, posit
 ghost use Rattle.machine_model.specs.Machine.{Config};
 ghost use Rattle.mem_model.specs.World.{Rooms};
 ghost use Rattle.suifvm_ir.specs.Programs as programs;
-ghost use Rattle.suifvm_run.specs.Run.{Traffic, Behaves, input_faults_after, output_faults_after};
+ghost use Rattle.suifvm_run.specs.Run.{Traffic, VmBehaves, input_faults_after, output_faults_after};
 ghost use Rattle.suifvm_run.specs.model.Begin.{start_at};
 ghost use Rattle.suifvm_run.specs.model.Config as config;
 ghost use Rattle.suifvm_run.specs.model.Falls.{AreMarked, machine_left};
@@ -221,7 +221,7 @@ pub fn run_vm<I: Source, O: Sink>(
     turns: u64,
 ) -> VmEnding
     ensures run { (rooms : Rooms) (bytes : List ℕ) → I.left input.old ≡ Some bytes →
-        Behaves rooms program.now bytes turns result
+        VmBehaves rooms program.now bytes turns result
         (record { left = I.left input.old; made = I.made input.old; taken = O.taken out.old })
         (record { left = I.left input.new; made = I.made input.new; taken = O.taken out.new }) }
     ensures input_count { I.faults input.new ≡ input_faults_after result (I.faults input.old) }

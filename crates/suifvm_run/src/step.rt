@@ -10,7 +10,7 @@ ghost use Rattle.vm_meaning.specs.Operations as operations;
 
 use crate::machine::{Machine, Stop, Turn};
 use mem_model::value::{Ptr, Value};
-use suifvm_ir::insn::{Place, VmInsn};
+use suifvm_ir::insn::{VmInsn, VmObject};
 use vm_meaning::answer::Answer;
 use vm_operations::numbers::{convert, shift, unary, when_value};
 use vm_operations::objects::load;
@@ -29,7 +29,7 @@ fn takes_turn(insn: &VmInsn) -> bool
 
 /// The address of an object, moved by so many bytes, where the number of the call's first object is given. `None`
 /// where no object has so many bytes.
-pub(crate) fn address_of(own: u64, place: Place, plus: u64) -> Option<Value>
+pub(crate) fn address_of(own: u64, place: VmObject, plus: u64) -> Option<Value>
     requires { own ≤ 2 ^ 63 }
     ensures { IfSome result (λ value. value ≡ operations.place_address own place plus) }
 {
@@ -37,11 +37,11 @@ pub(crate) fn address_of(own: u64, place: Place, plus: u64) -> Option<Value>
         return None;
     };
     match place {
-        Place::Global(k) => Some(Value::Address(Ptr {
+        VmObject::Global(k) => Some(Value::Address(Ptr {
             object: u64::from(k),
             offset,
         })),
-        Place::Local(k) => Some(Value::Address(Ptr {
+        VmObject::Local(k) => Some(Value::Address(Ptr {
             object: own + u64::from(k),
             offset,
         })),

@@ -15,18 +15,18 @@ ghost use Rattle.vm_meaning.specs.Operations as operations;
 use crate::machine::{Call, Machine, Stop, Turn, block_at, register_in, set_register_in};
 use mem_model::value::Value;
 use std::alloc::AllocError;
-use suifvm_ir::insn::{BranchOp, VmInsn};
+use suifvm_ir::insn::{VmBranchOp, VmInsn};
 use suifvm_ir::types::{Alignment, MemoryType};
 use vm_meaning::answer::Answer;
 use vm_operations::objects::{copy, store};
 
 /// Whether a branch is taken where its test gives this.
-pub(crate) fn is_taken(op: BranchOp, test: bool) -> bool
+pub(crate) fn is_taken(op: VmBranchOp, test: bool) -> bool
     ensures { result ≡ effect.is_taken op test }
 {
     match op {
-        BranchOp::IfTrue => test,
-        BranchOp::IfFalse => !test,
+        VmBranchOp::IfTrue => test,
+        VmBranchOp::IfFalse => !test,
     }
 }
 
@@ -176,7 +176,7 @@ impl<'c, 'p> Machine<'c, 'p> {
 
     /// `btrue`, `bfalse`.
     #[tactic(auto, using(crate::proofs::Effects::branch_failure, crate::proofs::Effects::branch_taken, crate::proofs::Effects::branch_passed))]
-    pub(crate) fn branch(&mut self, op: BranchOp, test: Option<bool>, block: u32) -> Turn
+    pub(crate) fn branch(&mut self, op: VmBranchOp, test: Option<bool>, block: u32) -> Turn
         requires sound { config.IsSound self.old }
         requires within { self.old.here.at < length self.old.here.row.now.insns.items }
         ensures { (i : Insn) → insns.targets_of i ≡ block ∷ [] → insns.writes_of i ≡ [] →

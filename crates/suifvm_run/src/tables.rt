@@ -2,7 +2,7 @@
 
 ghost use Rattle.std.specs.Prelude.{◌+◌, ◌<◌, ◌^◌, length};
 
-use suifvm_ir::function::Object;
+use suifvm_ir::function::MemoryLocal;
 use suifvm_ir::insn::VmInsn;
 
 /// The instructions of a block.
@@ -17,7 +17,7 @@ pub(crate) struct BlockTable<'p> {
 /// The blocks and the memory locals of a function.
 #[derive(Drop)]
 pub(crate) struct FunctionTable<'p> {
-    pub(crate) objects: &'p [Object],
+    pub(crate) objects: &'p [MemoryLocal],
     pub(crate) blocks: Vec<BlockTable<'p>>,
     /// The number that follows its last instruction.
     pub(crate) end: u64,

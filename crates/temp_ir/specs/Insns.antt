@@ -4,19 +4,19 @@ use Rattle.temp_ir.specs.declared.operation.Operation.{Operation}
 use Rattle.temp_ir.specs.declared.operation.Operation.TheVariants.{AddlV, SublV, AddqV, SubqV, MullV, MulqV}
 use Rattle.temp_ir.specs.declared.operation.Service.{Service}
 use Rattle.temp_ir.specs.declared.operation.Service.TheVariants.{Trap}
-use Rattle.temp_ir.specs.declared.insn.Source.{Source}
-use Rattle.temp_ir.specs.declared.insn.Source.TheVariants as source
-use Rattle.temp_ir.specs.declared.insn.Operand.{Operand}
-use Rattle.temp_ir.specs.declared.insn.Operand.TheVariants as operand
+use Rattle.temp_ir.specs.declared.insn.FirstOperand.{FirstOperand}
+use Rattle.temp_ir.specs.declared.insn.FirstOperand.TheVariants as source
+use Rattle.temp_ir.specs.declared.insn.SecondOperand.{SecondOperand}
+use Rattle.temp_ir.specs.declared.insn.SecondOperand.TheVariants as operand
 use Rattle.temp_ir.specs.declared.insn.TempInsn.{TempInsn}
 use Rattle.temp_ir.specs.declared.insn.TempInsn.TheVariants.{Address, ObjectAddress, Load, Store, Operate, Extend, ToFixed, FromFixed, SetFixed, WriteArgument, ReadArgument, Branch, Jump, Call, Divide, Serve, Return, Mark}
 
 -- the temporary of an operand, if it is one
-abbrev pub source_reads : Source → List ℕ
+abbrev pub source_reads : FirstOperand → List ℕ
 source_reads source.Zero = []
 source_reads (source.Temp t) = t ∷ []
 
-abbrev pub operand_reads : Operand → List ℕ
+abbrev pub operand_reads : SecondOperand → List ℕ
 operand_reads (operand.Temp t) = t ∷ []
 operand_reads (operand.Literal n) = []
 

@@ -11,8 +11,8 @@ use Rattle.temp_ir.specs.declared.operation.LoadOp.{LoadOp}
 use Rattle.temp_ir.specs.declared.operation.LoadOp.TheVariants.{Ldbu, Ldwu, Ldl, Ldq}
 use Rattle.temp_ir.specs.declared.operation.StoreOp.{StoreOp}
 use Rattle.temp_ir.specs.declared.operation.StoreOp.TheVariants.{Stb, Stw, Stl, Stq}
-use Rattle.temp_ir.specs.declared.operation.BranchOp as branch
-use Rattle.temp_ir.specs.declared.operation.BranchOp.TheVariants.{Blbc, Beq, Blt, Ble, Blbs, Bne, Bge, Bgt}
+use Rattle.temp_ir.specs.declared.operation.TempBranchOp as branch
+use Rattle.temp_ir.specs.declared.operation.TempBranchOp.TheVariants.{Blbc, Beq, Blt, Ble, Blbs, Bne, Bge, Bgt}
 use Rattle.temp_ir.specs.declared.operation.Operation.{Operation}
 use Rattle.temp_ir.specs.declared.operation.Operation.TheVariants.{Addl, Subl, Cmpult, Addq, S4addq, Subq, Cmpeq, S8addq, Cmpule, AddlV, SublV, Cmplt, AddqV, SubqV, Cmple, And, Bic, Bis, Ornot, Xor, Eqv, Zapnot, Srl, Sll, Sra, Mull, Mulq, Umulh, MullV, MulqV}
 use Rattle.temp_ir.specs.declared.operation.ExtendOp.{ExtendOp}
@@ -34,7 +34,7 @@ store_op Stw = m.Stw
 store_op Stl = m.Stl
 store_op Stq = m.Stq
 
-abbrev pub branch_op : branch.BranchOp → BranchOp
+abbrev pub branch_op : branch.TempBranchOp → BranchOp
 branch_op Blbc = b.Blbc
 branch_op Beq = b.Beq
 branch_op Blt = b.Blt

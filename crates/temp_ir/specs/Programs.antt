@@ -2,7 +2,7 @@
 use Rattle.std.specs.Prelude.{◌≡◌, ℕ, ◌<◌, ◌||◌, ◌==◌, nat_lt, Bool, true, false, List, [], All, IsTrue, length, count_by, slice_get, slice_index_or, Option, Some, None, codes, bytes_eq}
 use Rattle.std.specs.List.{list_all}
 use Rattle.data_object.specs.declared.DataObject.{DataObject}
-use Rattle.suifvm_ir.specs.declared.function.Object.{Object}
+use Rattle.suifvm_ir.specs.declared.function.MemoryLocal.{MemoryLocal}
 use Rattle.suifvm_ir.specs.declared.function.Func.{Func}
 use Rattle.suifvm_ir.specs.Functions.{AllInsns}
 use Rattle.suifvm_ir.specs.Programs.{place_reaches}
@@ -30,7 +30,7 @@ function_takes count (Some f) = f.params == count
 
 -- what an instruction names is there: an address lies in its object or at its end, and a call gives as many arguments
 -- as the function takes
-abbrev pub names_what_is_there : List TempFn → List DataObject → List Object → TempInsn → Bool
+abbrev pub names_what_is_there : List TempFn → List DataObject → List MemoryLocal → TempInsn → Bool
 names_what_is_there functions globals objects (ObjectAddress destination place plus) =
     place_reaches globals objects plus place
 names_what_is_there functions globals objects (Call function arguments) =
@@ -52,7 +52,7 @@ goes_back_to_marks blocks block i =
     list_all (λ target. nat_lt block target || begins_with_mark (slice_get blocks target)) (targets_of i)
 
 -- what a program asks of each of its functions
-pub record IsLawfulFunction (functions : List TempFn) (globals : List DataObject) (f : TempFn) : Type 0 where
+pub record IsLawfulTempFn (functions : List TempFn) (globals : List DataObject) (f : TempFn) : Type 0 where
   pub main : is_main f ≡ true → f.params ≡ 0
   pub names : AllInsns (λ i. IsTrue (names_what_is_there functions globals f.objects i)) f.blocks
   pub marks : (block : ℕ) → block < length f.blocks →

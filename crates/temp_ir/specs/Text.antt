@@ -5,14 +5,14 @@ use Rattle.std.specs.Fmt.{signed_decimal}
 use Rattle.alpha_lines.specs.Mnemonics as mnemonic
 use Rattle.suifvm_ir.specs.Functions.{count_of}
 use Rattle.suifvm_ir.specs.Text.{block_name, place_name}
-use Rattle.temp_ir.specs.declared.operation.Routine.{Routine}
-use Rattle.temp_ir.specs.declared.operation.Routine.TheVariants.{Divq, Remq, Divqu, Remqu, Divl, Reml, Divlu, Remlu}
+use Rattle.temp_ir.specs.declared.operation.DivisionRoutine.{DivisionRoutine}
+use Rattle.temp_ir.specs.declared.operation.DivisionRoutine.TheVariants.{Divq, Remq, Divqu, Remqu, Divl, Reml, Divlu, Remlu}
 use Rattle.temp_ir.specs.declared.operation.Service.{Service}
 use Rattle.temp_ir.specs.declared.operation.Service.TheVariants.{Trap}
-use Rattle.temp_ir.specs.declared.insn.Source.{Source}
-use Rattle.temp_ir.specs.declared.insn.Source.TheVariants as source
-use Rattle.temp_ir.specs.declared.insn.Operand.{Operand}
-use Rattle.temp_ir.specs.declared.insn.Operand.TheVariants as operand
+use Rattle.temp_ir.specs.declared.insn.FirstOperand.{FirstOperand}
+use Rattle.temp_ir.specs.declared.insn.FirstOperand.TheVariants as source
+use Rattle.temp_ir.specs.declared.insn.SecondOperand.{SecondOperand}
+use Rattle.temp_ir.specs.declared.insn.SecondOperand.TheVariants as operand
 use Rattle.temp_ir.specs.declared.insn.TempInsn.{TempInsn}
 use Rattle.temp_ir.specs.declared.insn.TempInsn.TheVariants.{Address, ObjectAddress, Load, Store, Operate, Extend, ToFixed, FromFixed, SetFixed, WriteArgument, ReadArgument, Branch, Jump, Call, Divide, Serve, Return, Mark}
 use Rattle.temp_ir.specs.Fixed.{register_number, argument_registers}
@@ -27,11 +27,11 @@ temp_text mark t = mark ++ decimal t
 abbrev pub register_text : ℕ → List ℕ
 register_text r = codes "$" ++ decimal r
 
-abbrev pub source_text : (mark : List ℕ) → Source → List ℕ
+abbrev pub source_text : (mark : List ℕ) → FirstOperand → List ℕ
 source_text mark source.Zero = codes "$31"
 source_text mark (source.Temp t) = temp_text mark t
 
-abbrev pub operand_text : (mark : List ℕ) → Operand → List ℕ
+abbrev pub operand_text : (mark : List ℕ) → SecondOperand → List ℕ
 operand_text mark (operand.Temp t) = temp_text mark t
 operand_text mark (operand.Literal n) = decimal n
 
@@ -40,7 +40,7 @@ abbrev pub registers_text : List ℕ → List ℕ
 registers_text [] = []
 registers_text (r ∷ registers) = codes ", " ++ register_text r ++ registers_text registers
 
-abbrev pub routine_word : Routine → List ℕ
+abbrev pub routine_word : DivisionRoutine → List ℕ
 routine_word Divq = codes "__divq"
 routine_word Remq = codes "__remq"
 routine_word Divqu = codes "__divqu"
@@ -53,12 +53,12 @@ routine_word Remlu = codes "__remlu"
 -- ---- instructions
 
 -- an address, a load or a store: a register, and one that is moved by so many bytes
-abbrev pub memory_text : (mark word : List ℕ) → Source → ℤ → Source → List ℕ
+abbrev pub memory_text : (mark word : List ℕ) → FirstOperand → ℤ → FirstOperand → List ℕ
 memory_text mark word first plus base =
     word ++ codes " " ++ source_text mark first ++ codes ", " ++ signed_decimal plus ++ codes "("
     ++ source_text mark base ++ codes ")"
 
-abbrev pub operate_text : (mark word : List ℕ) → Source → Operand → (destination : ℕ) → List ℕ
+abbrev pub operate_text : (mark word : List ℕ) → FirstOperand → SecondOperand → (destination : ℕ) → List ℕ
 operate_text mark word left right destination =
     word ++ codes " " ++ source_text mark left ++ codes ", " ++ operand_text mark right ++ codes ", "
     ++ temp_text mark destination

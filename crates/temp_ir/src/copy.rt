@@ -6,7 +6,7 @@ use crate::insn::TempInsn;
 use c_tree::Seq;
 use std::alloc::{AllocError, Global};
 use suifvm_ir::block::Block;
-use suifvm_ir::function::{Func, Object};
+use suifvm_ir::function::{Func, MemoryLocal};
 
 /// An equal block. It fails only where memory is short.
 #[tactic(auto, using(crate::proofs::Copies::insns_next))]
@@ -36,7 +36,7 @@ fn copy_blocks(
 }
 
 /// Equal objects. It fails only where memory is short.
-fn copy_objects(alloc: Global, objects: &[Object]) -> Result<Seq<Object>, AllocError>
+fn copy_objects(alloc: Global, objects: &[MemoryLocal]) -> Result<Seq<MemoryLocal>, AllocError>
     ensures { IfOk result (λ copies. copies ≡ objects.now) }
 {
     Ok(Seq::from_vec(Vec::from_slice(alloc, objects)?))

@@ -4,9 +4,9 @@
 //! and a memory local by theirs.
 
 use crate::operation::{
-    AddressOp, BranchOp, ExtendOp, LoadOp, Operation, Routine, Service, StoreOp,
+    AddressOp, DivisionRoutine, ExtendOp, LoadOp, Operation, Service, StoreOp, TempBranchOp,
 };
-use suifvm_ir::insn::Place;
+use suifvm_ir::insn::VmObject;
 
 /// A register that has a role where a function is called, returns, divides or asks for a service.
 #[derive(Clone, Copy, Debug, PartialEq, Eq)]
@@ -30,7 +30,7 @@ pub enum FixedRegister {
 
 /// A first operand.
 #[derive(Clone, Copy, Debug, PartialEq, Eq)]
-pub enum Source {
+pub enum FirstOperand {
     /// The zero that register 31 reads.
     Zero,
     Temp(u32),
@@ -38,7 +38,7 @@ pub enum Source {
 
 /// A second operand.
 #[derive(Clone, Copy, Debug, PartialEq, Eq)]
-pub enum Operand {
+pub enum SecondOperand {
     Temp(u32),
     /// A number from 0 to 255.
     Literal(u8),
@@ -51,13 +51,13 @@ pub enum TempInsn {
     Address {
         op: AddressOp,
         destination: u32,
-        base: Source,
+        base: FirstOperand,
         plus: i16,
     },
     /// The address of an object, moved by so many bytes.
     ObjectAddress {
         destination: u32,
-        place: Place,
+        place: VmObject,
         plus: u64,
     },
     /// What stands at the pointer moved by so many bytes.
@@ -70,7 +70,7 @@ pub enum TempInsn {
     /// The value is put at the pointer moved by so many bytes.
     Store {
         op: StoreOp,
-        value: Source,
+        value: FirstOperand,
         pointer: u32,
         plus: i16,
     },
@@ -78,14 +78,14 @@ pub enum TempInsn {
     Operate {
         op: Operation,
         destination: u32,
-        left: Source,
-        right: Operand,
+        left: FirstOperand,
+        right: SecondOperand,
     },
     /// The sign extension of an operand.
     Extend {
         op: ExtendOp,
         destination: u32,
-        source: Operand,
+        source: SecondOperand,
     },
     /// The fixed register holds what the temporary holds.
     ToFixed {
@@ -114,7 +114,7 @@ pub enum TempInsn {
     },
     /// A branch where the operand passes the test.
     Branch {
-        op: BranchOp,
+        op: TempBranchOp,
         source: u32,
         block: u32,
     },
@@ -128,7 +128,7 @@ pub enum TempInsn {
     },
     /// A call of a division routine.
     Divide {
-        routine: Routine,
+        routine: DivisionRoutine,
     },
     /// A call of the machine, whose number stands in register 0 but for a trap.
     Serve {

@@ -28,7 +28,7 @@ pub enum StoreOp {
 
 /// A branch, by the test that it makes of its operand.
 #[derive(Clone, Copy, Debug, PartialEq, Eq)]
-pub enum BranchOp {
+pub enum TempBranchOp {
     Blbc,
     Beq,
     Blt,
@@ -83,7 +83,7 @@ pub enum ExtendOp {
 
 /// A division routine: quotient and remainder of signed and unsigned (`u`) numbers of 64 bits (`q`) and 32 bits (`l`).
 #[derive(Clone, Copy, Debug, PartialEq, Eq)]
-pub enum Routine {
+pub enum DivisionRoutine {
     Divq,
     Remq,
     Divqu,

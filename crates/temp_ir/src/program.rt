@@ -2,7 +2,7 @@
 
 ghost use Rattle.std.specs.Prelude.{◌≡◌, ◌<◌, ◌^◌, All, length};
 ghost use Rattle.data_object.specs.Globals.{AreLawful};
-ghost use Rattle.temp_ir.specs.Programs.{main_count, IsLawfulFunction};
+ghost use Rattle.temp_ir.specs.Programs.{main_count, IsLawfulTempFn};
 
 use crate::insn::TempInsn;
 use c_tree::Seq;
@@ -19,5 +19,5 @@ pub struct TempProgram {
     // exactly one function is `main`
     pub ghost one_main: { main_count functions ≡ 1 },
     // what an instruction names is there, a backward jump goes to a mark, a fixed register that is read was written
-    pub ghost functions_lawful: { All (IsLawfulFunction functions globals) functions },
+    pub ghost functions_lawful: { All (IsLawfulTempFn functions globals) functions },
 }

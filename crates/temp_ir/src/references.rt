@@ -4,7 +4,7 @@ ghost use Rattle.std.specs.Prelude.{◌≡◌, [], ◌∷◌, ◌++◌, slice_ge
 ghost use Rattle.temp_ir.specs.Insns as insns;
 ghost use Rattle.temp_ir.specs.model.Targets.{insn_laws};
 
-use crate::insn::{Operand, Source, TempInsn};
+use crate::insn::{FirstOperand, SecondOperand, TempInsn};
 use crate::operation::{Operation, Service};
 use pass_core::Insn;
 use std::alloc::Global;
@@ -28,42 +28,42 @@ fn of_two(first: u32, second: u32, k: u32) -> Option<u32>
 }
 
 /// The temporary of a first operand.
-fn of_source(source: Source, k: u32) -> Option<u32>
+fn of_source(source: FirstOperand, k: u32) -> Option<u32>
     ensures { result ≡ slice_get (insns.source_reads source) k }
 {
     match source {
-        Source::Zero => None,
-        Source::Temp(temp) => of_one(temp, k),
+        FirstOperand::Zero => None,
+        FirstOperand::Temp(temp) => of_one(temp, k),
     }
 }
 
 /// The temporary of a second operand.
-fn of_operand(operand: Operand, k: u32) -> Option<u32>
+fn of_operand(operand: SecondOperand, k: u32) -> Option<u32>
     ensures { result ≡ slice_get (insns.operand_reads operand) k }
 {
     match operand {
-        Operand::Temp(temp) => of_one(temp, k),
-        Operand::Literal(_) => None,
+        SecondOperand::Temp(temp) => of_one(temp, k),
+        SecondOperand::Literal(_) => None,
     }
 }
 
 /// The temporaries of a first operand and one that is always there.
-fn of_source_and_temp(source: Source, temp: u32, k: u32) -> Option<u32>
+fn of_source_and_temp(source: FirstOperand, temp: u32, k: u32) -> Option<u32>
     ensures { result ≡ slice_get (insns.source_reads source ++ temp ∷ []) k }
 {
     match source {
-        Source::Zero => of_one(temp, k),
-        Source::Temp(first) => of_two(first, temp, k),
+        FirstOperand::Zero => of_one(temp, k),
+        FirstOperand::Temp(first) => of_two(first, temp, k),
     }
 }
 
 /// The temporaries of a first operand and a second one.
-fn of_operands(left: Source, right: Operand, k: u32) -> Option<u32>
+fn of_operands(left: FirstOperand, right: SecondOperand, k: u32) -> Option<u32>
     ensures { result ≡ slice_get (insns.source_reads left ++ insns.operand_reads right) k }
 {
     match right {
-        Operand::Temp(temp) => of_source_and_temp(left, temp, k),
-        Operand::Literal(_) => of_source(left, k),
+        SecondOperand::Temp(temp) => of_source_and_temp(left, temp, k),
+        SecondOperand::Literal(_) => of_source(left, k),
     }
 }
 

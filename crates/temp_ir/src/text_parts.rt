@@ -6,14 +6,14 @@ ghost use Rattle.suifvm_ir.specs.Text.{block_name, place_name};
 ghost use Rattle.temp_ir.specs.Fixed.{register_number, argument_registers};
 ghost use Rattle.temp_ir.specs.Text as text;
 
-use crate::insn::{FixedRegister, Operand, Source, TempInsn};
+use crate::insn::{FirstOperand, FixedRegister, SecondOperand, TempInsn};
 use crate::words::{
     address_word, branch_word, extend_word, load_word, operate_word, return_word, routine_word,
     service_word, store_word,
 };
 use itoa::Buffer;
 use std::alloc::AllocError;
-use suifvm_ir::insn::Place;
+use suifvm_ir::insn::VmObject;
 
 /// Puts a word.
 pub fn put(out: &mut Vec<u8>, word: &str) -> Result<(), AllocError>
@@ -63,35 +63,35 @@ fn put_register(out: &mut Vec<u8>, register: u8) -> Result<(), AllocError>
 }
 
 /// Puts a first operand.
-fn put_source(out: &mut Vec<u8>, mark: &str, source: Source) -> Result<(), AllocError>
+fn put_source(out: &mut Vec<u8>, mark: &str, source: FirstOperand) -> Result<(), AllocError>
     ensures { OnOk result (out.new.items ≡ out.old.items ++ text.source_text mark.now source) }
 {
     match source {
-        Source::Zero => put(out, "$31"),
-        Source::Temp(temp) => put_temp(out, mark, temp),
+        FirstOperand::Zero => put(out, "$31"),
+        FirstOperand::Temp(temp) => put_temp(out, mark, temp),
     }
 }
 
 /// Puts a second operand.
-fn put_operand(out: &mut Vec<u8>, mark: &str, operand: Operand) -> Result<(), AllocError>
+fn put_operand(out: &mut Vec<u8>, mark: &str, operand: SecondOperand) -> Result<(), AllocError>
     ensures { OnOk result (out.new.items ≡ out.old.items ++ text.operand_text mark.now operand) }
 {
     match operand {
-        Operand::Temp(temp) => put_temp(out, mark, temp),
-        Operand::Literal(number) => put_number(out, u64::from(number)),
+        SecondOperand::Temp(temp) => put_temp(out, mark, temp),
+        SecondOperand::Literal(number) => put_number(out, u64::from(number)),
     }
 }
 
 /// Puts the name of an object.
-fn put_place(out: &mut Vec<u8>, place: Place) -> Result<(), AllocError>
+fn put_place(out: &mut Vec<u8>, place: VmObject) -> Result<(), AllocError>
     ensures { OnOk result (out.new.items ≡ out.old.items ++ place_name place) }
 {
     match place {
-        Place::Global(k) => {
+        VmObject::Global(k) => {
             put(out, "g")?;
             put_number(out, u64::from(k))
         }
-        Place::Local(k) => {
+        VmObject::Local(k) => {
             put(out, "m")?;
             put_number(out, u64::from(k))
         }
@@ -124,9 +124,9 @@ fn put_memory(
     out: &mut Vec<u8>,
     mark: &str,
     word: &str,
-    first: Source,
+    first: FirstOperand,
     plus: i16,
-    base: Source,
+    base: FirstOperand,
 ) -> Result<(), AllocError>
     ensures { OnOk result (out.new.items ≡ out.old.items ++ text.memory_text mark.now word.now first plus base) }
 {
@@ -145,8 +145,8 @@ fn put_operate(
     out: &mut Vec<u8>,
     mark: &str,
     word: &str,
-    left: Source,
-    right: Operand,
+    left: FirstOperand,
+    right: SecondOperand,
     destination: u32,
 ) -> Result<(), AllocError>
     ensures { OnOk result
@@ -166,7 +166,7 @@ fn put_address(
     out: &mut Vec<u8>,
     mark: &str,
     destination: u32,
-    place: Place,
+    place: VmObject,
     plus: u64,
 ) -> Result<(), AllocError>
     ensures { OnOk result (out.new.items ≡ out.old.items
@@ -186,7 +186,7 @@ fn put_extend(
     out: &mut Vec<u8>,
     mark: &str,
     word: &str,
-    source: Operand,
+    source: SecondOperand,
     destination: u32,
 ) -> Result<(), AllocError>
     ensures { OnOk result (out.new.items ≡ out.old.items
@@ -324,7 +324,7 @@ pub fn put_insn(out: &mut Vec<u8>, mark: &str, insn: &TempInsn) -> Result<(), Al
                 out,
                 mark,
                 address_word(*op),
-                Source::Temp(*destination),
+                FirstOperand::Temp(*destination),
                 *plus,
                 *base,
             )
@@ -344,9 +344,9 @@ pub fn put_insn(out: &mut Vec<u8>, mark: &str, insn: &TempInsn) -> Result<(), Al
                 out,
                 mark,
                 load_word(*op),
-                Source::Temp(*destination),
+                FirstOperand::Temp(*destination),
                 *plus,
-                Source::Temp(*pointer),
+                FirstOperand::Temp(*pointer),
             )
         }
         TempInsn::Store {
@@ -361,7 +361,7 @@ pub fn put_insn(out: &mut Vec<u8>, mark: &str, insn: &TempInsn) -> Result<(), Al
                 store_word(*op),
                 *value,
                 *plus,
-                Source::Temp(*pointer),
+                FirstOperand::Temp(*pointer),
             )
         }
         TempInsn::Operate {

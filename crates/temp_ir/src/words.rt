@@ -8,7 +8,7 @@ ghost use Rattle.temp_ir.specs.Text as text;
 
 use crate::insn::FixedRegister;
 use crate::operation::{
-    AddressOp, BranchOp, ExtendOp, LoadOp, Operation, Routine, Service, StoreOp,
+    AddressOp, DivisionRoutine, ExtendOp, LoadOp, Operation, Service, StoreOp, TempBranchOp,
 };
 
 impl FixedRegister {
@@ -66,18 +66,18 @@ pub fn store_word(op: StoreOp) -> &'static str
 }
 
 /// The mnemonic of a branch.
-pub fn branch_word(op: BranchOp) -> &'static str
+pub fn branch_word(op: TempBranchOp) -> &'static str
     ensures { result.now ≡ mnemonic.branch_word (operations.branch_op op) }
 {
     match op {
-        BranchOp::Blbc => "blbc",
-        BranchOp::Beq => "beq",
-        BranchOp::Blt => "blt",
-        BranchOp::Ble => "ble",
-        BranchOp::Blbs => "blbs",
-        BranchOp::Bne => "bne",
-        BranchOp::Bge => "bge",
-        BranchOp::Bgt => "bgt",
+        TempBranchOp::Blbc => "blbc",
+        TempBranchOp::Beq => "beq",
+        TempBranchOp::Blt => "blt",
+        TempBranchOp::Ble => "ble",
+        TempBranchOp::Blbs => "blbs",
+        TempBranchOp::Bne => "bne",
+        TempBranchOp::Bge => "bge",
+        TempBranchOp::Bgt => "bgt",
     }
 }
 
@@ -130,18 +130,18 @@ pub fn extend_word(op: ExtendOp) -> &'static str
 }
 
 /// The name of a division routine.
-pub fn routine_word(routine: Routine) -> &'static str
+pub fn routine_word(routine: DivisionRoutine) -> &'static str
     ensures { result.now ≡ text.routine_word routine }
 {
     match routine {
-        Routine::Divq => "__divq",
-        Routine::Remq => "__remq",
-        Routine::Divqu => "__divqu",
-        Routine::Remqu => "__remqu",
-        Routine::Divl => "__divl",
-        Routine::Reml => "__reml",
-        Routine::Divlu => "__divlu",
-        Routine::Remlu => "__remlu",
+        DivisionRoutine::Divq => "__divq",
+        DivisionRoutine::Remq => "__remq",
+        DivisionRoutine::Divqu => "__divqu",
+        DivisionRoutine::Remqu => "__remqu",
+        DivisionRoutine::Divl => "__divl",
+        DivisionRoutine::Reml => "__reml",
+        DivisionRoutine::Divlu => "__divlu",
+        DivisionRoutine::Remlu => "__remlu",
     }
 }
 

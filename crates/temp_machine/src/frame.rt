@@ -7,7 +7,7 @@ use temp_ir::insn::TempInsn;
 
 /// What holds something in a call.
 #[derive(Clone, Copy, Debug, PartialEq, Eq)]
-pub enum Place {
+pub enum CallPlace {
     Register(u8),
     /// A temporary, or its slot.
     Temp(u32),
@@ -16,18 +16,18 @@ pub enum Place {
 }
 
 /// What a place holds: a word, or nothing.
-pub type Content = Option<u64>;
+pub type CallContent = Option<u64>;
 
 /// A place and what it holds.
 #[derive(Clone, Copy, Debug)]
 pub struct Held {
-    place: Place,
-    content: Content,
+    place: CallPlace,
+    content: CallContent,
 }
 
 /// A call: where it stands, and what its places hold.
 #[derive(Drop)]
-pub struct Frame {
+pub struct CallFrame {
     pub function: u32,
     pub block: u32,
     pub at: u32,
@@ -43,10 +43,10 @@ fn is_ended_by_call(register: u8) -> bool {
     register <= 8 || (register >= 16 && register <= 29)
 }
 
-impl Frame {
+impl CallFrame {
     /// A call of a function at its entry, whose objects begin at a place and are not yet made.
-    pub fn new(alloc: Global, function: u32, base: u64) -> Frame {
-        Frame {
+    pub fn new(alloc: Global, function: u32, base: u64) -> CallFrame {
+        CallFrame {
             function,
             block: 0,
             at: 0,
@@ -57,7 +57,7 @@ impl Frame {
     }
 
     /// What a place holds.
-    pub fn get(&self, place: Place) -> Content {
+    pub fn get(&self, place: CallPlace) -> CallContent {
         for held in &self.held {
             if held.place == place {
                 return held.content;
@@ -67,7 +67,7 @@ impl Frame {
     }
 
     /// A place holds something from now on.
-    pub fn put(&mut self, place: Place, content: Content) -> Result<()> {
+    pub fn put(&mut self, place: CallPlace, content: CallContent) -> Result<()> {
         for held in &mut self.held {
             if held.place == place {
                 held.content = content;
@@ -81,9 +81,12 @@ impl Frame {
     /// Copies what a transfer says.
     pub fn move_by(&mut self, transfer: Transfer) -> Result<()> {
         let (from, to) = match transfer {
-            Transfer::Store { temp, reg } => (Place::Register(reg), Place::Temp(temp)),
-            Transfer::Load { temp, reg } => (Place::Temp(temp), Place::Register(reg)),
-            Transfer::Shift { from, to, .. } => (Place::Register(from), Place::Register(to)),
+            Transfer::Store { temp, reg } => (CallPlace::Register(reg), CallPlace::Temp(temp)),
+            Transfer::Load { temp, reg } => (CallPlace::Temp(temp), CallPlace::Register(reg)),
+            Transfer::Shift { from, to, .. } => (
+                CallPlace::Register(from),
+                CallPlace::Register(to),
+            ),
         };
         let content = self.get(from);
         self.put(to, content)
@@ -93,11 +96,11 @@ impl Frame {
     pub fn end(&mut self, insn: &TempInsn, is_placed: bool) {
         for held in &mut self.held {
             let is_lost = match (insn, held.place) {
-                (TempInsn::Call { .. }, Place::Outgoing(_)) => true,
-                (TempInsn::Call { .. }, Place::Register(register)) => {
+                (TempInsn::Call { .. }, CallPlace::Outgoing(_)) => true,
+                (TempInsn::Call { .. }, CallPlace::Register(register)) => {
                     is_placed && is_ended_by_call(register)
                 }
-                (TempInsn::Divide { .. }, Place::Register(register)) => {
+                (TempInsn::Divide { .. }, CallPlace::Register(register)) => {
                     is_placed && (register == 23 || register == 27 || register == 28)
                 }
                 _ => false,

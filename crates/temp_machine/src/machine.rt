@@ -1,16 +1,16 @@
 //! Runs of programs, instruction by instruction.
 
 use crate::flat::Flat;
-use crate::frame::{Content, Frame, Place};
+use crate::frame::{CallContent, CallFrame, CallPlace};
 use crate::memory::{Memory, UNWRITTEN};
-use crate::operation::{Outcome, divide, extend, low, operate, passes};
+use crate::operation::{OperationOutcome, divide, extend, low, operate, passes};
 use alloc_model::allocation::Allocation;
 use anyhow::{Context, Result, bail};
-use data_object::{Cell, DataObject};
+use data_object::{DataCell, DataObject};
 use pass_core::Insn;
 use std::alloc::Global;
 use suifvm_ir::insn as vm;
-use temp_ir::insn::{FixedRegister, Operand, Source, TempInsn};
+use temp_ir::insn::{FirstOperand, FixedRegister, SecondOperand, TempInsn};
 use temp_ir::operation::{AddressOp, LoadOp, Service, StoreOp};
 
 /// The most instructions of a run.
@@ -18,7 +18,7 @@ const MOST: u32 = 1_000_000;
 
 /// How a run ends.
 #[derive(Clone, Copy, Debug)]
-pub enum Ending {
+pub enum TempEnding {
     Done(u64),
     Trap(u64),
     Undefined,
@@ -33,12 +33,12 @@ enum Act {
     Jump(u32),
     Call { function: u32, arguments: u32 },
     Return { with_value: bool },
-    Stop(Ending),
+    Stop(TempEnding),
 }
 
 /// A run of the functions of some allocations.
 #[derive(Drop)]
-pub struct Machine<'a> {
+pub struct TempMachine<'a> {
     alloc: Global,
     functions: &'a [Allocation],
     code: Vec<Flat>,
@@ -51,19 +51,19 @@ pub struct Machine<'a> {
     memory: Memory,
     /// The places of the objects of static storage.
     globals: Vec<u64>,
-    callers: Vec<Frame>,
-    frame: Frame,
+    callers: Vec<CallFrame>,
+    frame: CallFrame,
 }
 
 /// The place of the argument with a number, where it is given and where it is found.
-fn argument_place(number: u32, is_given: bool) -> Place {
+fn argument_place(number: u32, is_given: bool) -> CallPlace {
     if number < 6 {
-        return Place::Register((16 + number) as u8);
+        return CallPlace::Register((16 + number) as u8);
     }
     if is_given {
-        Place::Outgoing(number - 6)
+        CallPlace::Outgoing(number - 6)
     } else {
-        Place::Incoming(number - 6)
+        CallPlace::Incoming(number - 6)
     }
 }
 
@@ -89,10 +89,10 @@ fn place_globals(alloc: Global, memory: &mut Memory, globals: &[DataObject]) -> 
 }
 
 /// The byte that a cell of an object of static storage is.
-fn byte_of(places: &[u64], cell: Cell) -> Result<u64> {
+fn byte_of(places: &[u64], cell: DataCell) -> Result<u64> {
     match cell {
-        Cell::Byte(byte) => Ok(u64::from(byte)),
-        Cell::AddressPart { global, plus, part } => {
+        DataCell::Byte(byte) => Ok(u64::from(byte)),
+        DataCell::AddressPart { global, plus, part } => {
             let place = places
                 .get(global as usize)
                 .copied()
@@ -148,7 +148,7 @@ fn moved(word: u64, plus: i16) -> u64 {
     word.wrapping_add(i64::from(plus).cast_unsigned())
 }
 
-impl<'a> Machine<'a> {
+impl<'a> TempMachine<'a> {
     /// A run from `main` of some functions, or from the first of them where none has that name, with some objects of
     /// static storage, that takes so many turns.
     pub fn new(
@@ -158,7 +158,7 @@ impl<'a> Machine<'a> {
         is_placed: bool,
         input: Vec<u8>,
         turns: u64,
-    ) -> Result<Machine<'a>> {
+    ) -> Result<TempMachine<'a>> {
         let mut memory = Memory::new(alloc);
         let places = place_globals(alloc, &mut memory, globals)?;
         fill_globals(&mut memory, places.as_slice(), globals)?;
@@ -167,7 +167,7 @@ impl<'a> Machine<'a> {
         for function in functions {
             code.push(Flat::of(alloc, &function.func)?)?;
         }
-        let mut machine = Machine {
+        let mut machine = TempMachine {
             alloc,
             functions,
             code,
@@ -179,7 +179,7 @@ impl<'a> Machine<'a> {
             memory,
             globals: places,
             callers: Vec::new(alloc),
-            frame: Frame::new(alloc, main_of(functions), base),
+            frame: CallFrame::new(alloc, main_of(functions), base),
         };
         machine.begin_objects()?;
         Ok(machine)
@@ -250,9 +250,9 @@ impl<'a> Machine<'a> {
     }
 
     /// Where the temporary stands that an instruction reads or writes as one with a number.
-    fn place_of(&self, number: usize, k: usize, temp: u32) -> Result<Place> {
+    fn place_of(&self, number: usize, k: usize, temp: u32) -> Result<CallPlace> {
         if !self.is_placed {
-            return Ok(Place::Temp(temp));
+            return Ok(CallPlace::Temp(temp));
         }
         let registers = self
             .function()?
@@ -264,11 +264,11 @@ impl<'a> Machine<'a> {
             .as_slice()
             .get(k)
             .context("a register is missing")?;
-        Ok(Place::Register(*register))
+        Ok(CallPlace::Register(*register))
     }
 
     /// What the temporary holds that an instruction reads as one with a number, if it reads so many.
-    fn read(&self, number: usize, insn: &TempInsn, k: u32) -> Result<Content> {
+    fn read(&self, number: usize, insn: &TempInsn, k: u32) -> Result<CallContent> {
         match insn.read_at(k) {
             None => Ok(None),
             Some(temp) => Ok(self.frame.get(self.place_of(number, k as usize, temp)?)),
@@ -276,10 +276,10 @@ impl<'a> Machine<'a> {
     }
 
     /// What a first operand is.
-    fn left(&self, number: usize, insn: &TempInsn, source: Source) -> Result<Content> {
+    fn left(&self, number: usize, insn: &TempInsn, source: FirstOperand) -> Result<CallContent> {
         match source {
-            Source::Zero => Ok(Some(0)),
-            Source::Temp(_) => self.read(number, insn, 0),
+            FirstOperand::Zero => Ok(Some(0)),
+            FirstOperand::Temp(_) => self.read(number, insn, 0),
         }
     }
 
@@ -288,25 +288,25 @@ impl<'a> Machine<'a> {
         &self,
         number: usize,
         insn: &TempInsn,
-        left: Source,
-        operand: Operand,
-    ) -> Result<Content> {
+        left: FirstOperand,
+        operand: SecondOperand,
+    ) -> Result<CallContent> {
         match (operand, left) {
-            (Operand::Literal(word), _) => Ok(Some(u64::from(word))),
-            (Operand::Temp(_), Source::Zero) => self.read(number, insn, 0),
-            (Operand::Temp(_), Source::Temp(_)) => self.read(number, insn, 1),
+            (SecondOperand::Literal(word), _) => Ok(Some(u64::from(word))),
+            (SecondOperand::Temp(_), FirstOperand::Zero) => self.read(number, insn, 0),
+            (SecondOperand::Temp(_), FirstOperand::Temp(_)) => self.read(number, insn, 1),
         }
     }
 
     /// What a register holds.
-    fn register(&self, register: FixedRegister) -> Content {
-        self.frame.get(Place::Register(register.number()))
+    fn register(&self, register: FixedRegister) -> CallContent {
+        self.frame.get(CallPlace::Register(register.number()))
     }
 }
 
-impl Machine<'_> {
+impl TempMachine<'_> {
     /// Writes what an instruction comes to into the temporary that it writes.
-    fn write(&mut self, number: usize, insn: &TempInsn, content: Content) -> Result<()> {
+    fn write(&mut self, number: usize, insn: &TempInsn, content: CallContent) -> Result<()> {
         let mut reads = 0_usize;
         for k in 0..3 {
             if insn.read_at(k).is_some() {
@@ -319,19 +319,24 @@ impl Machine<'_> {
     }
 
     /// Writes a word, or what else comes of a computation.
-    fn give(&mut self, number: usize, insn: &TempInsn, word: Content) -> Result<Act> {
+    fn give(&mut self, number: usize, insn: &TempInsn, word: CallContent) -> Result<Act> {
         if word.is_none() {
-            return Ok(Act::Stop(Ending::Undefined));
+            return Ok(Act::Stop(TempEnding::Undefined));
         }
         self.write(number, insn, word)?;
         Ok(Act::Next)
     }
 
     /// Writes what comes of an operation.
-    fn give_outcome(&mut self, number: usize, insn: &TempInsn, outcome: Outcome) -> Result<Act> {
+    fn give_outcome(
+        &mut self,
+        number: usize,
+        insn: &TempInsn,
+        outcome: OperationOutcome,
+    ) -> Result<Act> {
         match outcome {
-            Outcome::Word(word) => self.give(number, insn, Some(word)),
-            Outcome::Trap(code) => Ok(Act::Stop(Ending::Trap(code))),
+            OperationOutcome::Word(word) => self.give(number, insn, Some(word)),
+            OperationOutcome::Trap(code) => Ok(Act::Stop(TempEnding::Trap(code))),
         }
     }
 
@@ -349,7 +354,7 @@ impl Machine<'_> {
         let asked = self.register(FixedRegister::Value);
         let argument = self.register(FixedRegister::Argument0);
         match (service, asked, argument) {
-            (Service::End, Some(1), Some(word)) => Ok(Act::Stop(Ending::Done(word % 256))),
+            (Service::End, Some(1), Some(word)) => Ok(Act::Stop(TempEnding::Done(word % 256))),
             (Service::PutByte, Some(2), Some(word)) => {
                 self.output.push((word % 256) as u8)?;
                 Ok(Act::Next)
@@ -360,11 +365,11 @@ impl Machine<'_> {
                     Some(byte) => u64::from(*byte),
                 };
                 self.taken = self.taken.saturating_add(1);
-                self.frame.put(Place::Register(0), Some(word))?;
+                self.frame.put(CallPlace::Register(0), Some(word))?;
                 Ok(Act::Next)
             }
-            (Service::Trap, _, Some(word)) => Ok(Act::Stop(Ending::Trap(word))),
-            _ => Ok(Act::Stop(Ending::Undefined)),
+            (Service::Trap, _, Some(word)) => Ok(Act::Stop(TempEnding::Trap(word))),
+            _ => Ok(Act::Stop(TempEnding::Undefined)),
         }
     }
 
@@ -378,23 +383,23 @@ impl Machine<'_> {
             self.register(FixedRegister::Divisor),
         );
         let (Some(a), Some(b)) = operands else {
-            return Ok(Act::Stop(Ending::Undefined));
+            return Ok(Act::Stop(TempEnding::Undefined));
         };
         match divide(*routine, a, b)? {
-            Outcome::Trap(code) => Ok(Act::Stop(Ending::Trap(code))),
-            Outcome::Word(word) => {
+            OperationOutcome::Trap(code) => Ok(Act::Stop(TempEnding::Trap(code))),
+            OperationOutcome::Word(word) => {
                 self.frame.end(insn, self.is_placed);
-                self.frame.put(Place::Register(27), Some(word))?;
+                self.frame.put(CallPlace::Register(27), Some(word))?;
                 Ok(Act::Next)
             }
         }
     }
 
     /// The address of an object, moved by so many bytes.
-    fn object_address(&self, place: vm::Place, plus: u64) -> Result<u64> {
+    fn object_address(&self, place: vm::VmObject, plus: u64) -> Result<u64> {
         let found = match place {
-            vm::Place::Global(k) => self.globals.get(k as usize),
-            vm::Place::Local(k) => self.frame.objects.get(k as usize),
+            vm::VmObject::Global(k) => self.globals.get(k as usize),
+            vm::VmObject::Local(k) => self.frame.objects.get(k as usize),
         };
         Ok(found.copied().context("no such object")?.wrapping_add(plus))
     }
@@ -426,15 +431,15 @@ impl Machine<'_> {
         };
         let word = self.left(number, insn, *value)?;
         let pointer = match value {
-            Source::Zero => self.read(number, insn, 0)?,
-            Source::Temp(_) => self.read(number, insn, 1)?,
+            FirstOperand::Zero => self.read(number, insn, 0)?,
+            FirstOperand::Temp(_) => self.read(number, insn, 1)?,
         };
         let (Some(word), Some(pointer)) = (word, pointer) else {
-            return Ok(Act::Stop(Ending::Undefined));
+            return Ok(Act::Stop(TempEnding::Undefined));
         };
         let place = moved(pointer, *plus);
         match self.memory.store(place, store_width(*op), word) {
-            None => Ok(Act::Stop(Ending::Undefined)),
+            None => Ok(Act::Stop(TempEnding::Undefined)),
             Some(()) => Ok(Act::Next),
         }
     }
@@ -473,18 +478,18 @@ impl Machine<'_> {
                 let a = self.left(number, insn, *left)?;
                 let b = self.right(number, insn, *left, *right)?;
                 let (Some(a), Some(b)) = (a, b) else {
-                    return Ok(Act::Stop(Ending::Undefined));
+                    return Ok(Act::Stop(TempEnding::Undefined));
                 };
                 let outcome = operate(*op, a, b)?;
                 self.give_outcome(number, insn, outcome)
             }
             TempInsn::Extend { op, source, .. } => {
-                let word = self.right(number, insn, Source::Zero, *source)?;
+                let word = self.right(number, insn, FirstOperand::Zero, *source)?;
                 let wide = word.map(|word| extend(*op, word));
                 self.give(number, insn, wide)
             }
             TempInsn::Branch { op, block, .. } => match self.read(number, insn, 0)? {
-                None => Ok(Act::Stop(Ending::Undefined)),
+                None => Ok(Act::Stop(TempEnding::Undefined)),
                 Some(word) if passes(*op, word) => Ok(Act::Jump(*block)),
                 Some(_) => Ok(Act::Next),
             },
@@ -497,7 +502,8 @@ impl Machine<'_> {
         match insn {
             TempInsn::ToFixed { register, .. } => {
                 let content = self.read(number, insn, 0)?;
-                self.frame.put(Place::Register(register.number()), content)?;
+                self.frame
+                    .put(CallPlace::Register(register.number()), content)?;
                 Ok(Act::Next)
             }
             TempInsn::FromFixed { register, .. } => {
@@ -511,19 +517,19 @@ impl Machine<'_> {
             } => {
                 let word = i64::from(*set).cast_unsigned();
                 self.frame
-                    .put(Place::Register(register.number()), Some(word))?;
+                    .put(CallPlace::Register(register.number()), Some(word))?;
                 Ok(Act::Next)
             }
             TempInsn::WriteArgument { number: place, .. } => {
                 if u64::from(*place) + 6 >= u64::from(self.flat()?.widest) {
-                    return Ok(Act::Stop(Ending::Undefined));
+                    return Ok(Act::Stop(TempEnding::Undefined));
                 }
                 let content = self.read(number, insn, 0)?;
-                self.frame.put(Place::Outgoing(*place), content)?;
+                self.frame.put(CallPlace::Outgoing(*place), content)?;
                 Ok(Act::Next)
             }
             TempInsn::ReadArgument { number: place, .. } => {
-                let content = self.frame.get(Place::Incoming(*place));
+                let content = self.frame.get(CallPlace::Incoming(*place));
                 self.give(number, insn, content)
             }
             _ => self.compute(number, insn),
@@ -553,7 +559,7 @@ impl Machine<'_> {
 
     /// Calls a function.
     fn call(&mut self, function: u32, arguments: u32) -> Result<()> {
-        let mut frame = Frame::new(self.alloc, function, self.memory.end());
+        let mut frame = CallFrame::new(self.alloc, function, self.memory.end());
         for number in 0..arguments {
             let content = self.frame.get(argument_place(number, true));
             frame.put(argument_place(number, false), content)?;
@@ -564,15 +570,15 @@ impl Machine<'_> {
     }
 
     /// Ends a call, and the run where it was the first one.
-    fn leave(&mut self, with_value: bool) -> Result<Option<Ending>> {
+    fn leave(&mut self, with_value: bool) -> Result<Option<TempEnding>> {
         let value = match with_value {
             true => self.register(FixedRegister::Value),
             false => None,
         };
         let Some(caller) = self.callers.pop() else {
             let ending = match value {
-                None => Ending::Undefined,
-                Some(word) => Ending::Done(word % 256),
+                None => TempEnding::Undefined,
+                Some(word) => TempEnding::Done(word % 256),
             };
             return Ok(Some(ending));
         };
@@ -580,13 +586,13 @@ impl Machine<'_> {
         self.frame = caller;
         let call = self.insn()?.context("no call waits")?;
         self.frame.end(&call, self.is_placed);
-        self.frame.put(Place::Register(0), value)?;
+        self.frame.put(CallPlace::Register(0), value)?;
         self.frame.at = self.frame.at.wrapping_add(1);
         Ok(None)
     }
 
     /// Goes on with what came of an instruction.
-    fn follow(&mut self, act: Act) -> Result<Option<Ending>> {
+    fn follow(&mut self, act: Act) -> Result<Option<TempEnding>> {
         match act {
             Act::Next => self.frame.at = self.frame.at.wrapping_add(1),
             Act::Jump(block) => self.go_to(block)?,
@@ -601,7 +607,7 @@ impl Machine<'_> {
     }
 
     /// Does one instruction, or goes to the next block.
-    fn step(&mut self) -> Result<Option<Ending>> {
+    fn step(&mut self) -> Result<Option<TempEnding>> {
         let Some(insn) = self.insn()? else {
             let next = self.frame.block.wrapping_add(1);
             self.go_to(next)?;
@@ -612,7 +618,7 @@ impl Machine<'_> {
             TempInsn::Call { .. } | TempInsn::Serve { .. } | TempInsn::Mark
         );
         if takes_turn && !self.take_turn() {
-            return Ok(Some(Ending::More));
+            return Ok(Some(TempEnding::More));
         }
         let number = self.number()?;
         if self.is_placed {
@@ -623,7 +629,7 @@ impl Machine<'_> {
     }
 
     /// Runs to the end.
-    pub fn run(&mut self) -> Result<Ending> {
+    pub fn run(&mut self) -> Result<TempEnding> {
         for _ in 0..MOST {
             if let Some(ending) = self.step()? {
                 return Ok(ending);

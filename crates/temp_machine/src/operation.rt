@@ -1,25 +1,25 @@
 //! What operations do with words.
 
 use anyhow::{Result, bail};
-use temp_ir::operation::{BranchOp, ExtendOp, Operation, Routine};
+use temp_ir::operation::{DivisionRoutine, ExtendOp, Operation, TempBranchOp};
 
 /// What comes of an operation on words.
 #[derive(Clone, Copy, Debug)]
-pub enum Outcome {
+pub enum OperationOutcome {
     Word(u64),
     Trap(u64),
 }
 
 /// A truth value as a word.
-fn truth(holds: bool) -> Outcome {
-    Outcome::Word(u64::from(holds))
+fn truth(holds: bool) -> OperationOutcome {
+    OperationOutcome::Word(u64::from(holds))
 }
 
 /// A signed number that has to fit in 64 bits.
-fn checked(number: Option<i64>) -> Outcome {
+fn checked(number: Option<i64>) -> OperationOutcome {
     match number {
-        None => Outcome::Trap(3),
-        Some(number) => Outcome::Word(number.cast_unsigned()),
+        None => OperationOutcome::Trap(3),
+        Some(number) => OperationOutcome::Word(number.cast_unsigned()),
     }
 }
 
@@ -34,10 +34,10 @@ fn extended(word: u64) -> u64 {
 }
 
 /// A signed number that has to fit in 32 bits.
-fn checked_low(number: Option<i32>) -> Outcome {
+fn checked_low(number: Option<i32>) -> OperationOutcome {
     match number {
-        None => Outcome::Trap(3),
-        Some(number) => Outcome::Word(i64::from(number).cast_unsigned()),
+        None => OperationOutcome::Trap(3),
+        Some(number) => OperationOutcome::Word(i64::from(number).cast_unsigned()),
     }
 }
 
@@ -53,23 +53,23 @@ fn kept(word: u64, bytes: u64) -> u64 {
 }
 
 /// An operation on two words, if it is one that the rows have.
-pub fn operate(op: Operation, a: u64, b: u64) -> Result<Outcome> {
+pub fn operate(op: Operation, a: u64, b: u64) -> Result<OperationOutcome> {
     let (x, y) = (a.cast_signed(), b.cast_signed());
     let outcome = match op {
-        Operation::Addl => Outcome::Word(extended(a.wrapping_add(b))),
-        Operation::Subl => Outcome::Word(extended(a.wrapping_sub(b))),
-        Operation::Mull => Outcome::Word(extended(a.wrapping_mul(b))),
+        Operation::Addl => OperationOutcome::Word(extended(a.wrapping_add(b))),
+        Operation::Subl => OperationOutcome::Word(extended(a.wrapping_sub(b))),
+        Operation::Mull => OperationOutcome::Word(extended(a.wrapping_mul(b))),
         Operation::AddlV => checked_low(low(a).checked_add(low(b))),
         Operation::SublV => checked_low(low(a).checked_sub(low(b))),
         Operation::MullV => checked_low(low(a).checked_mul(low(b))),
-        Operation::Ornot => Outcome::Word(a | !b),
-        Operation::Zapnot => Outcome::Word(kept(a, b)),
-        Operation::Srl => Outcome::Word(a >> (b & 63)),
-        Operation::Sll => Outcome::Word(a << (b & 63)),
-        Operation::Sra => Outcome::Word((x >> (b & 63)).cast_unsigned()),
-        Operation::Addq => Outcome::Word(a.wrapping_add(b)),
-        Operation::Subq => Outcome::Word(a.wrapping_sub(b)),
-        Operation::Mulq => Outcome::Word(a.wrapping_mul(b)),
+        Operation::Ornot => OperationOutcome::Word(a | !b),
+        Operation::Zapnot => OperationOutcome::Word(kept(a, b)),
+        Operation::Srl => OperationOutcome::Word(a >> (b & 63)),
+        Operation::Sll => OperationOutcome::Word(a << (b & 63)),
+        Operation::Sra => OperationOutcome::Word((x >> (b & 63)).cast_unsigned()),
+        Operation::Addq => OperationOutcome::Word(a.wrapping_add(b)),
+        Operation::Subq => OperationOutcome::Word(a.wrapping_sub(b)),
+        Operation::Mulq => OperationOutcome::Word(a.wrapping_mul(b)),
         Operation::AddqV => checked(x.checked_add(y)),
         Operation::SubqV => checked(x.checked_sub(y)),
         Operation::MulqV => checked(x.checked_mul(y)),
@@ -78,10 +78,10 @@ pub fn operate(op: Operation, a: u64, b: u64) -> Result<Outcome> {
         Operation::Cmple => truth(x <= y),
         Operation::Cmpult => truth(a < b),
         Operation::Cmpule => truth(a <= b),
-        Operation::And => Outcome::Word(a & b),
-        Operation::Bic => Outcome::Word(a & !b),
-        Operation::Bis => Outcome::Word(a | b),
-        Operation::Xor => Outcome::Word(a ^ b),
+        Operation::And => OperationOutcome::Word(a & b),
+        Operation::Bic => OperationOutcome::Word(a & !b),
+        Operation::Bis => OperationOutcome::Word(a | b),
+        Operation::Xor => OperationOutcome::Word(a ^ b),
         _ => bail!("the rows have no {op:?}"),
     };
     Ok(outcome)
@@ -96,37 +96,37 @@ pub fn extend(op: ExtendOp, word: u64) -> u64 {
 }
 
 /// What a division routine answers.
-pub fn divide(routine: Routine, a: u64, b: u64) -> Result<Outcome> {
+pub fn divide(routine: DivisionRoutine, a: u64, b: u64) -> Result<OperationOutcome> {
     if b == 0 {
-        return Ok(Outcome::Trap(1));
+        return Ok(OperationOutcome::Trap(1));
     }
     match routine {
-        Routine::Divqu => Ok(Outcome::Word(a / b)),
-        Routine::Remqu => Ok(Outcome::Word(a % b)),
-        Routine::Divq => Ok(checked(a.cast_signed().checked_div(b.cast_signed()))),
-        Routine::Remq => Ok(checked(a.cast_signed().checked_rem(b.cast_signed()))),
-        Routine::Divl => Ok(checked_low(low(a).checked_div(low(b)))),
-        Routine::Reml => Ok(checked_low(low(a).checked_rem(low(b)))),
-        Routine::Divlu => Ok(Outcome::Word(extended(
+        DivisionRoutine::Divqu => Ok(OperationOutcome::Word(a / b)),
+        DivisionRoutine::Remqu => Ok(OperationOutcome::Word(a % b)),
+        DivisionRoutine::Divq => Ok(checked(a.cast_signed().checked_div(b.cast_signed()))),
+        DivisionRoutine::Remq => Ok(checked(a.cast_signed().checked_rem(b.cast_signed()))),
+        DivisionRoutine::Divl => Ok(checked_low(low(a).checked_div(low(b)))),
+        DivisionRoutine::Reml => Ok(checked_low(low(a).checked_rem(low(b)))),
+        DivisionRoutine::Divlu => Ok(OperationOutcome::Word(extended(
             (a & 0xffff_ffff).checked_div(b & 0xffff_ffff).unwrap_or(0),
         ))),
-        Routine::Remlu => Ok(Outcome::Word(extended(
+        DivisionRoutine::Remlu => Ok(OperationOutcome::Word(extended(
             (a & 0xffff_ffff).checked_rem(b & 0xffff_ffff).unwrap_or(0),
         ))),
     }
 }
 
 /// Whether a word passes the test of a branch.
-pub fn passes(op: BranchOp, word: u64) -> bool {
+pub fn passes(op: TempBranchOp, word: u64) -> bool {
     let number = word.cast_signed();
     match op {
-        BranchOp::Blbc => word % 2 == 0,
-        BranchOp::Beq => number == 0,
-        BranchOp::Blt => number < 0,
-        BranchOp::Ble => number <= 0,
-        BranchOp::Blbs => word % 2 == 1,
-        BranchOp::Bne => number != 0,
-        BranchOp::Bge => number >= 0,
-        BranchOp::Bgt => number > 0,
+        TempBranchOp::Blbc => word % 2 == 0,
+        TempBranchOp::Beq => number == 0,
+        TempBranchOp::Blt => number < 0,
+        TempBranchOp::Ble => number <= 0,
+        TempBranchOp::Blbs => word % 2 == 1,
+        TempBranchOp::Bne => number != 0,
+        TempBranchOp::Bge => number >= 0,
+        TempBranchOp::Bgt => number > 0,
     }
 }

@@ -3,11 +3,11 @@
 use alloc_rules::scan::no_needs;
 use anyhow::Result;
 use std::alloc::Global;
-use temp_texts::reader::Reader;
+use temp_texts::reader::TempReader;
 
 /// A line for each block, with the least temporary in need of it, if there is one.
 pub fn answer(alloc: Global, given: &str) -> Result<Vec<u8>> {
-    let reader = Reader::of(alloc, given)?;
+    let reader = TempReader::of(alloc, given)?;
     let mut shown = Vec::new(alloc);
     for function in &reader.functions {
         let needs = no_needs(alloc, function)?;

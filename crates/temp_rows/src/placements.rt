@@ -8,7 +8,7 @@ use std::alloc::Global;
 use suifvm_ir::function::Func;
 use temp_checks::is_settled;
 use temp_ir::insn::TempInsn;
-use temp_texts::reader::Reader;
+use temp_texts::reader::TempReader;
 
 /// The plainest allocation of a function.
 pub fn plain_of(alloc: Global, f: &Func<TempInsn>) -> Result<Allocation> {
@@ -20,7 +20,7 @@ pub fn plain_of(alloc: Global, f: &Func<TempInsn>) -> Result<Allocation> {
 
 /// The text of the plainest allocation of each function, or that one is not settled.
 pub fn answer(alloc: Global, given: &str) -> Result<Vec<u8>> {
-    let reader = Reader::of(alloc, given)?;
+    let reader = TempReader::of(alloc, given)?;
     let mut text = Vec::new(alloc);
     for function in &reader.functions {
         if is_settled(alloc, function)? {

@@ -6,8 +6,8 @@ use anyhow::{Result, ensure};
 use row_sheets::escape::unescape;
 use row_sheets::number::number;
 use std::alloc::Global;
-use temp_machine::machine::Machine;
-use temp_texts::reader::{Placement, Reader, allocation};
+use temp_machine::machine::TempMachine;
+use temp_texts::reader::{Placement, TempReader, allocation};
 
 /// What a row says of a run besides its program.
 #[derive(Drop)]
@@ -42,7 +42,7 @@ fn put_run(
     given: &str,
 ) -> Result<()> {
     let outside = outside_of(alloc, given)?;
-    let mut machine = Machine::new(
+    let mut machine = TempMachine::new(
         alloc,
         functions,
         &[],
@@ -63,11 +63,11 @@ fn put_run(
 
 /// How a program runs over temporaries, over the slots of `plain`, and, where the row has a placement, over that.
 pub fn answer(alloc: Global, given: &str) -> Result<Vec<u8>> {
-    let Reader {
+    let TempReader {
         functions,
         placements,
         ..
-    } = Reader::of(alloc, given)?;
+    } = TempReader::of(alloc, given)?;
     let mut plain = Vec::new(alloc);
     for function in &functions {
         plain.push(plain_of(alloc, function)?)?;

@@ -4,8 +4,8 @@ use crate::words::{branch, extend, fixed, load, operation, routine, store};
 use anyhow::{Context, Result, bail};
 use row_sheets::number::{number, offset};
 use std::alloc::Global;
-use suifvm_ir::insn::Place;
-use temp_ir::insn::{FixedRegister, Operand, Source, TempInsn};
+use suifvm_ir::insn::VmObject;
+use temp_ir::insn::{FirstOperand, FixedRegister, SecondOperand, TempInsn};
 use temp_ir::operation::{AddressOp, Service};
 
 /// What the text of an instruction does not say.
@@ -31,18 +31,18 @@ fn temp(text: &str) -> Result<u32> {
 }
 
 /// A first operand.
-fn source(text: &str) -> Result<Source> {
+fn source(text: &str) -> Result<FirstOperand> {
     match text {
-        "$31" => Ok(Source::Zero),
-        _ => Ok(Source::Temp(temp(text)?)),
+        "$31" => Ok(FirstOperand::Zero),
+        _ => Ok(FirstOperand::Temp(temp(text)?)),
     }
 }
 
 /// A second operand.
-fn operand(text: &str) -> Result<Operand> {
+fn operand(text: &str) -> Result<SecondOperand> {
     match temp(text) {
-        Ok(temp) => Ok(Operand::Temp(temp)),
-        Err(_) => Ok(Operand::Literal(u8::try_from(number(text)?)?)),
+        Ok(temp) => Ok(SecondOperand::Temp(temp)),
+        Err(_) => Ok(SecondOperand::Literal(u8::try_from(number(text)?)?)),
     }
 }
 
@@ -61,8 +61,8 @@ fn part<'a>(parts: &[&'a str], at: usize) -> Result<&'a str> {
 /// The address of an object.
 fn object(destination: u32, name: &str, plus: &str) -> Result<TempInsn> {
     let place = match behind(name, "g") {
-        Ok(global) => Place::Global(global),
-        Err(_) => Place::Local(behind(name, "m")?),
+        Ok(global) => VmObject::Global(global),
+        Err(_) => VmObject::Local(behind(name, "m")?),
     };
     Ok(TempInsn::ObjectAddress {
         destination,

@@ -7,7 +7,7 @@ use c_tree::{Name, Seq};
 use function_checks::{Parts, function_of};
 use row_sheets::number::{number, numbers};
 use std::alloc::{AllocError, Global};
-use suifvm_ir::function::{Func, Object};
+use suifvm_ir::function::{Func, MemoryLocal};
 use temp_ir::insn::TempInsn;
 use temp_ir::text_parts::put_insn;
 
@@ -23,7 +23,7 @@ pub struct Placement {
 
 /// What was read.
 #[derive(Drop)]
-pub struct Reader {
+pub struct TempReader {
     alloc: Global,
     around: Around,
     pub functions: Vec<Func<TempInsn>>,
@@ -116,10 +116,10 @@ pub fn allocation(alloc: Global, f: &Func<TempInsn>, placement: Placement) -> Re
     })
 }
 
-impl Reader {
+impl TempReader {
     /// What stands in a text.
-    pub fn of(alloc: Global, given: &str) -> Result<Reader> {
-        let mut reader = Reader {
+    pub fn of(alloc: Global, given: &str) -> Result<TempReader> {
+        let mut reader = TempReader {
             alloc,
             around: Around {
                 params: params_of(alloc, given)?,
@@ -229,7 +229,7 @@ impl Reader {
         let sizes = numbers(alloc, rest)?;
         let parts = self.parts()?;
         for size in &sizes {
-            parts.objects.push(Object {
+            parts.objects.push(MemoryLocal {
                 size: *size,
                 align: 8,
             })?;

@@ -1,7 +1,7 @@
 //! The words of instructions.
 
 use temp_ir::insn::FixedRegister;
-use temp_ir::operation::{BranchOp, ExtendOp, LoadOp, Operation, Routine, StoreOp};
+use temp_ir::operation::{DivisionRoutine, ExtendOp, LoadOp, Operation, StoreOp, TempBranchOp};
 
 /// A load, if it is one.
 pub fn load(word: &str) -> Option<LoadOp> {
@@ -26,16 +26,16 @@ pub fn store(word: &str) -> Option<StoreOp> {
 }
 
 /// A branch, if it is one.
-pub fn branch(word: &str) -> Option<BranchOp> {
+pub fn branch(word: &str) -> Option<TempBranchOp> {
     match word {
-        "blbc" => Some(BranchOp::Blbc),
-        "beq" => Some(BranchOp::Beq),
-        "blt" => Some(BranchOp::Blt),
-        "ble" => Some(BranchOp::Ble),
-        "blbs" => Some(BranchOp::Blbs),
-        "bne" => Some(BranchOp::Bne),
-        "bge" => Some(BranchOp::Bge),
-        "bgt" => Some(BranchOp::Bgt),
+        "blbc" => Some(TempBranchOp::Blbc),
+        "beq" => Some(TempBranchOp::Beq),
+        "blt" => Some(TempBranchOp::Blt),
+        "ble" => Some(TempBranchOp::Ble),
+        "blbs" => Some(TempBranchOp::Blbs),
+        "bne" => Some(TempBranchOp::Bne),
+        "bge" => Some(TempBranchOp::Bge),
+        "bgt" => Some(TempBranchOp::Bgt),
         _ => None,
     }
 }
@@ -83,16 +83,16 @@ pub fn operation(word: &str) -> Option<Operation> {
 }
 
 /// A division routine, if it is one.
-pub fn routine(word: &str) -> Option<Routine> {
+pub fn routine(word: &str) -> Option<DivisionRoutine> {
     match word {
-        "__divq" => Some(Routine::Divq),
-        "__remq" => Some(Routine::Remq),
-        "__divqu" => Some(Routine::Divqu),
-        "__remqu" => Some(Routine::Remqu),
-        "__divl" => Some(Routine::Divl),
-        "__reml" => Some(Routine::Reml),
-        "__divlu" => Some(Routine::Divlu),
-        "__remlu" => Some(Routine::Remlu),
+        "__divq" => Some(DivisionRoutine::Divq),
+        "__remq" => Some(DivisionRoutine::Remq),
+        "__divqu" => Some(DivisionRoutine::Divqu),
+        "__remqu" => Some(DivisionRoutine::Remqu),
+        "__divl" => Some(DivisionRoutine::Divl),
+        "__reml" => Some(DivisionRoutine::Reml),
+        "__divlu" => Some(DivisionRoutine::Divlu),
+        "__remlu" => Some(DivisionRoutine::Remlu),
         _ => None,
     }
 }

@@ -5,8 +5,8 @@ use anyhow::{Result, ensure};
 use c_lexer::TEXT_LIMIT;
 use c_parser::parse;
 use c_tree::{
-    Box, Constant, Declaration, Expr, External, ForFirst, FunctionEnd, Init, Label, Local,
-    Parameter, Section, Stmt, TypeNode,
+    Box, Constant, Declaration, Expr, External, ForFirst, FunctionEnd, Init, Label,
+    LocalDeclarator, Parameter, Section, Stmt, TypeNode,
 };
 use row_sheets::escape::unescape;
 use std::alloc::{AllocError, Global};
@@ -203,14 +203,14 @@ impl Places {
         }
     }
 
-    fn locals(&mut self, locals: &[Local]) -> Answer {
+    fn locals(&mut self, locals: &[LocalDeclarator]) -> Answer {
         for local in locals {
             self.local(local)?;
         }
         Ok(())
     }
 
-    fn local(&mut self, local: &Local) -> Answer {
+    fn local(&mut self, local: &LocalDeclarator) -> Answer {
         self.declaration("local", &local.declaration)?;
         self.option(&local.init)
     }

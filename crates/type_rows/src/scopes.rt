@@ -1,12 +1,12 @@
 //! Sequences of calls of a table of names.
 
 use anyhow::{Context, Result, bail};
-use c_scopes::Table;
+use c_scopes::NameTable;
 use row_sheets::number::number;
 use std::alloc::Global;
 
 /// Does a call, and answers what it tells.
-fn call<'a>(alloc: Global, table: &mut Table<'a, u64>, text: &'a str) -> Result<String> {
+fn call<'a>(alloc: Global, table: &mut NameTable<'a, u64>, text: &'a str) -> Result<String> {
     let (name, rest) = text.split_once(' ').context("a call has an argument")?;
     match name {
         "declare" => {
@@ -28,7 +28,7 @@ fn call<'a>(alloc: Global, table: &mut Table<'a, u64>, text: &'a str) -> Result<
 
 /// What the calls tell, and then the number of names.
 pub fn answer(alloc: Global, given: &str) -> Result<Vec<u8>> {
-    let mut table = Table::new(alloc);
+    let mut table = NameTable::new(alloc);
     let mut text = String::new(alloc);
     for part in given.split(',') {
         let told = call(alloc, &mut table, part.trim())?;

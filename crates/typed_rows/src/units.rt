@@ -9,7 +9,7 @@ use c_tree::Name;
 use c_typed_tree::{Member, StructDef, TypedFn, TypedUnit};
 use c_types::check;
 use c_weight::{data_size, function_weight, locals_bytes, weight};
-use data_object::{Cell, DataObject};
+use data_object::{DataCell, DataObject};
 use row_sheets::escape::unescape;
 use std::alloc::{AllocError, Global};
 
@@ -75,10 +75,12 @@ fn put_struct(alloc: Global, out: &mut Vec<u8>, structure: &StructDef) -> Result
 }
 
 /// Puts what a byte of an object holds, behind a blank.
-fn put_cell(alloc: Global, out: &mut Vec<u8>, cell: Cell) -> Result<(), AllocError> {
+fn put_cell(alloc: Global, out: &mut Vec<u8>, cell: DataCell) -> Result<(), AllocError> {
     let text = match cell {
-        Cell::Byte(byte) => format!(in alloc; " {byte}")?,
-        Cell::AddressPart { global, plus, part } => format!(in alloc; " g{global}+{plus}.{part}")?,
+        DataCell::Byte(byte) => format!(in alloc; " {byte}")?,
+        DataCell::AddressPart { global, plus, part } => format!(in alloc;
+            " g{global}+{plus}.{part}"
+        )?,
     };
     put(out, text.as_str())
 }

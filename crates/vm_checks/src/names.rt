@@ -8,8 +8,8 @@ ghost use Rattle.suifvm_ir.specs.Programs.{names_what_is_there};
 
 use data_object::DataObject;
 use suifvm_ir::block::Block;
-use suifvm_ir::function::{Func, Object};
-use suifvm_ir::insn::{Builtin, Callee, Place, VmInsn};
+use suifvm_ir::function::{Func, MemoryLocal};
+use suifvm_ir::insn::{VmBuiltin, VmCallee, VmInsn, VmObject};
 use suifvm_ir::types::Alignment;
 
 /// Whether an object of static storage is there and has so many bytes.
@@ -23,7 +23,7 @@ fn global_reaches(globals: &[DataObject], global: usize, plus: u64) -> bool
 }
 
 /// Whether a memory local is there and has so many bytes.
-fn local_reaches(objects: &[Object], local: usize, plus: u64) -> bool
+fn local_reaches(objects: &[MemoryLocal], local: usize, plus: u64) -> bool
     ensures { result ≡ programs.local_reaches plus (slice_get objects.now local) }
 {
     match objects.get(local) {
@@ -33,24 +33,29 @@ fn local_reaches(objects: &[Object], local: usize, plus: u64) -> bool
 }
 
 /// Whether a place is there and has so many bytes.
-fn place_reaches(globals: &[DataObject], objects: &[Object], plus: u64, place: Place) -> bool
+fn place_reaches(
+    globals: &[DataObject],
+    objects: &[MemoryLocal],
+    plus: u64,
+    place: VmObject,
+) -> bool
     ensures { result ≡ programs.place_reaches globals.now objects.now plus place }
 {
     match place {
-        Place::Global(global) => global_reaches(globals, global as usize, plus),
-        Place::Local(local) => local_reaches(objects, local as usize, plus),
+        VmObject::Global(global) => global_reaches(globals, global as usize, plus),
+        VmObject::Local(local) => local_reaches(objects, local as usize, plus),
     }
 }
 
 /// How many arguments a built-in function takes.
-fn builtin_parameters(builtin: Builtin) -> usize
+fn builtin_parameters(builtin: VmBuiltin) -> usize
     ensures { result ≡ programs.builtin_parameters builtin }
 {
     match builtin {
-        Builtin::PutChar => 1,
-        Builtin::GetChar => 0,
-        Builtin::Abort => 0,
-        Builtin::Exit => 1,
+        VmBuiltin::PutChar => 1,
+        VmBuiltin::GetChar => 0,
+        VmBuiltin::Abort => 0,
+        VmBuiltin::Exit => 1,
     }
 }
 
@@ -65,12 +70,12 @@ fn function_takes(functions: &[Func<VmInsn>], function: usize, count: usize) -> 
 }
 
 /// Whether what is called is there and takes so many arguments.
-fn callee_takes(functions: &[Func<VmInsn>], count: usize, callee: Callee) -> bool
+fn callee_takes(functions: &[Func<VmInsn>], count: usize, callee: VmCallee) -> bool
     ensures { result ≡ programs.callee_takes functions.now count callee }
 {
     match callee {
-        Callee::Function(function) => function_takes(functions, function as usize, count),
-        Callee::Builtin(builtin) => builtin_parameters(builtin) == count,
+        VmCallee::Function(function) => function_takes(functions, function as usize, count),
+        VmCallee::Builtin(builtin) => builtin_parameters(builtin) == count,
     }
 }
 
@@ -91,7 +96,7 @@ fn alignment_bytes(align: Alignment) -> u64
 fn insn_names(
     functions: &[Func<VmInsn>],
     globals: &[DataObject],
-    objects: &[Object],
+    objects: &[MemoryLocal],
     insn: &VmInsn,
 ) -> bool
     ensures { OnTrue result (IsTrue (names_what_is_there functions.now globals.now objects.now insn.now)) }
@@ -124,7 +129,7 @@ fn insn_names(
 fn block_names(
     functions: &[Func<VmInsn>],
     globals: &[DataObject],
-    objects: &[Object],
+    objects: &[MemoryLocal],
     block: &Block<VmInsn>,
 ) -> bool
     ensures { OnTrue result (All (λ i. IsTrue (names_what_is_there functions.now globals.now objects.now i)) block.now) }
@@ -142,7 +147,7 @@ fn block_names(
 pub(crate) fn all_names(
     functions: &[Func<VmInsn>],
     globals: &[DataObject],
-    objects: &[Object],
+    objects: &[MemoryLocal],
     blocks: &[Block<VmInsn>],
 ) -> bool
     ensures { OnTrue result (AllInsns (λ i. IsTrue (names_what_is_there functions.now globals.now objects.now i)) blocks.now) }

@@ -7,11 +7,11 @@ use Rattle.mem_model.specs.Memory.{Memory}
 use Rattle.mem_model.specs.World.{Outer}
 use Rattle.machine_model.specs.Code.{Act, Writes, Jumps, Returns, Site}
 use Rattle.machine_model.specs.Laws.{IsPrefix, KeepsOutput, act_outer}
-use Rattle.suifvm_ir.specs.declared.insn.BranchOp.{BranchOp}
-use Rattle.suifvm_ir.specs.declared.insn.Builtin.{Builtin}
-use Rattle.suifvm_ir.specs.declared.insn.Builtin.TheVariants.{PutChar, GetChar, Abort, Exit}
-use Rattle.suifvm_ir.specs.declared.insn.Callee.{Callee}
-use Rattle.suifvm_ir.specs.declared.insn.Callee.TheVariants as callee
+use Rattle.suifvm_ir.specs.declared.insn.VmBranchOp.{VmBranchOp}
+use Rattle.suifvm_ir.specs.declared.insn.VmBuiltin.{VmBuiltin}
+use Rattle.suifvm_ir.specs.declared.insn.VmBuiltin.TheVariants.{PutChar, GetChar, Abort, Exit}
+use Rattle.suifvm_ir.specs.declared.insn.VmCallee.{VmCallee}
+use Rattle.suifvm_ir.specs.declared.insn.VmCallee.TheVariants as callee
 use Rattle.suifvm_ir.specs.declared.insn.TypedRegister.{TypedRegister}
 use Rattle.suifvm_ir.specs.declared.insn.VmInsn.{VmInsn}
 use Rattle.suifvm_ir.specs.declared.insn.VmInsn.TheVariants.{LoadConstant, LoadAddress, Load, Store, Copy, Unary, Binary, Shift, Convert, Compare, Branch, Jump, Call, Return, Mark, Nop}
@@ -41,7 +41,7 @@ changes_extends : (m : Option Memory) (o : Outer) → Extends o (changes m o)
 changes_extends (Some memory) o = same o.output
 changes_extends None o = same o.output
 
-branches_extends : (op : BranchOp) (t : Option Bool) (o : Outer) → Extends o (branches op t o)
+branches_extends : (op : VmBranchOp) (t : Option Bool) (o : Outer) → Extends o (branches op t o)
 branches_extends op (Some test) o = if_extends o (is_taken op test) (Jumps 0 o) (Writes [] o) (same o.output) (same o.output)
 branches_extends op None o = same o.output
 
@@ -55,13 +55,13 @@ exits_extends (Word n) o = same o.output
 exits_extends (Address p) o = same o.output
 exits_extends Unset o = same o.output
 
-builtin_extends : (b : Builtin) (vs : List Value) (o : Outer) → Extends o (builtin_act b vs o)
+builtin_extends : (b : VmBuiltin) (vs : List Value) (o : Outer) → Extends o (builtin_act b vs o)
 builtin_extends PutChar vs o = puts_extends (first vs) o
 builtin_extends GetChar vs o = same o.output
 builtin_extends Abort vs o = same o.output
 builtin_extends Exit vs o = exits_extends (first vs) o
 
-callee_extends : (c : Callee) (vs : List Value) (o : Outer) → Extends o (callee_act c vs o)
+callee_extends : (c : VmCallee) (vs : List Value) (o : Outer) → Extends o (callee_act c vs o)
 callee_extends (callee.Function k) vs o = same o.output
 callee_extends (callee.Builtin b) vs o = builtin_extends b vs o
 

@@ -16,17 +16,17 @@ use Rattle.std.specs.List.{list_all}
 use Rattle.suifvm_ir.specs.Programs.{alignment_bytes}
 use Rattle.suifvm_ir.specs.declared.types.VmType.{VmType}
 use Rattle.suifvm_ir.specs.declared.types.VmType.TheVariants.{S32, U32, S64, U64, P64}
-use Rattle.suifvm_ir.specs.declared.insn.UnaryOp.{UnaryOp}
-use Rattle.suifvm_ir.specs.declared.insn.UnaryOp.TheVariants.{Move, Negate, Complement}
-use Rattle.suifvm_ir.specs.declared.insn.BinaryOp.{BinaryOp}
-use Rattle.suifvm_ir.specs.declared.insn.BinaryOp.TheVariants.{Add, Subtract, Multiply, Divide, Remainder, And, Or, ExclusiveOr}
+use Rattle.suifvm_ir.specs.declared.insn.VmUnaryOp.{VmUnaryOp}
+use Rattle.suifvm_ir.specs.declared.insn.VmUnaryOp.TheVariants.{Move, Negate, Complement}
+use Rattle.suifvm_ir.specs.declared.insn.VmBinaryOp.{VmBinaryOp}
+use Rattle.suifvm_ir.specs.declared.insn.VmBinaryOp.TheVariants.{Add, Subtract, Multiply, Divide, Remainder, And, Or, ExclusiveOr}
 use Rattle.suifvm_ir.specs.declared.insn.ShiftOp.{ShiftOp}
 use Rattle.suifvm_ir.specs.declared.insn.ShiftOp.TheVariants.{ArithmeticRight, Left, LogicalRight}
 use Rattle.suifvm_ir.specs.declared.insn.CompareOp.{CompareOp}
-use Rattle.suifvm_ir.specs.declared.insn.BranchOp.{BranchOp}
-use Rattle.suifvm_ir.specs.declared.insn.Builtin.TheVariants.{PutChar, GetChar, Abort, Exit}
-use Rattle.suifvm_ir.specs.declared.insn.Callee.{Callee}
-use Rattle.suifvm_ir.specs.declared.insn.Callee.TheVariants as callee
+use Rattle.suifvm_ir.specs.declared.insn.VmBranchOp.{VmBranchOp}
+use Rattle.suifvm_ir.specs.declared.insn.VmBuiltin.TheVariants.{PutChar, GetChar, Abort, Exit}
+use Rattle.suifvm_ir.specs.declared.insn.VmCallee.{VmCallee}
+use Rattle.suifvm_ir.specs.declared.insn.VmCallee.TheVariants as callee
 use Rattle.suifvm_ir.specs.declared.insn.TypedRegister.{TypedRegister}
 use Rattle.suifvm_ir.specs.declared.insn.VmInsn.{VmInsn}
 use Rattle.suifvm_ir.specs.declared.insn.VmInsn.TheVariants.{LoadConstant, LoadAddress, Load, Store, Copy, Unary, Binary, Shift, Convert, Compare, Branch, Jump, Call, Return, Mark, Nop}
@@ -132,7 +132,7 @@ calm_shifts op U64 a k = calm_shift_of op UnsignedLong a k
 calm_shifts op P64 a k = tt
 
 -- of one type, an operation on one value and on two
-unary_only : (op : UnaryOp) (ty : VmType) (a : Value) (o : Outer) → OnlyIf (unary_may_trap op ty) (writes (unary_answer op ty a) o)
+unary_only : (op : VmUnaryOp) (ty : VmType) (a : Value) (o : Outer) → OnlyIf (unary_may_trap op ty) (writes (unary_answer op ty a) o)
 unary_only Move S32 a o = calm_writes (unary_answer Move S32 a) o (calm_number Int a (unary_number Move) (λ n. tt))
 unary_only Move U32 a o = calm_writes (unary_answer Move U32 a) o (calm_number UnsignedInt a (unary_number Move) (λ n. tt))
 unary_only Move S64 a o = calm_writes (unary_answer Move S64 a) o (calm_number Long a (unary_number Move) (λ n. tt))
@@ -149,7 +149,7 @@ unary_only Complement S64 a o = calm_writes (unary_answer Complement S64 a) o (c
 unary_only Complement U64 a o = calm_writes (unary_answer Complement U64 a) o (calm_number UnsignedLong a (unary_number Complement) (λ n. tt))
 unary_only Complement P64 a o = tt
 
-calm_pointer : (m : Memory) (op : BinaryOp) (a b : Value) → Calm (pointer_answer m op a b)
+calm_pointer : (m : Memory) (op : VmBinaryOp) (a b : Value) → Calm (pointer_answer m op a b)
 calm_pointer m Add a (Word n) = calm_value (pointer_plus m a (value Long n))
 calm_pointer m Add a (Address p) = tt
 calm_pointer m Add a Unset = tt
@@ -162,14 +162,14 @@ calm_pointer m Or a b = tt
 calm_pointer m ExclusiveOr a b = tt
 
 -- the operations that no type traps at
-calm_binary : (op : BinaryOp) (ty : VmType) (m : Memory) (a b : Value) → ((t : IntegerType) (x y : ℕ) → Calm (binary_number op t x y)) → Calm (binary_answer m op ty a b)
+calm_binary : (op : VmBinaryOp) (ty : VmType) (m : Memory) (a b : Value) → ((t : IntegerType) (x y : ℕ) → Calm (binary_number op t x y)) → Calm (binary_answer m op ty a b)
 calm_binary op S32 m a b h = calm_numbers Int a b (binary_number op) (h Int)
 calm_binary op U32 m a b h = calm_numbers UnsignedInt a b (binary_number op) (h UnsignedInt)
 calm_binary op S64 m a b h = calm_numbers Long a b (binary_number op) (h Long)
 calm_binary op U64 m a b h = calm_numbers UnsignedLong a b (binary_number op) (h UnsignedLong)
 calm_binary op P64 m a b h = calm_pointer m op a b
 
-binary_only : (op : BinaryOp) (ty : VmType) (m : Memory) (a b : Value) (o : Outer) → OnlyIf (binary_may_trap op ty) (writes (binary_answer m op ty a b) o)
+binary_only : (op : VmBinaryOp) (ty : VmType) (m : Memory) (a b : Value) (o : Outer) → OnlyIf (binary_may_trap op ty) (writes (binary_answer m op ty a b) o)
 binary_only Add S32 m a b o = tt
 binary_only Add U32 m a b o = calm_writes (binary_answer m Add U32 a b) o (calm_numbers UnsignedInt a b (binary_number Add) (λ x y. tt))
 binary_only Add S64 m a b o = tt
@@ -202,7 +202,7 @@ no_trap_changes : (m : Option Memory) (o : Outer) → NoTrap (changes m o)
 no_trap_changes (Some memory) o = tt
 no_trap_changes None o = tt
 
-no_trap_branches : (op : BranchOp) (t : Option Bool) (o : Outer) → NoTrap (branches op t o)
+no_trap_branches : (op : VmBranchOp) (t : Option Bool) (o : Outer) → NoTrap (branches op t o)
 no_trap_branches op (Some test) o = no_trap_if (is_taken op test) (Jumps 0 o) (Writes [] o) tt tt
 no_trap_branches op None o = tt
 
@@ -216,7 +216,7 @@ no_trap_exits (Word n) o = tt
 no_trap_exits (Address p) o = tt
 no_trap_exits Unset o = tt
 
-call_only : (c : Callee) (vs : List Value) (o : Outer) → OnlyIf (call_may_trap c) (call_act c vs o)
+call_only : (c : VmCallee) (vs : List Value) (o : Outer) → OnlyIf (call_may_trap c) (call_act c vs o)
 call_only (callee.Function k) vs o = no_trap_if (list_all is_set vs) (Calls k vs o) (fails o) tt tt
 call_only (callee.Builtin PutChar) vs o =
     no_trap_if (list_all is_set vs) (puts_char (first vs) o) (fails o) (no_trap_puts (first vs) o) tt

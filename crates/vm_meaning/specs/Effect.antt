@@ -6,12 +6,12 @@ use Rattle.mem_model.specs.declared.value.Value.TheVariants.{Word, Unset}
 use Rattle.mem_model.specs.Memory.{Memory}
 use Rattle.mem_model.specs.World.{Outer, outer_with_memory, next_byte, take_byte, put_byte}
 use Rattle.machine_model.specs.Code.{Exits, Traps, HasNoMeaning, Act, Writes, Jumps, Calls, Returns, Stops}
-use Rattle.suifvm_ir.specs.declared.insn.BranchOp.{BranchOp}
-use Rattle.suifvm_ir.specs.declared.insn.BranchOp.TheVariants.{IfTrue, IfFalse}
-use Rattle.suifvm_ir.specs.declared.insn.Builtin.{Builtin}
-use Rattle.suifvm_ir.specs.declared.insn.Builtin.TheVariants.{PutChar, GetChar, Abort, Exit}
-use Rattle.suifvm_ir.specs.declared.insn.Callee.{Callee}
-use Rattle.suifvm_ir.specs.declared.insn.Callee.TheVariants as callee
+use Rattle.suifvm_ir.specs.declared.insn.VmBranchOp.{VmBranchOp}
+use Rattle.suifvm_ir.specs.declared.insn.VmBranchOp.TheVariants.{IfTrue, IfFalse}
+use Rattle.suifvm_ir.specs.declared.insn.VmBuiltin.{VmBuiltin}
+use Rattle.suifvm_ir.specs.declared.insn.VmBuiltin.TheVariants.{PutChar, GetChar, Abort, Exit}
+use Rattle.suifvm_ir.specs.declared.insn.VmCallee.{VmCallee}
+use Rattle.suifvm_ir.specs.declared.insn.VmCallee.TheVariants as callee
 use Rattle.suifvm_ir.specs.declared.insn.TypedRegister.{TypedRegister}
 use Rattle.suifvm_ir.specs.declared.insn.VmInsn.{VmInsn}
 use Rattle.suifvm_ir.specs.declared.insn.VmInsn.TheVariants.{LoadConstant, LoadAddress, Load, Store, Copy, Unary, Binary, Shift, Convert, Compare, Branch, Jump, Call, Return, Mark, Nop}
@@ -35,11 +35,11 @@ changes (Some memory) o = Writes [] (outer_with_memory o memory)
 changes None o = fails o
 
 -- a branch that is taken where the test gives this
-abbrev pub is_taken : BranchOp → Bool → Bool
+abbrev pub is_taken : VmBranchOp → Bool → Bool
 is_taken IfTrue test = test
 is_taken IfFalse test = not test
 
-abbrev pub branches : BranchOp → Option Bool → Outer → Act Value
+abbrev pub branches : VmBranchOp → Option Bool → Outer → Act Value
 branches op (Some test) o = if is_taken op test then Jumps 0 o else Writes [] o
 branches op None o = fails o
 
@@ -66,18 +66,18 @@ abbrev pub exits : Value → Outer → Act Value
 exits (Word n) o = Stops (Exits (n % 256)) o
 exits _ o = fails o
 
-abbrev pub builtin_act : Builtin → List Value → Outer → Act Value
+abbrev pub builtin_act : VmBuiltin → List Value → Outer → Act Value
 builtin_act PutChar vs o = puts_char (first vs) o
 builtin_act GetChar vs o = Writes (Word (input_word (next_byte o)) ∷ []) (take_byte o)
 builtin_act Abort vs o = Stops (Traps 2) o
 builtin_act Exit vs o = exits (first vs) o
 
-abbrev pub callee_act : Callee → List Value → Outer → Act Value
+abbrev pub callee_act : VmCallee → List Value → Outer → Act Value
 callee_act (callee.Function k) vs o = Calls k vs o
 callee_act (callee.Builtin builtin) vs o = builtin_act builtin vs o
 
 -- each argument has to be set
-abbrev pub call_act : Callee → List Value → Outer → Act Value
+abbrev pub call_act : VmCallee → List Value → Outer → Act Value
 call_act c vs o = if list_all is_set vs then callee_act c vs o else fails o
 
 abbrev pub return_act : Option TypedRegister → List Value → Outer → Act Value

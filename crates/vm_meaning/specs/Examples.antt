@@ -3,46 +3,46 @@ use Rattle.std.specs.Prelude.{◌≡◌, ℕ, ◌-◌, ◌^◌, pos, negsuc, tru
 use Rattle.mem_model.specs.Ending.{Ending, Done, Trap, Undefined, More, ending_output}
 use Rattle.machine_model.specs.Machine.{Next, Goes, Over}
 use Rattle.data_object.specs.declared.DataObject.{DataObject}
-use Rattle.data_object.specs.declared.Cell.TheVariants as cell
+use Rattle.data_object.specs.declared.DataCell.TheVariants as cell
 use Rattle.suifvm_ir.specs.declared.types.VmType.TheVariants.{S32, U32, S64, U64, P64}
 use Rattle.suifvm_ir.specs.declared.types.MemoryType.TheVariants as memory
 use Rattle.suifvm_ir.specs.declared.types.Alignment.TheVariants as align
-use Rattle.suifvm_ir.specs.declared.insn.UnaryOp.TheVariants.{Move, Negate, Complement}
-use Rattle.suifvm_ir.specs.declared.insn.BinaryOp.TheVariants.{Add, Subtract, Divide}
+use Rattle.suifvm_ir.specs.declared.insn.VmUnaryOp.TheVariants.{Move, Negate, Complement}
+use Rattle.suifvm_ir.specs.declared.insn.VmBinaryOp.TheVariants.{Add, Subtract, Divide}
 use Rattle.suifvm_ir.specs.declared.insn.ShiftOp.TheVariants.{ArithmeticRight, Left, LogicalRight}
 use Rattle.suifvm_ir.specs.declared.insn.CompareOp.TheVariants.{Equal, Less, LessOrEqual}
-use Rattle.suifvm_ir.specs.declared.insn.BranchOp.TheVariants.{IfTrue, IfFalse}
-use Rattle.suifvm_ir.specs.declared.insn.Place.TheVariants.{Global, Local}
-use Rattle.suifvm_ir.specs.declared.insn.Builtin.TheVariants.{PutChar, GetChar, Abort, Exit}
-use Rattle.suifvm_ir.specs.declared.insn.Callee.TheVariants.{Function, Builtin}
+use Rattle.suifvm_ir.specs.declared.insn.VmBranchOp.TheVariants.{IfTrue, IfFalse}
+use Rattle.suifvm_ir.specs.declared.insn.VmObject.TheVariants.{Global, Local}
+use Rattle.suifvm_ir.specs.declared.insn.VmBuiltin.TheVariants.{PutChar, GetChar, Abort, Exit}
+use Rattle.suifvm_ir.specs.declared.insn.VmCallee.TheVariants.{Function, Builtin}
 use Rattle.suifvm_ir.specs.declared.insn.VmInsn.{VmInsn}
 use Rattle.suifvm_ir.specs.declared.insn.VmInsn.TheVariants.{LoadConstant, LoadAddress, Load, Store, Copy, Unary, Binary, Shift, Convert, Compare, Branch, Jump, Call, Return, Mark, Nop}
 use Rattle.vm_meaning.specs.Behave.{FunctionCode, Registers, vm_run, start_world}
 
 -- what is seen of a run: how it ended, if it did, and its output
-pub data Observation : Type 0 where
-  ShowsDone : (status : ℕ) → (output : List ℕ) → Observation
-  ShowsTrap : (code : ℕ) → (output : List ℕ) → Observation
-  ShowsUndefined : (at : ℕ) → (output : List ℕ) → Observation
-  ShowsMore : (output : List ℕ) → Observation
-  GoesOn : Observation
+pub data VmObservation : Type 0 where
+  ShowsDone : (status : ℕ) → (output : List ℕ) → VmObservation
+  ShowsTrap : (code : ℕ) → (output : List ℕ) → VmObservation
+  ShowsUndefined : (at : ℕ) → (output : List ℕ) → VmObservation
+  ShowsMore : (output : List ℕ) → VmObservation
+  GoesOn : VmObservation
 
-abbrev pub shown_ending : Ending → Observation
+abbrev pub shown_ending : Ending → VmObservation
 shown_ending (Done w status) = ShowsDone status w.outer.output
 shown_ending (Trap w code) = ShowsTrap code w.outer.output
 shown_ending (Undefined w at) = ShowsUndefined at w.outer.output
 shown_ending (More w) = ShowsMore w.outer.output
 
-abbrev pub observe : Next Registers → Observation
+abbrev pub observe : Next Registers → VmObservation
 observe (Goes k) = GoesOn
 observe (Over e) = shown_ending e
 
 -- a run of functions, of which the first is `main`, in at most 30 steps
-abbrev pub run_functions : List FunctionCode → List DataObject → (input : List ℕ) → (turns : ℕ) → Observation
+abbrev pub run_functions : List FunctionCode → List DataObject → (input : List ℕ) → (turns : ℕ) → VmObservation
 run_functions functions globals input turns = observe (vm_run [] functions 0 (start_world globals input turns) 30)
 
 -- a run of one function without memory locals
-abbrev pub run_blocks : List (List VmInsn) → (input : List ℕ) → (turns : ℕ) → Observation
+abbrev pub run_blocks : List (List VmInsn) → (input : List ℕ) → (turns : ℕ) → VmObservation
 run_blocks blocks input turns = run_functions (record { sizes = []; blocks = blocks } ∷ []) [] input turns
 
 abbrev pub give : (register : ℕ) → VmInsn
@@ -56,7 +56,7 @@ minus_one = 2 ^ 64 - 1
 abbrev pub object : DataObject
 object = record { name = []; size = 8; align = 1; offset = 0; writable = false; cells = cell.Byte 1 ∷ cell.Byte 2 ∷ [] }
 
-pub record ExamplesRun : Type 0 where
+pub record VmExamplesRun : Type 0 where
   -- a byte is put, which is a turn, and is the status
   pub puts : run_blocks ((LoadConstant S32 0 65 ∷ Call (Some 1) (Builtin PutChar) (0 ∷ []) ∷ give 1 ∷ []) ∷ []) [] 1
       ≡ ShowsDone 65 (65 ∷ [])

@@ -17,16 +17,16 @@ use Rattle.suifvm_ir.specs.declared.types.VmType.{VmType}
 use Rattle.suifvm_ir.specs.declared.types.VmType.TheVariants as v
 use Rattle.suifvm_ir.specs.declared.types.MemoryType.{MemoryType}
 use Rattle.suifvm_ir.specs.declared.types.MemoryType.TheVariants as m
-use Rattle.suifvm_ir.specs.declared.insn.UnaryOp.{UnaryOp}
-use Rattle.suifvm_ir.specs.declared.insn.UnaryOp.TheVariants.{Move, Negate, Complement}
-use Rattle.suifvm_ir.specs.declared.insn.BinaryOp.{BinaryOp}
-use Rattle.suifvm_ir.specs.declared.insn.BinaryOp.TheVariants.{Add, Subtract, Multiply, Divide, Remainder, And, Or, ExclusiveOr}
+use Rattle.suifvm_ir.specs.declared.insn.VmUnaryOp.{VmUnaryOp}
+use Rattle.suifvm_ir.specs.declared.insn.VmUnaryOp.TheVariants.{Move, Negate, Complement}
+use Rattle.suifvm_ir.specs.declared.insn.VmBinaryOp.{VmBinaryOp}
+use Rattle.suifvm_ir.specs.declared.insn.VmBinaryOp.TheVariants.{Add, Subtract, Multiply, Divide, Remainder, And, Or, ExclusiveOr}
 use Rattle.suifvm_ir.specs.declared.insn.ShiftOp.{ShiftOp}
 use Rattle.suifvm_ir.specs.declared.insn.ShiftOp.TheVariants.{ArithmeticRight, Left, LogicalRight}
 use Rattle.suifvm_ir.specs.declared.insn.CompareOp.{CompareOp}
 use Rattle.suifvm_ir.specs.declared.insn.CompareOp.TheVariants.{Equal, NotEqual, Less, LessOrEqual}
-use Rattle.suifvm_ir.specs.declared.insn.Place.{Place}
-use Rattle.suifvm_ir.specs.declared.insn.Place.TheVariants.{Global, Local}
+use Rattle.suifvm_ir.specs.declared.insn.VmObject.{VmObject}
+use Rattle.suifvm_ir.specs.declared.insn.VmObject.TheVariants.{Global, Local}
 pub use Rattle.vm_meaning.specs.declared.answer.Answer.{Answer}
 pub use Rattle.vm_meaning.specs.declared.answer.Answer.TheVariants.{Gives, TrapsWith, Fails}
 
@@ -109,18 +109,18 @@ on_numbers ty a b f = on_number ty a (λ t x. on_number ty b (λ u y. f t x y))
 
 -- ---- operations on one value
 
-abbrev pub unary_number : UnaryOp → IntegerType → ℕ → Answer
+abbrev pub unary_number : VmUnaryOp → IntegerType → ℕ → Answer
 unary_number Move t n = word_answer n
 unary_number Negate t n = outcome_answer (c.negation t n)
 unary_number Complement t n = word_answer (c.complement t n)
 
 -- a pointer can be moved from register to register alone
-abbrev pub unary_pointer : UnaryOp → Value → Answer
+abbrev pub unary_pointer : VmUnaryOp → Value → Answer
 unary_pointer Move a = when_value v.P64 a
 unary_pointer Negate a = Fails
 unary_pointer Complement a = Fails
 
-abbrev pub unary_answer : UnaryOp → VmType → Value → Answer
+abbrev pub unary_answer : VmUnaryOp → VmType → Value → Answer
 unary_answer op v.P64 a = unary_pointer op a
 unary_answer op ty a = on_number (integer_of ty) a (unary_number op)
 
@@ -134,7 +134,7 @@ convert_answer from to a = conversion_answer (memory_integer from) (integer_of t
 
 -- ---- operations on two values
 
-abbrev pub binary_number : BinaryOp → IntegerType → (a b : ℕ) → Answer
+abbrev pub binary_number : VmBinaryOp → IntegerType → (a b : ℕ) → Answer
 binary_number Add t a b = outcome_answer (c.sum t a b)
 binary_number Subtract t a b = outcome_answer (c.difference t a b)
 binary_number Multiply t a b = outcome_answer (c.product t a b)
@@ -145,12 +145,12 @@ binary_number Or t a b = word_answer (c.disjunction t a b)
 binary_number ExclusiveOr t a b = word_answer (c.exclusive_disjunction t a b)
 
 -- a pointer is moved by the bytes of an `s64`; two have a distance; nothing else is done with pointers
-abbrev pub pointer_answer : Memory → BinaryOp → (a b : Value) → Answer
+abbrev pub pointer_answer : Memory → VmBinaryOp → (a b : Value) → Answer
 pointer_answer memory Add a (Word n) = value_answer (pointer_plus memory a (value Long n))
 pointer_answer memory Subtract a b = distance_answer (pointer_minus memory a b)
 pointer_answer memory _ a b = Fails
 
-abbrev pub binary_answer : Memory → BinaryOp → VmType → (a b : Value) → Answer
+abbrev pub binary_answer : Memory → VmBinaryOp → VmType → (a b : Value) → Answer
 binary_answer memory op v.P64 a b = pointer_answer memory op a b
 binary_answer memory op ty a b = on_numbers (integer_of ty) a b (binary_number op)
 
@@ -210,7 +210,7 @@ value_holds memory ty a = number_holds (integer_of ty) a
 -- ---- memory
 
 -- the address of an object; own is the number of the first memory local of the call
-abbrev pub place_address : (own : ℕ) → Place → (plus : ℕ) → Value
+abbrev pub place_address : (own : ℕ) → VmObject → (plus : ℕ) → Value
 place_address own (Global k) plus = Address (record { object = k; offset = pos plus })
 place_address own (Local k) plus = Address (record { object = own + k; offset = pos plus })
 

@@ -1,6 +1,6 @@
 //! Laws of the meaning, each the contract of a function that does nothing.
 
-ghost use Rattle.vm_meaning.specs.Examples.{ExamplesRun};
+ghost use Rattle.vm_meaning.specs.Examples.{VmExamplesRun};
 ghost use Rattle.vm_meaning.specs.Laws.{OneVmEnding, MoreTurnsKeepEnding, MoreTurnsExtendOutput, VmPeakRises, VmKeepsOutput, OnlyTheseTrap};
 
 /// A run has one ending at most.
@@ -27,5 +27,5 @@ pub fn only_these_trap()
 
 /// Small programs end as they should.
 pub fn examples_run()
-    ensures { ExamplesRun }
+    ensures { VmExamplesRun }
 {}

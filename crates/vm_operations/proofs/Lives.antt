@@ -2,17 +2,17 @@
 use Rattle.std.proofs.Common.{◌≡◌, ℕ, suc, ◌+◌, ◌-◌, ◌<◌, ◌≤◌, List, length, map, drop, get_or, true, sym, ap, ◌∙◌, arith}
 use Rattle.std.proofs.lemmas.List.{at_drop_more, at_drop_all}
 use Rattle.mem_model.specs.Memory.{Memory, begin_object, begin_objects, end_object, end_objects}
-use Rattle.suifvm_ir.specs.declared.function.Object.{Object}
+use Rattle.suifvm_ir.specs.declared.function.MemoryLocal.{MemoryLocal}
 
-abbrev sizes : List Object → List ℕ
+abbrev sizes : List MemoryLocal → List ℕ
 sizes xs = map (λ o. o.size) xs
 
-pub begin_next : (m new : Memory) (objects : List Object) (i : ℕ) (o : Object) → i < length objects → o ≡ get_or objects i o → new ≡ begin_object m o.size true → begin_objects new (map (λ x. x.size) (drop (i + 1) objects)) ≡ begin_objects m (map (λ x. x.size) (drop i objects))
+pub begin_next : (m new : Memory) (objects : List MemoryLocal) (i : ℕ) (o : MemoryLocal) → i < length objects → o ≡ get_or objects i o → new ≡ begin_object m o.size true → begin_objects new (map (λ x. x.size) (drop (i + 1) objects)) ≡ begin_objects m (map (λ x. x.size) (drop i objects))
 begin_next m new objects i o within read is =
-    ap (λ n. begin_objects n (sizes (drop (i + 1) objects))) (is ∙ ap (λ (x : Object). begin_object m x.size true) read)
+    ap (λ n. begin_objects n (sizes (drop (i + 1) objects))) (is ∙ ap (λ (x : MemoryLocal). begin_object m x.size true) read)
     ∙ sym (at_drop_more (λ xs. begin_objects m (sizes xs)) objects i o within)
 
-pub begin_end : (m : Memory) (objects : List Object) (i : ℕ) → length objects ≤ i → begin_objects m (map (λ x. x.size) (drop i objects)) ≡ m
+pub begin_end : (m : Memory) (objects : List MemoryLocal) (i : ℕ) → length objects ≤ i → begin_objects m (map (λ x. x.size) (drop i objects)) ≡ m
 begin_end m objects i past = at_drop_all (λ xs. begin_objects m (sizes xs)) objects i past
 
 pub end_next : (m new : Memory) (first count k : ℕ) → k < count → new ≡ end_object m (first + k) → end_objects new (first + (k + 1)) (count - (k + 1)) ≡ end_objects m (first + k) (count - k)

@@ -2,7 +2,7 @@
 use Rattle.std.proofs.Common.{◌≡◌, ℕ, ◌+◌, ◌-◌, ◌<◌, ◌≤◌, ◌^◌, List, [], ◌∷◌, ◌++◌, true, length, map, take, drop, replicate, get_or, refl, sym, ap, ◌∙◌, subst, arith}
 use Rattle.std.proofs.Math.Nat.{zero-add}
 use Rattle.std.proofs.lemmas.List.{length-append, length-map, length-replicate, length-take-le, length-drop, take_all, take-take, drop-take, take-append-drop, map-append, map_more, append-nil, replicate-append-replicate}
-use Rattle.data_object.specs.declared.Cell.{Cell}
+use Rattle.data_object.specs.declared.DataCell.{DataCell}
 use Rattle.data_object.specs.declared.DataObject.{DataObject}
 use Rattle.data_object.specs.Start.{memory_cell, start_object}
 use Rattle.mem_model.specs.declared.value.Cell as c
@@ -13,21 +13,21 @@ use Rattle.vm_operations.specs.Tidy.{IsTidy}
 use Rattle.vm_operations.specs.model.Fills.{Adds}
 use Rattle.vm_operations.proofs.Fills.{adds_nothing, adds_more}
 
-abbrev held : List Cell → List c.Cell
+abbrev held : List DataCell → List c.Cell
 held cells = map memory_cell cells
 
 -- ---- the cells of an object
 
-taken : (cells : List Cell) (at count : ℕ) → take at cells ++ take count (drop at cells) ≡ take (at + count) cells
+taken : (cells : List DataCell) (at count : ℕ) → take at cells ++ take count (drop at cells) ≡ take (at + count) cells
 taken cells at count =
     ap (λ xs. xs ++ take count (drop at cells)) (sym (take-take at (at + count) cells (omega arith)))
     ∙ ap (λ xs. take at (take (at + count) cells) ++ xs) (sym (drop-take at count cells))
     ∙ take-append-drop at (take (at + count) cells)
 
-pub cells_within : (cells : List Cell) (at count : ℕ) → at ≤ length cells → count ≤ length (drop at cells) → at + count ≤ length cells
+pub cells_within : (cells : List DataCell) (at count : ℕ) → at ≤ length cells → count ≤ length (drop at cells) → at + count ≤ length cells
 cells_within cells at count within few = let len = length-drop at cells in omega (arith, within, few, len)
 
-pub cells_more : (m mid new : Memory) (object at count : ℕ) (cells : List Cell) → at ≤ length cells → Adds m mid object 0 (map memory_cell (take at cells)) → Adds mid new object at (map memory_cell (take count (drop at cells))) → Adds m new object 0 (map memory_cell (take (at + count) cells))
+pub cells_more : (m mid new : Memory) (object at count : ℕ) (cells : List DataCell) → at ≤ length cells → Adds m mid object 0 (map memory_cell (take at cells)) → Adds mid new object at (map memory_cell (take count (drop at cells))) → Adds m new object 0 (map memory_cell (take (at + count) cells))
 cells_more m mid new object at count cells within first second =
     adds_more m mid new object 0 (held (take at cells)) (held (take count (drop at cells))) (held (take (at + count) cells)) first
     (subst (λ n. Adds mid new object n (held (take count (drop at cells)))) (sym len) second)
@@ -36,7 +36,7 @@ cells_more m mid new object at count cells within first second =
     len : 0 + length (held (take at cells)) ≡ at
     len = zero-add (length (held (take at cells))) ∙ length-map (take at cells) memory_cell ∙ length-take-le at cells within
 
-pub cells_all : (m new : Memory) (object at : ℕ) (cells : List Cell) → length cells ≤ at → Adds m new object 0 (map memory_cell (take at cells)) → Adds m new object 0 (map memory_cell cells)
+pub cells_all : (m new : Memory) (object at : ℕ) (cells : List DataCell) → length cells ≤ at → Adds m new object 0 (map memory_cell (take at cells)) → Adds m new object 0 (map memory_cell cells)
 cells_all m new object at cells past a = subst (λ xs. Adds m new object 0 (held xs)) (take_all at cells past) a
 
 -- ---- the zeros behind them
@@ -70,7 +70,7 @@ zeros_none m object first tidy = subst (λ n. Adds m m object first (replicate n
 
 -- ---- an object
 
-pub object_made : (m mid more new : Memory) (o : DataObject) (cells : List Cell) (number count : ℕ) → number ≡ length m → mid ≡ begin_object m o.size o.writable → cells ≡ o.cells → count ≡ length cells → count ≤ o.size → Adds mid more number 0 (map memory_cell cells) → Adds more new number count (replicate (o.size - count) (cell.Byte 0)) → new ≡ m ++ start_object o ∷ []
+pub object_made : (m mid more new : Memory) (o : DataObject) (cells : List DataCell) (number count : ℕ) → number ≡ length m → mid ≡ begin_object m o.size o.writable → cells ≡ o.cells → count ≡ length cells → count ≤ o.size → Adds mid more number 0 (map memory_cell cells) → Adds more new number count (replicate (o.size - count) (cell.Byte 0)) → new ≡ m ++ start_object o ∷ []
 object_made m mid more new o cells number count number_is mid_is cells_is count_is few first second =
     whole.fronts m o.writable o.size [] number_is refl (mid_is ∙ ap (λ n. m ++ record { live = true; writable = o.writable; cells = replicate n cell.Empty } ∷ []) none)
     ∙ ap (λ xs. m ++ record { live = true; writable = o.writable; cells = xs } ∷ []) full

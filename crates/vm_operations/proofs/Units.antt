@@ -4,8 +4,8 @@ use Rattle.std.specs.Prelude.{slice_get}
 use Rattle.std.proofs.lemmas.Bool.{cases_eq}
 use Rattle.std.proofs.lemmas.List.{take-replicate}
 use Rattle.std.proofs.lemmas.Option.{slice_get_within}
-use Rattle.data_object.specs.declared.Cell.{Cell}
-use Rattle.data_object.specs.declared.Cell.TheVariants.{Byte, AddressPart}
+use Rattle.data_object.specs.declared.DataCell.{DataCell}
+use Rattle.data_object.specs.declared.DataCell.TheVariants.{Byte, AddressPart}
 use Rattle.data_object.specs.Start.{memory_cell}
 use Rattle.mem_model.specs.declared.value.Ptr.{Ptr}
 use Rattle.mem_model.specs.declared.value.Value.{Value}
@@ -45,14 +45,14 @@ address_adds m new object at offset to o wide storable is t =
 
 -- ---- cells that are put together
 
-pub parts_more : (cells : List Cell) (global plus n : ℕ) → HasParts cells global plus n → slice_get cells n ≡ Some (AddressPart global plus n) → HasParts cells global plus (n + 1)
+pub parts_more : (cells : List DataCell) (global plus n : ℕ) → HasParts cells global plus n → slice_get cells n ≡ Some (AddressPart global plus n) → HasParts cells global plus (n + 1)
 parts_more cells global plus n before at k within = elim (cases_eq k n) [
   | inl e ↦ subst (λ j. slice_get cells j ≡ Some (AddressPart global plus j)) (sym e) at
   | inr ne ↦ before k (omega (arith, within, ne))
 ]
 
 -- the parts from a number on
-abbrev parts_from : (global plus first count : ℕ) → List Cell
+abbrev parts_from : (global plus first count : ℕ) → List DataCell
 parts_from global plus first zero = []
 parts_from global plus first (suc count) = AddressPart global plus first ∷ parts_from global plus (suc first) count
 
@@ -62,7 +62,7 @@ none_some b h = cc
 some_is : {A : Type 0} (a b : A) → (let x : Option A = Some a in x ≡ Some b) → a ≡ b
 some_is a b h = cc
 
-taken : (cells : List Cell) (global plus first count : ℕ) → ((k : ℕ) → k < count → slice_get cells k ≡ Some (AddressPart global plus (first + k))) → take count cells ≡ parts_from global plus first count
+taken : (cells : List DataCell) (global plus first count : ℕ) → ((k : ℕ) → k < count → slice_get cells k ≡ Some (AddressPart global plus (first + k))) → take count cells ≡ parts_from global plus first count
 taken cells global plus first zero h = refl
 taken [] global plus first (suc count) h = absurd (none_some _ (h 0 (omega arith)))
 taken (c ∷ cells) global plus first (suc count) h =
@@ -75,24 +75,24 @@ taken (c ∷ cells) global plus first (suc count) h =
     next : (k : ℕ) → first + suc k ≡ suc first + k
     next k = omega arith
 
-address_unit : (cells : List Cell) (global plus : ℕ) → HasParts cells global plus 8 → parts_of (record { object = global; offset = pos plus }) ≡ map memory_cell (take 8 cells)
+address_unit : (cells : List DataCell) (global plus : ℕ) → HasParts cells global plus 8 → parts_of (record { object = global; offset = pos plus }) ≡ map memory_cell (take 8 cells)
 unfolding parts_of
 address_unit cells global plus h = sym (ap (map memory_cell) (taken cells global plus 0 8 (λ k within. h k within ∙ ap (λ j. Some (AddressPart global plus j)) (none k))))
   where
     none : (k : ℕ) → k ≡ 0 + k
     none k = omega arith
 
-pub address_within : (cells : List Cell) (global plus : ℕ) → HasParts cells global plus 8 → 8 ≤ length cells
+pub address_within : (cells : List DataCell) (global plus : ℕ) → HasParts cells global plus 8 → 8 ≤ length cells
 address_within cells global plus h = let last : 7 < length cells = slice_get_within cells 7 (AddressPart global plus 7) (h 7 (omega arith)) in omega (arith, last)
 
 -- the first cells were put, one byte or the eight parts of an address
-pub byte_unit : (m new : Memory) (object at byte : ℕ) (cells : List Cell) → 0 < length cells → Byte byte ≡ get_or cells 0 (Byte byte) → Adds m new object at (cell.Byte byte ∷ []) → Adds m new object at (map memory_cell (take 1 cells))
+pub byte_unit : (m new : Memory) (object at byte : ℕ) (cells : List DataCell) → 0 < length cells → Byte byte ≡ get_or cells 0 (Byte byte) → Adds m new object at (cell.Byte byte ∷ []) → Adds m new object at (map memory_cell (take 1 cells))
 byte_unit m new object at byte cells some read a = subst (Adds m new object at) (row cells some read) a
   where
-    row : (cs : List Cell) → 0 < length cs → Byte byte ≡ get_or cs 0 (Byte byte) → cell.Byte byte ∷ [] ≡ map memory_cell (take 1 cs)
+    row : (cs : List DataCell) → 0 < length cs → Byte byte ≡ get_or cs 0 (Byte byte) → cell.Byte byte ∷ [] ≡ map memory_cell (take 1 cs)
     row [] none r = absurd (omega (arith, none))
     row (c ∷ cs) there r = ap (λ x. memory_cell x ∷ []) r
 
-pub address_unit_adds : (m new : Memory) (object at : ℕ) (cells : List Cell) (global plus : ℕ) (offset : ℤ) → HasParts cells global plus 8 → offset ≡ pos plus → Adds m new object at (parts_of (record { object = global; offset = offset })) → Adds m new object at (map memory_cell (take 8 cells))
+pub address_unit_adds : (m new : Memory) (object at : ℕ) (cells : List DataCell) (global plus : ℕ) (offset : ℤ) → HasParts cells global plus 8 → offset ≡ pos plus → Adds m new object at (parts_of (record { object = global; offset = offset })) → Adds m new object at (map memory_cell (take 8 cells))
 address_unit_adds m new object at cells global plus offset h o a =
     subst (Adds m new object at) (ap (λ z. parts_of (record { object = global; offset = z })) o ∙ address_unit cells global plus h) a

@@ -8,7 +8,7 @@ ghost use Rattle.vm_meaning.specs.Operations as operations;
 use crate::numbers::{binary_in, compare_in};
 use c_arithmetic::integer_type::IntegerType;
 use mem_model::value::Value;
-use suifvm_ir::insn::{BinaryOp, CompareOp};
+use suifvm_ir::insn::{CompareOp, VmBinaryOp};
 use suifvm_ir::types::VmType;
 use vm_meaning::answer::Answer;
 
@@ -30,7 +30,7 @@ pub fn given_word(answer: Answer) -> Option<u64>
 
 /// The word that an operation on two numbers gives, if it gives one.
 #[inline(always)]
-pub fn binary_word(op: BinaryOp, ty: VmType, a: u64, b: u64) -> Option<u64>
+pub fn binary_word(op: VmBinaryOp, ty: VmType, a: u64, b: u64) -> Option<u64>
     ensures { IfSome result (λ word. (memory : Memory) →
         operations.binary_answer memory op ty (Value.Word a) (Value.Word b) ≡ Answer.Gives (Value.Word word)) }
 {

@@ -8,7 +8,7 @@ use c_arithmetic::comparison::truth;
 use c_arithmetic::integer_type::IntegerType;
 use c_arithmetic::outcome::ArithmeticOutcome;
 use mem_model::value::Value;
-use suifvm_ir::insn::{BinaryOp, CompareOp, ShiftOp, UnaryOp};
+use suifvm_ir::insn::{CompareOp, ShiftOp, VmBinaryOp, VmUnaryOp};
 use suifvm_ir::types::{MemoryType, VmType};
 use vm_meaning::answer::Answer;
 
@@ -86,19 +86,19 @@ fn of_outcome(outcome: ArithmeticOutcome) -> Answer
 
 /// An operation on one number.
 #[inline(always)]
-fn unary_number(op: UnaryOp, t: IntegerType, word: u64) -> Answer
+fn unary_number(op: VmUnaryOp, t: IntegerType, word: u64) -> Answer
     ensures { result ≡ operations.unary_number op t word }
 {
     match op {
-        UnaryOp::Move => Answer::Gives(Value::Word(word)),
-        UnaryOp::Negate => of_outcome(t.negate(word)),
-        UnaryOp::Complement => Answer::Gives(Value::Word(t.complement(word))),
+        VmUnaryOp::Move => Answer::Gives(Value::Word(word)),
+        VmUnaryOp::Negate => of_outcome(t.negate(word)),
+        VmUnaryOp::Complement => Answer::Gives(Value::Word(t.complement(word))),
     }
 }
 
 /// An operation on the value of a register of numbers.
 #[inline(always)]
-fn unary_in(op: UnaryOp, t: IntegerType, value: Value) -> Answer
+fn unary_in(op: VmUnaryOp, t: IntegerType, value: Value) -> Answer
     ensures { result ≡ operations.on_number (Some t) value (operations.unary_number op) }
 {
     match value {
@@ -114,19 +114,19 @@ fn unary_in(op: UnaryOp, t: IntegerType, value: Value) -> Answer
 
 /// An operation on the value of a register of pointers.
 #[inline(always)]
-fn unary_pointer(op: UnaryOp, value: Value) -> Answer
+fn unary_pointer(op: VmUnaryOp, value: Value) -> Answer
     ensures { result ≡ operations.unary_pointer op value }
 {
     match op {
-        UnaryOp::Move => when_value(VmType::P64, value),
-        UnaryOp::Negate => Answer::Fails,
-        UnaryOp::Complement => Answer::Fails,
+        VmUnaryOp::Move => when_value(VmType::P64, value),
+        VmUnaryOp::Negate => Answer::Fails,
+        VmUnaryOp::Complement => Answer::Fails,
     }
 }
 
 /// `mov`, `neg`, `not`.
 #[inline(always)]
-pub fn unary(op: UnaryOp, ty: VmType, value: Value) -> Answer
+pub fn unary(op: VmUnaryOp, ty: VmType, value: Value) -> Answer
     ensures { result ≡ operations.unary_answer op ty value }
 {
     match ty {
@@ -166,18 +166,18 @@ pub fn convert(from: MemoryType, to: VmType, value: Value) -> Answer
 
 /// An operation on two numbers.
 #[inline(always)]
-fn binary_number(op: BinaryOp, t: IntegerType, a: u64, b: u64) -> Answer
+fn binary_number(op: VmBinaryOp, t: IntegerType, a: u64, b: u64) -> Answer
     ensures { result ≡ operations.binary_number op t a b }
 {
     match op {
-        BinaryOp::Add => of_outcome(t.add(a, b)),
-        BinaryOp::Subtract => of_outcome(t.subtract(a, b)),
-        BinaryOp::Multiply => of_outcome(t.multiply(a, b)),
-        BinaryOp::Divide => of_outcome(t.divide(a, b)),
-        BinaryOp::Remainder => of_outcome(t.remainder(a, b)),
-        BinaryOp::And => Answer::Gives(Value::Word(t.and(a, b))),
-        BinaryOp::Or => Answer::Gives(Value::Word(t.or(a, b))),
-        BinaryOp::ExclusiveOr => Answer::Gives(Value::Word(t.exclusive_or(a, b))),
+        VmBinaryOp::Add => of_outcome(t.add(a, b)),
+        VmBinaryOp::Subtract => of_outcome(t.subtract(a, b)),
+        VmBinaryOp::Multiply => of_outcome(t.multiply(a, b)),
+        VmBinaryOp::Divide => of_outcome(t.divide(a, b)),
+        VmBinaryOp::Remainder => of_outcome(t.remainder(a, b)),
+        VmBinaryOp::And => Answer::Gives(Value::Word(t.and(a, b))),
+        VmBinaryOp::Or => Answer::Gives(Value::Word(t.or(a, b))),
+        VmBinaryOp::ExclusiveOr => Answer::Gives(Value::Word(t.exclusive_or(a, b))),
     }
 }
 
@@ -196,7 +196,7 @@ fn word_in(t: IntegerType, value: Value) -> Option<u64>
 /// An operation on two registers of numbers.
 #[inline(always)]
 #[tactic(auto, using(crate::proofs::Words::on_two, crate::proofs::Words::on_first, crate::proofs::Words::on_second))]
-pub(crate) fn binary_in(op: BinaryOp, t: IntegerType, a: Value, b: Value) -> Answer
+pub(crate) fn binary_in(op: VmBinaryOp, t: IntegerType, a: Value, b: Value) -> Answer
     ensures { result ≡ operations.on_numbers (Some t) a b (operations.binary_number op) }
 {
     let Some(first) = word_in(t, a) else {

@@ -13,7 +13,7 @@ use c_arithmetic::integer_type::IntegerType;
 use mem_model::memory::Mem;
 use mem_model::value::{MemFault, Ptr, Value};
 use std::alloc::AllocError;
-use suifvm_ir::function::Object;
+use suifvm_ir::function::MemoryLocal;
 use suifvm_ir::types::{Alignment, MemoryType};
 use vm_meaning::answer::Answer;
 
@@ -195,7 +195,7 @@ pub(crate) fn begin_object(memory: &mut Mem, size: u64, writable: bool) -> Resul
 
 /// Makes the objects of a call. Where memory is short, some are made.
 #[tactic(auto, using(crate::proofs::Lives::begin_next, crate::proofs::Lives::begin_end))]
-pub fn begin_objects(memory: &mut Mem, objects: &[Object]) -> Result<(), AllocError>
+pub fn begin_objects(memory: &mut Mem, objects: &[MemoryLocal]) -> Result<(), AllocError>
     requires { IsTidy memory.old }
     ensures ok { OnOk result (memory.new ≡ mem.begin_objects memory.old (map (λ o. o.size) objects.now)) }
     ensures tidy { IsTidy memory.new }

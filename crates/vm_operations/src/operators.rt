@@ -10,12 +10,12 @@ use c_arithmetic::comparison::truth;
 use c_arithmetic::integer_type::IntegerType;
 use mem_model::memory::Mem;
 use mem_model::value::Value;
-use suifvm_ir::insn::{BinaryOp, CompareOp};
+use suifvm_ir::insn::{CompareOp, VmBinaryOp};
 use suifvm_ir::types::VmType;
 use vm_meaning::answer::Answer;
 
 /// `add`, `sub`, `mul`, `div`, `rem`, `and`, `ior`, `xor`.
-pub fn binary(memory: &Mem, op: BinaryOp, ty: VmType, a: Value, b: Value) -> Answer
+pub fn binary(memory: &Mem, op: VmBinaryOp, ty: VmType, a: Value, b: Value) -> Answer
     requires { IsTidy memory.now }
     ensures { result ≡ operations.binary_answer memory.now op ty a b }
 {

@@ -10,7 +10,7 @@ ghost use Rattle.vm_meaning.specs.Operations as operations;
 
 use mem_model::memory::Mem;
 use mem_model::value::{Ptr, Value};
-use suifvm_ir::insn::{BinaryOp, CompareOp};
+use suifvm_ir::insn::{CompareOp, VmBinaryOp};
 use vm_meaning::answer::Answer;
 
 /// The word of an `s64`, as a number.
@@ -124,7 +124,7 @@ fn answer_of(value: Option<Value>) -> Answer
 /// A sum of a pointer and bytes.
 fn sum(memory: &Mem, a: Value, b: Value) -> Answer
     requires { IsTidy memory.now }
-    ensures { result ≡ operations.pointer_answer memory.now BinaryOp.Add a b }
+    ensures { result ≡ operations.pointer_answer memory.now VmBinaryOp.Add a b }
 {
     match b {
         Value::Word(word) => answer_of(pointer_plus(memory, a, number_of(word))),
@@ -134,19 +134,19 @@ fn sum(memory: &Mem, a: Value, b: Value) -> Answer
 }
 
 /// An operation on two registers of pointers.
-pub(crate) fn pointer_answer(memory: &Mem, op: BinaryOp, a: Value, b: Value) -> Answer
+pub(crate) fn pointer_answer(memory: &Mem, op: VmBinaryOp, a: Value, b: Value) -> Answer
     requires { IsTidy memory.now }
     ensures { result ≡ operations.pointer_answer memory.now op a b }
 {
     match op {
-        BinaryOp::Add => sum(memory, a, b),
-        BinaryOp::Subtract => pointer_minus(memory, a, b),
-        BinaryOp::Multiply => Answer::Fails,
-        BinaryOp::Divide => Answer::Fails,
-        BinaryOp::Remainder => Answer::Fails,
-        BinaryOp::And => Answer::Fails,
-        BinaryOp::Or => Answer::Fails,
-        BinaryOp::ExclusiveOr => Answer::Fails,
+        VmBinaryOp::Add => sum(memory, a, b),
+        VmBinaryOp::Subtract => pointer_minus(memory, a, b),
+        VmBinaryOp::Multiply => Answer::Fails,
+        VmBinaryOp::Divide => Answer::Fails,
+        VmBinaryOp::Remainder => Answer::Fails,
+        VmBinaryOp::And => Answer::Fails,
+        VmBinaryOp::Or => Answer::Fails,
+        VmBinaryOp::ExclusiveOr => Answer::Fails,
     }
 }
 

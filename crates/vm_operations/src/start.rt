@@ -9,7 +9,7 @@ ghost use Rattle.vm_operations.specs.model.Fills.{Adds};
 ghost use Rattle.vm_operations.specs.model.Units.{HasParts};
 
 use crate::objects::begin_object;
-use data_object::{Cell, DataObject};
+use data_object::{DataCell, DataObject};
 use mem_model::memory::Mem;
 use mem_model::value::{Ptr, Value};
 use std::alloc::{AllocError, Global};
@@ -46,25 +46,25 @@ fn put_address(memory: &mut Mem, object: u64, at: u64, to: Ptr) -> Result<(), Al
 }
 
 /// Whether the cell with a number is that part of an address.
-fn is_part(cells: &[Cell], global: u32, plus: u64, part: u8) -> bool
-    ensures { result ≡ true → slice_get cells.now part ≡ Some (Cell.AddressPart global plus part) }
+fn is_part(cells: &[DataCell], global: u32, plus: u64, part: u8) -> bool
+    ensures { result ≡ true → slice_get cells.now part ≡ Some (DataCell.AddressPart global plus part) }
 {
     match cells.get(part as usize) {
         Some(
-            Cell::AddressPart {
+            DataCell::AddressPart {
                 global: g,
                 plus: p,
                 part: k,
             },
         ) => *g == global && *p == plus && *k == part,
-        Some(Cell::Byte(_)) => false,
+        Some(DataCell::Byte(_)) => false,
         None => false,
     }
 }
 
 /// Whether the first eight cells are the parts of an address, in order.
 #[tactic(auto, using(crate::proofs::Units::parts_more))]
-fn is_whole(cells: &[Cell], global: u32, plus: u64) -> bool
+fn is_whole(cells: &[DataCell], global: u32, plus: u64) -> bool
     ensures { result ≡ true → HasParts cells.now global plus 8 }
 {
     for part in 0..8 {
@@ -80,7 +80,7 @@ fn put_whole(
     memory: &mut Mem,
     object: u64,
     at: u64,
-    cells: &[Cell],
+    cells: &[DataCell],
     global: u32,
     plus: u64,
 ) -> Result<(), AllocError>
@@ -105,7 +105,7 @@ fn put_whole(
 /// Puts the first cell into an object, or the first eight where they are an address, and answers how many it put. What
 /// begins with another part of an address is as for want of memory; no lawful object does.
 #[tactic(auto, using(crate::proofs::Units::byte_unit, crate::proofs::Units::address_within))]
-fn put_unit(memory: &mut Mem, object: u64, at: u64, cells: &[Cell]) -> Result<usize, AllocError>
+fn put_unit(memory: &mut Mem, object: u64, at: u64, cells: &[DataCell]) -> Result<usize, AllocError>
     requires tidy { IsTidy memory.old }
     requires some { 0 < length cells.now }
     ensures more { IfOk result (λ n. 0 < n) }
@@ -114,11 +114,11 @@ fn put_unit(memory: &mut Mem, object: u64, at: u64, cells: &[Cell]) -> Result<us
         (λ n. Adds memory.old memory.new object at (map starts.memory_cell (take n cells.now))) }
 {
     match cells[0] {
-        Cell::Byte(byte) => {
+        DataCell::Byte(byte) => {
             put_byte(memory, object, at, byte)?;
             Ok(1)
         }
-        Cell::AddressPart { global, plus, .. } => {
+        DataCell::AddressPart { global, plus, .. } => {
             put_whole(memory, object, at, cells, global, plus)?;
             Ok(8)
         }
@@ -126,7 +126,7 @@ fn put_unit(memory: &mut Mem, object: u64, at: u64, cells: &[Cell]) -> Result<us
 }
 
 /// The cells from a place on.
-fn cells_from(cells: &[Cell], at: usize) -> &[Cell]
+fn cells_from(cells: &[DataCell], at: usize) -> &[DataCell]
     requires { at ≤ length cells.now }
     ensures { result.now ≡ drop at cells.now }
 {
@@ -135,7 +135,7 @@ fn cells_from(cells: &[Cell], at: usize) -> &[Cell]
 
 /// Puts cells into an object, from its front on.
 #[tactic(auto, using(crate::proofs::Fills::adds_nothing, crate::proofs::Loops::cells_all))]
-fn put_cells(memory: &mut Mem, object: u64, cells: &[Cell]) -> Result<(), AllocError>
+fn put_cells(memory: &mut Mem, object: u64, cells: &[DataCell]) -> Result<(), AllocError>
     requires { IsTidy memory.old }
     ensures { OnOk result (Adds memory.old memory.new object 0 (map starts.memory_cell cells.now)) }
 {

@@ -8,7 +8,7 @@ use row_sheets::number::{number, numbers};
 use std::alloc::Global;
 use suifvm_ir::vm_text;
 use suifvm_run::{VmEnding, run_vm};
-use vm_texts::reader::Reader;
+use vm_texts::reader::VmReader;
 
 /// The most bytes that a run may write.
 const ROOM: u64 = 65_536;
@@ -81,7 +81,7 @@ pub fn answer(alloc: Global, given: &str) -> Result<Vec<u8>> {
         failing_puts: Vec::new(alloc),
         turns: 1000,
     };
-    let mut reader = Reader::new(alloc, names_of(alloc, given)?);
+    let mut reader = VmReader::new(alloc, names_of(alloc, given)?);
     for line in given.lines() {
         let (word, rest) = line.split_once(' ').unwrap_or((line, ""));
         if !outside.take(alloc, word, rest)? {

@@ -6,11 +6,11 @@ use anyhow::{Result, ensure};
 use std::alloc::Global;
 use temp_ir::temp_text;
 use vm_checks::size::is_small;
-use vm_texts::reader::Reader;
+use vm_texts::reader::VmReader;
 
 /// The text of the program that is selected for that of a row.
 pub fn answer(alloc: Global, given: &str) -> Result<Vec<u8>> {
-    let mut reader = Reader::new(alloc, names_of(alloc, given)?);
+    let mut reader = VmReader::new(alloc, names_of(alloc, given)?);
     for line in given.lines() {
         if line != "select" {
             reader.take(line)?;

@@ -9,7 +9,7 @@ use std::alloc::Global;
 use suifvm_ir::program::VmProgram;
 use suifvm_run::VmEnding;
 use temp_checks::is_settled;
-use temp_machine::machine::{Ending, Machine};
+use temp_machine::machine::{TempEnding, TempMachine};
 use vm_checks::size::is_small;
 
 /// What a run over virtual registers took and came to.
@@ -22,11 +22,12 @@ pub struct Run<'a> {
 }
 
 /// Whether a run over temporaries ends as that over virtual registers.
-fn is_same(ending: Ending, due: &VmEnding) -> bool {
+fn is_same(ending: TempEnding, due: &VmEnding) -> bool {
     match (ending, due) {
-        (Ending::Done(status), VmEnding::Ended { status: other }) => status == u64::from(*other),
-        (Ending::Trap(code), VmEnding::Trapped { code: other }) => code == *other,
-        (Ending::More, VmEnding::Budget { .. }) => true,
+        (TempEnding::Done(status), VmEnding::Ended { status: other }) => status
+            == u64::from(*other),
+        (TempEnding::Trap(code), VmEnding::Trapped { code: other }) => code == *other,
+        (TempEnding::More, VmEnding::Budget { .. }) => true,
         _ => false,
     }
 }
@@ -41,7 +42,7 @@ fn put_difference(
     run: &Run<'_>,
 ) -> Result<()> {
     let input = Vec::from_slice(alloc, run.input)?;
-    let mut machine = Machine::new(alloc, allocations, globals, is_placed, input, run.turns)?;
+    let mut machine = TempMachine::new(alloc, allocations, globals, is_placed, input, run.turns)?;
     let ending = machine.run()?;
     if is_same(ending, &run.ending) && machine.output.as_slice() == run.output {
         return Ok(());

@@ -5,8 +5,8 @@ use crate::words::{alignment, binary, builtin, comparison, shift, unary};
 use anyhow::{Context, Result, bail};
 use row_sheets::number::number;
 use std::alloc::Global;
-use suifvm_ir::insn::{BranchOp, Callee, Place, TypedRegister, VmInsn};
-use suifvm_ir::operands::Operands;
+use suifvm_ir::insn::{TypedRegister, VmBranchOp, VmCallee, VmInsn, VmObject};
+use suifvm_ir::operands::ArgumentRegisters;
 
 /// An operation with a type on registers, if it is one.
 fn operation(line: &Line<'_>) -> Result<Option<VmInsn>> {
@@ -52,8 +52,8 @@ fn operation(line: &Line<'_>) -> Result<Option<VmInsn>> {
 fn address(line: &Line<'_>) -> Result<VmInsn> {
     let (name, plus) = line.operand(1)?.split_once('+').context("no `+`")?;
     let place = match global(name) {
-        Some(global) => Place::Global(global),
-        None => Place::Local(local(name)?),
+        Some(global) => VmObject::Global(global),
+        None => VmObject::Local(local(name)?),
     };
     Ok(VmInsn::LoadAddress {
         destination: line.register(0)?,
@@ -63,15 +63,15 @@ fn address(line: &Line<'_>) -> Result<VmInsn> {
 }
 
 /// What is called.
-fn callee(names: &[String], name: &str) -> Result<Callee> {
+fn callee(names: &[String], name: &str) -> Result<VmCallee> {
     if let Some(builtin) = builtin(name) {
-        return Ok(Callee::Builtin(builtin));
+        return Ok(VmCallee::Builtin(builtin));
     }
     let at = names
         .iter()
         .position(|other| other.as_str() == name)
         .context(format_args!("no function {name:?}"))?;
-    Ok(Callee::Function(u32::try_from(at)?))
+    Ok(VmCallee::Function(u32::try_from(at)?))
 }
 
 /// A call.
@@ -80,7 +80,7 @@ fn call(alloc: Global, names: &[String], line: &Line<'_>) -> Result<VmInsn> {
         "-" => None,
         text => Some(register(text)?),
     };
-    let mut arguments = Operands::new(alloc);
+    let mut arguments = ArgumentRegisters::new(alloc);
     for at in 2..line.count() {
         arguments.push(line.register(at)?)?;
     }
@@ -105,7 +105,7 @@ fn return_of(line: &Line<'_>) -> Result<VmInsn> {
 }
 
 /// A branch.
-fn branch(op: BranchOp, line: &Line<'_>) -> Result<VmInsn> {
+fn branch(op: VmBranchOp, line: &Line<'_>) -> Result<VmInsn> {
     Ok(VmInsn::Branch {
         op,
         ty: line.ty(0)?,
@@ -158,8 +158,8 @@ pub fn insn(alloc: Global, names: &[String], text: &str) -> Result<VmInsn> {
             destination: line.register(0)?,
             source: line.register(1)?,
         }),
-        "btrue" => branch(BranchOp::IfTrue, &line),
-        "bfalse" => branch(BranchOp::IfFalse, &line),
+        "btrue" => branch(VmBranchOp::IfTrue, &line),
+        "bfalse" => branch(VmBranchOp::IfFalse, &line),
         "jmp" => Ok(VmInsn::Jump {
             block: line.block(0)?,
         }),

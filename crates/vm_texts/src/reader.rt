@@ -3,19 +3,19 @@
 use crate::insns::insn;
 use anyhow::{Context, Result, bail};
 use c_tree::{Name, Seq};
-use data_object::{Cell, DataObject, data_end, next_place};
+use data_object::{DataCell, DataObject, data_end, next_place};
 use function_checks::{Parts, function_of};
 use row_sheets::escape::unescape;
 use row_sheets::number::number;
 use std::alloc::Global;
-use suifvm_ir::function::{Func, Object};
+use suifvm_ir::function::{Func, MemoryLocal};
 use suifvm_ir::insn::VmInsn;
 use suifvm_ir::program::VmProgram;
 use vm_checks::program::program_of;
 
 /// A program as far as its text was read.
 #[derive(Drop)]
-pub struct Reader {
+pub struct VmReader {
     alloc: Global,
     names: Vec<String>,
     functions: Seq<Func<VmInsn>>,
@@ -28,10 +28,10 @@ fn small(text: &str) -> Result<u32> {
     Ok(u32::try_from(number(text)?)?)
 }
 
-impl Reader {
+impl VmReader {
     /// A program whose text names these functions, and nothing of it yet.
-    pub fn new(alloc: Global, names: Vec<String>) -> Reader {
-        Reader {
+    pub fn new(alloc: Global, names: Vec<String>) -> VmReader {
+        VmReader {
             alloc,
             names,
             functions: Seq::new(alloc),
@@ -70,7 +70,7 @@ impl Reader {
         let writable = words.next() == Some("writable");
         let mut cells = Seq::new(self.alloc);
         for byte in &unescape(self.alloc, words.next().unwrap_or(""))? {
-            cells.push(Cell::Byte(*byte))?;
+            cells.push(DataCell::Byte(*byte))?;
         }
         let end = data_end(self.globals.as_slice());
         if end > u64::from(u32::MAX) {
@@ -100,7 +100,7 @@ impl Reader {
             "registers" => self.parts()?.registers = small(rest)?,
             "object" => {
                 let (size, align) = rest.split_once(' ').context("no alignment")?;
-                let object = Object {
+                let object = MemoryLocal {
                     size: number(size)?,
                     align: small(align)?,
                 };
@@ -139,7 +139,7 @@ impl Reader {
     pub fn program(self) -> Result<VmProgram> {
         let mut reader = self;
         reader.end_function()?;
-        let Reader {
+        let VmReader {
             functions,
             globals,
             ..

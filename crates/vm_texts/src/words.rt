@@ -1,7 +1,7 @@
 //! The words of instructions.
 
 use anyhow::{Result, bail};
-use suifvm_ir::insn::{BinaryOp, Builtin, CompareOp, ShiftOp, UnaryOp};
+use suifvm_ir::insn::{CompareOp, ShiftOp, VmBinaryOp, VmBuiltin, VmUnaryOp};
 use suifvm_ir::types::{Alignment, MemoryType, VmType};
 
 /// A type of registers.
@@ -44,26 +44,26 @@ pub fn alignment(bytes: u64) -> Result<Alignment> {
 }
 
 /// An operation on one register, if it is one.
-pub fn unary(word: &str) -> Option<UnaryOp> {
+pub fn unary(word: &str) -> Option<VmUnaryOp> {
     match word {
-        "mov" => Some(UnaryOp::Move),
-        "neg" => Some(UnaryOp::Negate),
-        "not" => Some(UnaryOp::Complement),
+        "mov" => Some(VmUnaryOp::Move),
+        "neg" => Some(VmUnaryOp::Negate),
+        "not" => Some(VmUnaryOp::Complement),
         _ => None,
     }
 }
 
 /// An operation on two registers, if it is one.
-pub fn binary(word: &str) -> Option<BinaryOp> {
+pub fn binary(word: &str) -> Option<VmBinaryOp> {
     match word {
-        "add" => Some(BinaryOp::Add),
-        "sub" => Some(BinaryOp::Subtract),
-        "mul" => Some(BinaryOp::Multiply),
-        "div" => Some(BinaryOp::Divide),
-        "rem" => Some(BinaryOp::Remainder),
-        "and" => Some(BinaryOp::And),
-        "ior" => Some(BinaryOp::Or),
-        "xor" => Some(BinaryOp::ExclusiveOr),
+        "add" => Some(VmBinaryOp::Add),
+        "sub" => Some(VmBinaryOp::Subtract),
+        "mul" => Some(VmBinaryOp::Multiply),
+        "div" => Some(VmBinaryOp::Divide),
+        "rem" => Some(VmBinaryOp::Remainder),
+        "and" => Some(VmBinaryOp::And),
+        "ior" => Some(VmBinaryOp::Or),
+        "xor" => Some(VmBinaryOp::ExclusiveOr),
         _ => None,
     }
 }
@@ -90,12 +90,12 @@ pub fn comparison(word: &str) -> Option<CompareOp> {
 }
 
 /// A built-in function, if it is one.
-pub fn builtin(word: &str) -> Option<Builtin> {
+pub fn builtin(word: &str) -> Option<VmBuiltin> {
     match word {
-        "putchar" => Some(Builtin::PutChar),
-        "getchar" => Some(Builtin::GetChar),
-        "abort" => Some(Builtin::Abort),
-        "exit" => Some(Builtin::Exit),
+        "putchar" => Some(VmBuiltin::PutChar),
+        "getchar" => Some(VmBuiltin::GetChar),
+        "abort" => Some(VmBuiltin::Abort),
+        "exit" => Some(VmBuiltin::Exit),
         _ => None,
     }
 }

@@ -2,7 +2,7 @@
 use Rattle.std.specs.Prelude.{◌≡◌, ℕ, Bool, true, false, ◌&&◌, ◌==◌, [], ◌∷◌, ◌++◌, IsTrue, IsFalse}
 use Rattle.alpha_isa.specs.Program.{Program}
 use Rattle.alpha_isa.specs.State.{State, register, with_register}
-use Rattle.alpha_isa.specs.Step.{Next, Over, next_instruction, pal_step, input_word, input_rest}
+use Rattle.alpha_isa.specs.Step.{MachineNext, Over, next_instruction, pal_step, input_word, input_rest}
 use Rattle.alpha_isa.specs.Step as step
 use Rattle.alpha_run.specs.Ending.{halt_is}
 use Rattle.alpha_run.specs.Services.{asks}

@@ -5,7 +5,7 @@ use Rattle.c_typed_tree.specs.declared.types.CType.{CType}
 use Rattle.c_initial_values.specs.Parts.{part_of}
 use Rattle.c_checks.specs.Checks.{and_then}
 use Rattle.c_judgements.specs.Types.{State}
-use Rattle.c_initialisers.specs.declared.lists.Items.{Items}
+use Rattle.c_initialisers.specs.declared.lists.InitialiserItems.{InitialiserItems}
 use Rattle.c_initialisers.specs.Unfit.{judge_init, is_whole_with}
 use Rattle.c_initialisers.specs.Values.{FillingState, beside}
 use Rattle.c_initialisers.specs.Initialisers.{initialise, if_part, counted_by, with_item, with_surplus}
@@ -14,11 +14,11 @@ abbrev pub judge_inits : List Init → (whole : Bool) → State → Bool × Stat
 judge_inits [] whole s = (whole, s)
 judge_inits (x ∷ xs) whole s = and_then (judge_init x s) (λ place. judge_inits xs (is_whole_with whole place))
 
-abbrev pub one_item : Init → CType → (place k : ℕ) → Items → FillingState → Items × FillingState
+abbrev pub one_item : Init → CType → (place k : ℕ) → InitialiserItems → FillingState → InitialiserItems × FillingState
 one_item x ty place k found s =
     if_part (part_of s.1.1.structs ty k) (counted_by with_surplus found (beside s.0 (judge_init x s.1)))
     (λ p. counted_by with_item found (initialise x p.ty (place + p.place) s))
 
-abbrev pub items_from : List Init → CType → (place k : ℕ) → Items → FillingState → Items × FillingState
+abbrev pub items_from : List Init → CType → (place k : ℕ) → InitialiserItems → FillingState → InitialiserItems × FillingState
 items_from [] ty place k found s = (found, s)
 items_from (x ∷ xs) ty place k found s = and_then (one_item x ty place k found s) (λ r. items_from xs ty place (k + 1) r)

@@ -3,7 +3,7 @@ use Rattle.std.specs.Prelude.{◌≡◌, ◌+◌, ◌<◌, ◌^◌, List, All, S
 use Rattle.suifvm_ir.specs.Functions.{count_of, last_of}
 use Rattle.temp_ir.specs.declared.insn.TempInsn.{TempInsn}
 use Rattle.temp_ir.specs.declared.insn.TempInsn.TheVariants.{Jump}
-use Rattle.frame_emitter.specs.declared.layout.Layout.{Layout}
+use Rattle.frame_emitter.specs.declared.layout.FrameLayout.{FrameLayout}
 use Rattle.frame_emitter.specs.Layouts.{setting_in}
 use Rattle.frame_emitter.specs.Settings.{IsFit}
 use Rattle.frame_emitter.specs.Moves.{IsMove}
@@ -13,7 +13,7 @@ abbrev pub GoesNext : List TempInsn → TempInsn → Type 0
 GoesNext insns (Jump target) = last_of insns ≡ Some (Jump target)
 GoesNext insns _ = Unit {0}
 
-pub record IsSound (l : Layout) : Type 0 where
+pub record IsSound (l : FrameLayout) : Type 0 where
   pub moves : All (All (IsMove l.allocation.now.func.temps)) l.allocation.now.at
   pub edge_moves : All (λ e. All (IsMove l.allocation.now.func.temps) e.code) l.allocation.now.edges
   pub registers : All (All (λ r. r < 32)) l.allocation.now.regs

@@ -2,7 +2,7 @@ use Rattle.std.proofs.Common.{◌≡◌, All, sym, ◌∙◌, subst, arith}
 use Rattle.data_object.specs.Globals.{AreLawful}
 use Rattle.suifvm_ir.specs.Functions.{AllInsns}
 use Rattle.suifvm_ir.specs.Programs.{VmFunction}
-use Rattle.temp_ir.specs.Programs.{IsLawfulFunction}
+use Rattle.temp_ir.specs.Programs.{IsLawfulTempFn}
 use Rattle.selection_code.specs.Fields.{HasFields}
 use Rattle.selection_laws.proofs.Keeps.{selected_programs}
 use Rattle.alpha_select.specs.Selection.{AreSelected}
@@ -18,7 +18,7 @@ invariant_of-result c =
       few_functions = omega (arith, same_length p.functions functions all, p.few_functions);
       globals_lawful = subst (λ g. ∥ AreLawful g ∥₁) (sym same) p.globals_lawful;
       one_main = same_mains p.functions functions all ∙ p.one_main;
-      functions_lawful = subst (λ g. All (IsLawfulFunction functions g) functions) (sym same) (all_lawful p.functions functions p.globals all p.functions_lawful);
+      functions_lawful = subst (λ g. All (IsLawfulTempFn functions g) functions) (sym same) (all_lawful p.functions functions p.globals all p.functions_lawful);
     }
 
 pub returns-clause-selected : goal.returns-clause-selected

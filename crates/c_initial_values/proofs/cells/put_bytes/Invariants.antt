@@ -1,5 +1,5 @@
 use Rattle.std.proofs.Common.{◌≡◌, ◌++◌, map, take}
-use Rattle.data_object.specs.declared.Cell.TheVariants.{Byte}
+use Rattle.data_object.specs.declared.DataCell.TheVariants.{Byte}
 use Rattle.c_initial_values.proofs.cells.put_bytes.Given as goal
 
 abbrev pub invariant-loop-byte : goal.invariant-loop-byte

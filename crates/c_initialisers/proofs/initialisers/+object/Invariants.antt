@@ -1,5 +1,5 @@
 use Rattle.std.proofs.Common.{◌≡◌, drop}
-use Rattle.c_initialisers.specs.declared.lists.Items.TheVariants.{Fitting}
+use Rattle.c_initialisers.specs.declared.lists.InitialiserItems.TheVariants.{Fitting}
 use Rattle.c_initialisers.specs.model.Parts.{items_from}
 use Rattle.c_initialisers.proofs.initialisers.+object.Given as goal
 

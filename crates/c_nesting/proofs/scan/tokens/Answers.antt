@@ -1,14 +1,14 @@
 use Rattle.std.proofs.Common.{◌≡◌, sym, ap, subst, arith}
 use Rattle.c_lexer.specs.Pieces.{Pieces, lexemes}
-use Rattle.c_lexer.specs.Steps.{Place}
+use Rattle.c_lexer.specs.Steps.{TextPlace}
 use Rattle.c_lexer.proofs.Whole.{walk_push, walk_end, walk_fault}
 use Rattle.c_nesting.proofs.Reading.{none_yet, walk_on, fault_told}
 use Rattle.c_nesting.proofs.scan.tokens.Goals as goal
 
 pub loop-tokens-init : goal.loop-tokens-init
 loop-tokens-init c =
-    let text : c.new-lexer.result.text ≡ c.args.text.now = ap (λ (p : Place). p.text) c.new-lexer.ensures in
-    let at : c.new-lexer.result.at ≡ 0 = ap (λ (p : Place). p.at) c.new-lexer.ensures in
+    let text : c.new-lexer.result.text ≡ c.args.text.now = ap (λ (p : TextPlace). p.text) c.new-lexer.ensures in
+    let at : c.new-lexer.result.at ≡ 0 = ap (λ (p : TextPlace). p.at) c.new-lexer.ensures in
     record {
       same_text = sym text;
       so_far = none_yet c.args.text.now c.new-lexer.result.at c.new-tokens.result.items at c.new-tokens.ensures.items;

@@ -1,5 +1,5 @@
 use Rattle.std.proofs.Common.{◌≡◌, ◌+◌, ◌++◌, ◌∷◌, [], ◌∙◌, length, get_or, ap, arith, length-append}
-use Rattle.suifvm_ir.specs.declared.function.Object.{Object}
+use Rattle.suifvm_ir.specs.declared.function.MemoryLocal.{MemoryLocal}
 use Rattle.frame_layout.proofs.Objects.{any_default, object_small, end_next, places_next}
 use Rattle.frame_layout.proofs.shape.object_places.Goals as goal
 
@@ -7,7 +7,7 @@ pub next_place-end-requires : goal.next_place-end-requires
 next_place-end-requires c =
     let xs = c.args.objects.now in
     let i = c.loop-object.object-index in
-    let d : Object = record { size = 0; align = 0 } in
+    let d : MemoryLocal = record { size = 0; align = 0 } in
     let x = get_or xs i d in
     let h = object_small xs i c.args.start c.loop-object.end x c.loop-object-test.true (any_default xs i d x c.loop-object-test.true)
     c.loop-object.invariant.1 c.requires.size c.requires.start in
@@ -17,7 +17,7 @@ pub overflow_add-end : goal.overflow_add-end
 overflow_add-end c =
     let xs = c.args.objects.now in
     let i = c.loop-object.object-index in
-    let d : Object = record { size = 0; align = 0 } in
+    let d : MemoryLocal = record { size = 0; align = 0 } in
     let x = get_or xs i d in
     let h = object_small xs i c.args.start c.loop-object.end x c.loop-object-test.true (any_default xs i d x c.loop-object-test.true)
     c.loop-object.invariant.1 c.requires.size c.requires.start in
@@ -27,7 +27,7 @@ pub loop-object-preserved : goal.loop-object-preserved
 loop-object-preserved c =
     let xs = c.args.objects.now in
     let i = c.loop-object.object-index in
-    let d : Object = record { size = 0; align = 0 } in
+    let d : MemoryLocal = record { size = 0; align = 0 } in
     let x = get_or xs i d in
     let is = any_default xs i d x c.loop-object-test.true in
     let one : i + 1 ≡ i + 1 = omega arith in

@@ -1,5 +1,5 @@
 use Rattle.std.proofs.Common.{◌≡◌, ℕ, ◌+◌, ◌<◌, slice_get, Some}
-use Rattle.data_object.specs.declared.Cell.TheVariants.{AddressPart}
+use Rattle.data_object.specs.declared.DataCell.TheVariants.{AddressPart}
 use Rattle.object_checks.proofs.objects.stands_whole.Given as goal
 
 abbrev pub invariant-loop-part : goal.invariant-loop-part
