@@ -6,6 +6,7 @@
 #![tactic(auto)]
 
 pub mod iter;
+mod link;
 pub mod list;
 mod node;
 

@@ -1,13 +1,29 @@
 //! The list.
 
-ghost use Rattle.std.specs.Prelude.{◌≡◌, ℕ, ◌+◌, ◌-◌, ◌<◌, ◌≤◌, ◌^◌, [], ◌∷◌, ◌++◌, max, IsOk, OnOk, OnErr};
+ghost use Rattle.std.specs.Prelude.{◌≡◌, ℕ, ◌+◌, ◌-◌, ◌<◌, ◌≤◌, ◌^◌, [], ◌∷◌, ◌++◌, length, max, vec_capacity, IsOk, OnOk, OnErr};
 ghost use Rattle.bk_ilist.specs.Listing.{first_id, last_id, HasId, AtId, IsListing};
 ghost use Rattle.bk_ilist.specs.model.Chain.{HasGap, AtGap};
 
 use crate::iter::Iter;
+use crate::link::Link;
 use crate::node::{Node, link_back, link_forward, node_item, swap_item};
 use std::alloc::{AllocError, Global};
 use std::marker::Model;
+
+/// Makes room for `k` more nodes. Where there is none yet, it takes room for no more than these, since many lists never
+/// grow; a list that grows takes room ahead.
+fn take_room<T>(nodes: &mut Vec<Node<T>>, k: usize) -> Result<(), AllocError>
+    ensures items { nodes.new.items ≡ nodes.old.items }
+    ensures ok { OnOk result (length nodes.new.items + k ≤ vec_capacity nodes.new) }
+    ensures capacity { vec_capacity nodes.old ≤ vec_capacity nodes.new }
+    ensures succeeds { length nodes.old.items + k ≤ vec_capacity nodes.old → IsOk result }
+{
+    if nodes.is_empty() {
+        nodes.reserve_exact(k)
+    } else {
+        nodes.reserve(k)
+    }
+}
 
 /// A list whose items have ids.
 #[derive(Debug, Drop)]
@@ -15,9 +31,9 @@ pub struct IndexList<T> {
     /// The nodes by id. Those without an item were unlinked.
     nodes: Vec<Node<T>>,
     /// The id of the first item.
-    first: Option<u32>,
+    first: Link,
     /// The id of the last item.
-    last: Option<u32>,
+    last: Link,
     /// For how many more nodes there is room. It counts no more of it than ids are left for.
     spare: u32,
 }
@@ -46,8 +62,8 @@ impl<T> IndexList<T> {
     {
         IndexList {
             nodes: Vec::new(alloc),
-            first: None,
-            last: None,
+            first: Link::to(None),
+            last: Link::to(None),
             spare: 0,
         }
     }
@@ -63,7 +79,7 @@ impl<T> IndexList<T> {
         if self.spare >= k {
             return Ok(());
         }
-        self.nodes.reserve(k as usize)?;
+        take_room(&mut self.nodes, k as usize)?;
         self.spare = k;
         Ok(())
     }
@@ -87,14 +103,14 @@ impl<T> IndexList<T> {
     pub fn first(&self) -> Option<u32>
         ensures { result ≡ first_id self.now.pairs }
     {
-        self.first
+        self.first.id()
     }
 
     /// The id of the last item.
     pub fn last(&self) -> Option<u32>
         ensures { result ≡ last_id self.now.pairs }
     {
-        self.last
+        self.last.id()
     }
 
     /// The id of the item behind this one.
@@ -102,7 +118,7 @@ impl<T> IndexList<T> {
         requires { HasId self.now.pairs id }
         ensures { AtId self.now.pairs id (λ before item after. result ≡ first_id after) }
     {
-        self.nodes[id as usize].next
+        self.nodes[id as usize].next.id()
     }
 
     /// The id of the item before this one.
@@ -110,7 +126,7 @@ impl<T> IndexList<T> {
         requires { HasId self.now.pairs id }
         ensures { AtId self.now.pairs id (λ before item after. result ≡ last_id before) }
     {
-        self.nodes[id as usize].prev
+        self.nodes[id as usize].prev.id()
     }
 
     /// The item of an id.
@@ -127,7 +143,7 @@ impl<T> IndexList<T> {
     {
         Iter {
             nodes: self.nodes.as_slice(),
-            at: self.first,
+            at: self.first.id(),
         }
     }
 
@@ -150,7 +166,7 @@ impl<T> IndexList<T> {
         ensures spare { self.old.spare ≡ self.new.spare + 1 }
         ensures made { self.new.made ≡ self.old.made + 1 }
     {
-        let prev = self.last;
+        let prev = self.last.id();
         self.insert_between(prev, None, item)
     }
 
@@ -164,7 +180,7 @@ impl<T> IndexList<T> {
         ensures spare { self.old.spare ≡ self.new.spare + 1 }
         ensures made { self.new.made ≡ self.old.made + 1 }
     {
-        let prev = self.nodes[id as usize].prev;
+        let prev = self.nodes[id as usize].prev.id();
         self.insert_between(prev, Some(id), item)
     }
 
@@ -178,7 +194,7 @@ impl<T> IndexList<T> {
         ensures spare { self.old.spare ≡ self.new.spare + 1 }
         ensures made { self.new.made ≡ self.old.made + 1 }
     {
-        let next = self.nodes[id as usize].next;
+        let next = self.nodes[id as usize].next.id();
         self.insert_between(Some(id), next, item)
     }
 
@@ -190,8 +206,8 @@ impl<T> IndexList<T> {
         ensures spare { self.new.spare ≡ self.old.spare }
         ensures made { self.new.made ≡ self.old.made }
     {
-        let prev = self.nodes[id as usize].prev;
-        let next = self.nodes[id as usize].next;
+        let prev = self.nodes[id as usize].prev.id();
+        let next = self.nodes[id as usize].next.id();
         let item = swap_item(&mut self.nodes, id, None);
         link_forward(&mut self.nodes, &mut self.first, prev, next);
         link_back(&mut self.nodes, &mut self.last, next, prev);
@@ -211,8 +227,8 @@ impl<T> IndexList<T> {
         let id = self.nodes.len() as u32;
         self.nodes.push_reserved(Node {
             item: Some(item),
-            next,
-            prev,
+            next: Link::to(next),
+            prev: Link::to(prev),
         });
         link_forward(&mut self.nodes, &mut self.first, prev, Some(id));
         link_back(&mut self.nodes, &mut self.last, next, Some(id));

@@ -1,49 +1,47 @@
 //! Nodes of a chain, and the writes to one link or item.
 
-ghost use Rattle.std.specs.Prelude.{◌≡◌, ℕ, ◌<◌, length, slice_get, Option, Some, IfSome, IsSome};
+ghost use Rattle.std.specs.Prelude.{◌≡◌, ℕ, ◌-◌, ◌<◌, ◌^◌, length, slice_get, Option, Some, IfSome, IsSome};
 ghost use Rattle.bk_ilist.specs.model.Chain.{with_item, with_next, with_prev, Changes, end_behind, item_of, next_of};
 
+use crate::link::Link;
 use std::mem;
 
 /// An item with its neighbours, or what is left of a node that was unlinked.
 #[derive(Debug, Drop)]
 pub(crate) struct Node<T> {
     pub(crate) item: Option<T>,
-    pub(crate) next: Option<u32>,
-    pub(crate) prev: Option<u32>,
+    pub(crate) next: Link,
+    pub(crate) prev: Link,
 }
 
 /// Makes `to` the next of the node `at`, or the first where there is no such node.
 pub(crate) fn link_forward<T>(
     nodes: &mut [Node<T>],
-    first: &mut Option<u32>,
+    first: &mut Link,
     at: Option<u32>,
     to: Option<u32>,
 )
-    requires { IfSome at (λ id. id < length nodes.old) }
+    requires node { IfSome at (λ id. id < length nodes.old) }
+    requires link { IfSome to (λ id. id < 2 ^ 32 - 1) }
     ensures nodes { Changes (with_next to) at nodes.old nodes.new }
     ensures first { first.new ≡ end_behind at to first.old }
 {
     match at {
-        Some(id) => nodes[id as usize].next = to,
-        None => *first = to,
+        Some(id) => nodes[id as usize].next = Link::to(to),
+        None => *first = Link::to(to),
     }
 }
 
 /// Makes `to` the one before the node `at`, or the last where there is no such node.
-pub(crate) fn link_back<T>(
-    nodes: &mut [Node<T>],
-    last: &mut Option<u32>,
-    at: Option<u32>,
-    to: Option<u32>,
-)
-    requires { IfSome at (λ id. id < length nodes.old) }
+pub(crate) fn link_back<T>(nodes: &mut [Node<T>], last: &mut Link, at: Option<u32>, to: Option<u32>)
+    requires node { IfSome at (λ id. id < length nodes.old) }
+    requires link { IfSome to (λ id. id < 2 ^ 32 - 1) }
     ensures nodes { Changes (with_prev to) at nodes.old nodes.new }
     ensures last { last.new ≡ end_behind at to last.old }
 {
     match at {
-        Some(id) => nodes[id as usize].prev = to,
-        None => *last = to,
+        Some(id) => nodes[id as usize].prev = Link::to(to),
+        None => *last = Link::to(to),
     }
 }
 
@@ -78,5 +76,5 @@ pub(crate) fn node_next<T>(nodes: &[Node<T>], id: u32) -> Option<u32>
     requires { id < length nodes.now }
     ensures { result ≡ next_of (slice_get nodes.now id) }
 {
-    nodes[id as usize].next
+    nodes[id as usize].next.id()
 }

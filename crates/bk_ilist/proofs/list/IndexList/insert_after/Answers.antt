@@ -15,12 +15,12 @@ insert_between-requires-clause-place g c =
       after = has.after;
       split = split_after _ has.before has.after (c.args.id, has.item) has.split;
       prev_is = last_of_push has.before (c.args.id, has.item);
-      next_is = next_read _ _ _ _ has.before has.after c.args.id has.item _ c.self.invariant.0 (pairs_same _ _ c.self.view_is) has.split c.index.ensures;
+      next_is = c.id-next.ensures.value ∙ next_read _ _ _ _ has.before has.after c.args.id has.item _ c.self.invariant.0 (pairs_same _ _ c.self.view_is) has.split c.index.ensures;
     }
 
 pub returns-clause-pairs : goal.returns-clause-pairs
 returns-clause-pairs g c before after item split =
     c.insert_between.ensures.pairs (before ++ (c.args.id, item) ∷ []) after (split_after _ before after (c.args.id, item) split)
     (last_of_push before (c.args.id, item))
-    (next_read _ _ _ _ before after c.args.id item _ c.self.invariant.0 (pairs_same _ _ c.self.view_is) split c.index.ensures)
+    (c.id-next.ensures.value ∙ next_read _ _ _ _ before after c.args.id item _ c.self.invariant.0 (pairs_same _ _ c.self.view_is) split c.index.ensures)
     ∙ append_assoc before ((c.args.id, item) ∷ []) ((c.insert_between.result, c.args.item) ∷ after)

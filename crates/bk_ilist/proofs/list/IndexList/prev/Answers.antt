@@ -1,4 +1,4 @@
-use Rattle.std.proofs.Common.{arith}
+use Rattle.std.proofs.Common.{arith, ◌∙◌}
 use Rattle.bk_ilist.proofs.Views.{pairs_same, within, prev_read}
 use Rattle.bk_ilist.proofs.list.IndexList.prev.Goals as goal
 
@@ -9,4 +9,4 @@ index-requires g c =
 
 pub returns : goal.returns
 returns g c before after item split =
-    prev_read _ _ _ _ before after c.args.id item _ c.self.invariant.0 (pairs_same _ _ c.self.view_is) split c.index.ensures
+    c.id.ensures.value ∙ prev_read _ _ _ _ before after c.args.id item _ c.self.invariant.0 (pairs_same _ _ c.self.view_is) split c.index.ensures

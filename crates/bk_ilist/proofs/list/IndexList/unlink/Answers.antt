@@ -22,22 +22,22 @@ pub swap_item-item-requires-clause-item : goal.swap_item-item-requires-clause-it
 swap_item-item-requires-clause-item g c =
     rw c.deref_mut.ensures.value (has_item _ _ _ _ _ c.self.invariant.0 (pairs_same _ _ c.self.view_is) c.requires)
 
-pub link_forward-requires : goal.link_forward-requires
-link_forward-requires g c =
+pub link_forward-requires-clause-node : goal.link_forward-requires-clause-node
+link_forward-requires-clause-node g c =
     let same = c.self.inside.nodes.ok in
-    prev_within _ _ _ _ c.args.id _ _ c.self.invariant.0 (pairs_same _ _ c.self.view_is) c.requires c.index.ensures (omega (arith, c.deref_mut-2.ensures.len))
+    rw c.id-prev.ensures.value (prev_within _ _ _ _ c.args.id _ _ c.self.invariant.0 (pairs_same _ _ c.self.view_is) c.requires c.index.ensures (omega (arith, c.deref_mut-2.ensures.len)))
 
-pub link_back-requires : goal.link_back-requires
-link_back-requires g c =
+pub link_back-requires-clause-node : goal.link_back-requires-clause-node
+link_back-requires-clause-node g c =
     let same = c.self.inside.nodes.ok in
-    next_within _ _ _ _ c.args.id _ _ c.self.invariant.0 (pairs_same _ _ c.self.view_is) c.requires c.index-2.ensures (omega (arith, c.deref_mut-3.ensures.len))
+    rw c.id-next.ensures.value (next_within _ _ _ _ c.args.id _ _ c.self.invariant.0 (pairs_same _ _ c.self.view_is) c.requires c.index-2.ensures (omega (arith, c.deref_mut-3.ensures.len)))
 
 pub invariant_of-self : goal.invariant_of-self
 invariant_of-self g c =
     let has = c.requires in
     let view = pairs_same _ _ c.self.view_is in
-    let prev = prev_read _ _ _ _ has.before has.after c.args.id has.item _ c.self.invariant.0 view has.split c.index.ensures in
-    let next = next_read _ _ _ _ has.before has.after c.args.id has.item _ c.self.invariant.0 view has.split c.index-2.ensures in
+    let prev = c.id-prev.ensures.value ∙ prev_read _ _ _ _ has.before has.after c.args.id has.item _ c.self.invariant.0 view has.split c.index.ensures in
+    let next = c.id-next.ensures.value ∙ next_read _ _ _ _ has.before has.after c.args.id has.item _ c.self.invariant.0 view has.split c.index-2.ensures in
     let done = unlinked _ _ _ _ _ _ _ _ _ _ _ _ _ _ _ has.before has.after c.args.id has.item c.self.invariant.0 (view ∙ has.split) prev next c.self.inside.nodes.ok.0 c.deref_mut.ensures.value c.swap_item-item.auto.nodes c.swap_item-item.ensures.nodes c.deref_mut-2.ensures.value c.link_forward.auto.nodes c.link_forward.ensures.nodes c.deref_mut-3.ensures.value c.link_back.auto.nodes c.link_back.ensures.nodes c.link_forward.ensures.first c.link_back.ensures.last in
     rw done.is (chain_read _ _ _ _ done.chain, omega (arith, done.same), omega (arith, done.same))
 
@@ -48,7 +48,7 @@ returns-clause-value g c before after item split =
 pub returns-clause-pairs : goal.returns-clause-pairs
 returns-clause-pairs g c before after item split =
     let view = pairs_same _ _ c.self.view_is in
-    let prev = prev_read _ _ _ _ before after c.args.id item _ c.self.invariant.0 view split c.index.ensures in
-    let next = next_read _ _ _ _ before after c.args.id item _ c.self.invariant.0 view split c.index-2.ensures in
+    let prev = c.id-prev.ensures.value ∙ prev_read _ _ _ _ before after c.args.id item _ c.self.invariant.0 view split c.index.ensures in
+    let next = c.id-next.ensures.value ∙ next_read _ _ _ _ before after c.args.id item _ c.self.invariant.0 view split c.index-2.ensures in
     let done = unlinked _ _ _ _ _ _ _ _ _ _ _ _ _ _ _ before after c.args.id item c.self.invariant.0 (view ∙ split) prev next c.self.inside.nodes.ok.0 c.deref_mut.ensures.value c.swap_item-item.auto.nodes c.swap_item-item.ensures.nodes c.deref_mut-2.ensures.value c.link_forward.auto.nodes c.link_forward.ensures.nodes c.deref_mut-3.ensures.value c.link_back.auto.nodes c.link_back.ensures.nodes c.link_forward.ensures.first c.link_back.ensures.last in
     rw done.is (pairs_from-chain _ _ _ _ done.chain)
