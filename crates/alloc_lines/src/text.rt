@@ -167,8 +167,8 @@ pub fn put_allocation(out: &mut Vec<u8>, first: u64, a: &Allocation) -> Result<u
 }
 
 /// The text of an allocation: the function's name; for each block the places at its top, each instruction with its
-/// number and registers behind the transfers before it, and the places at its bottom; then each edge with its transfers.
-/// It fails only where memory is short.
+/// number and registers behind the transfers before it, and the places at its bottom; then each edge with its
+/// transfers. It fails only where memory is short.
 pub fn alloc_text(alloc: Global, a: &Allocation) -> Result<Vec<u8>, AllocError>
     ensures { IfOk result (λ bytes. bytes.items ≡ text.allocation_text 0 a.now) }
 {

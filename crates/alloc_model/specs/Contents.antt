@@ -161,7 +161,8 @@ unless_fault (Some fault) answer = None
 
 abbrev pub content_in : Memory → LoadOp → Ptr → Option Content
 content_in m op p =
-    unless_fault (read_fault m p (load_width op) (load_width op)) (extended_content op (content_of (row_at m p (load_width op))))
+    unless_fault (read_fault m p (load_width op) (load_width op))
+    (extended_content op (content_of (row_at m p (load_width op))))
 
 -- a load through a pointer that is moved by so many bytes
 abbrev pub loaded_content : Memory → LoadOp → (pointer : Content) → (plus : ℤ) → Option Content

@@ -1,5 +1,5 @@
--- What each instruction does with what it reads, in order, wherever that stands: temporaries, then fixed registers, then
--- argument places.
+-- What each instruction does with what it reads, in order, wherever that stands: temporaries, then fixed registers,
+-- then argument places.
 use Rattle.std.specs.Prelude.{ℕ, ◌+◌, ◌-◌, ◌%◌, ◌==◌, nat_lt, ◌&&◌, max, Option, Some, None, Bool, true, false, List, [], ◌∷◌, ◌++◌, map, pos, slice_index_or, if◌then◌else◌}
 use Rattle.std.specs.List.{range_with_len}
 use Rattle.std.specs.Int.{w32}
@@ -217,8 +217,8 @@ abbrev pub widest_call : List (List TempInsn) → ℕ
 widest_call [] = 0
 widest_call (block ∷ blocks) = max (widest_in block) (widest_call blocks)
 
--- ---- one clause for each instruction, in a function with a widest call. Moves to and from fixed registers and argument
--- places, the passing of arguments and that of a result hand over whatever is held
+-- ---- one clause for each instruction, in a function with a widest call. Moves to and from fixed registers and
+-- argument places, the passing of arguments and that of a result hand over whatever is held
 
 abbrev pub does : (widest : ℕ) → TempInsn → (own : ℕ) → List Content → Outer → Act Content
 does widest (i.Address op destination base plus) own cs o =

@@ -113,7 +113,8 @@ pub record TemporaryExamplesRun : Type 0 where
   -- nothing was written
   pub unset : run_block (set 0 1 ∷ Operate Addq 1 (s.Temp 0) (o.Temp 2) ∷ return 1) [] 0 ≡ ShowsUndefined 1 []
   -- a byte of an object of static storage with its sign, one past its end, and a pointer that leaves it
-  pub loads : run_functions (function [] ((ObjectAddress 0 (Global 0) 0 ∷ Load Ldbu 1 0 (pos 1) ∷ Extend Sextb 2 (o.Temp 1)
+  pub loads : run_functions
+      (function [] ((ObjectAddress 0 (Global 0) 0 ∷ Load Ldbu 1 0 (pos 1) ∷ Extend Sextb 2 (o.Temp 1)
       ∷ Operate Addq 3 (s.Temp 2) (o.Literal 10) ∷ return 3) ∷ []) ∷ []) (object ∷ []) [] 0 ≡ ShowsDone 9 []
   pub loads_outside : run_functions (function [] ((ObjectAddress 0 (Global 0) 8 ∷ Load Ldbu 1 0 (pos 0) ∷ return 1)
       ∷ []) ∷ []) (object ∷ []) [] 0 ≡ ShowsUndefined 1 []
@@ -131,7 +132,8 @@ pub record TemporaryExamplesRun : Type 0 where
       ∷ Operate Addq 4 (s.Temp 3) (o.Literal 1) ∷ return 4) ∷ []) ∷ []) [] [] 0 ≡ ShowsUndefined 2 []
   -- seven arguments, of which the last stands in a place; one place more was not given
   pub calls : run_functions (function [] ((set 0 5 ∷ set 1 9 ∷ ToFixed Argument0 0 ∷ SetFixed Argument1 (pos 0)
-      ∷ SetFixed Argument2 (pos 0) ∷ SetFixed Argument3 (pos 0) ∷ SetFixed Argument4 (pos 0) ∷ SetFixed Argument5 (pos 0)
+      ∷ SetFixed Argument2 (pos 0) ∷ SetFixed Argument3 (pos 0) ∷ SetFixed Argument4 (pos 0)
+      ∷ SetFixed Argument5 (pos 0)
       ∷ WriteArgument 0 1 ∷ Call 1 7 ∷ FromFixed 2 Value ∷ return 2) ∷ [])
       ∷ function [] ((FromFixed 0 Argument0 ∷ ReadArgument 1 0 ∷ Operate Mulq 2 (s.Temp 0) (o.Temp 1) ∷ return 2) ∷ [])
       ∷ []) [] [] 1 ≡ ShowsDone 45 []
@@ -140,7 +142,8 @@ pub record TemporaryExamplesRun : Type 0 where
   pub too_wide : run_functions (function [] ((set 0 5 ∷ WriteArgument 0 0 ∷ Call 1 6 ∷ []) ∷ []) ∷ []) [] [] 1
       ≡ ShowsUndefined 1 []
   -- a function that returns nothing
-  pub returns_nothing : run_functions (function [] ((Call 1 0 ∷ FromFixed 0 Value ∷ Operate Addq 1 (s.Temp 0) (o.Literal 1)
+  pub returns_nothing : run_functions
+      (function [] ((Call 1 0 ∷ FromFixed 0 Value ∷ Operate Addq 1 (s.Temp 0) (o.Literal 1)
       ∷ return 1) ∷ []) ∷ function [] ((Return false ∷ []) ∷ []) ∷ []) [] [] 1 ≡ ShowsUndefined 2 []
 
 -- ---- over registers and slots
@@ -197,7 +200,8 @@ run_swapped code =
 pub record PlacementsRun : Type 0 where
   -- each temporary in a register of its own, and each in its slot between the instructions
   pub registers : run_plans (sum_in_registers ∷ []) 0 ≡ ShowsDone 12 []
-  pub slots : run_sum ([] ∷ (x.Store 0 1 ∷ []) ∷ (x.Store 1 1 ∷ x.Load 0 1 ∷ x.Load 1 2 ∷ []) ∷ (x.Store 2 1 ∷ x.Load 2 1
+  pub slots : run_sum ([] ∷ (x.Store 0 1 ∷ []) ∷ (x.Store 1 1 ∷ x.Load 0 1 ∷ x.Load 1 2 ∷ [])
+      ∷ (x.Store 2 1 ∷ x.Load 2 1
       ∷ []) ∷ []) ((1 ∷ []) ∷ (1 ∷ []) ∷ (1 ∷ 2 ∷ 1 ∷ []) ∷ (1 ∷ []) ∷ [] ∷ []) ≡ ShowsDone 12 []
   -- a store is forgotten; a load stands before the store; a register is taken while its temporary is wanted
   pub no_store : run_sum ([] ∷ (x.Store 0 1 ∷ []) ∷ (x.Load 0 1 ∷ x.Load 1 2 ∷ []) ∷ []) ((1 ∷ []) ∷ (1 ∷ [])

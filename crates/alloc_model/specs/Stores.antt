@@ -1,4 +1,5 @@
--- What keeps the contents of a call: a content for each key, be it a temporary or a place. Keys have a test of equality.
+-- What keeps the contents of a call: a content for each key, be it a temporary or a place. Keys have a test of
+-- equality.
 use Rattle.std.specs.Prelude.{Bool, List, [], ◌∷◌, drop, if◌then◌else◌}
 use Rattle.alloc_model.specs.Contents.{Content, unset}
 

@@ -59,7 +59,8 @@ numbers =
 abbrev pub gives_eight : List (List TempInsn)
 gives_eight =
     (SetFixed Argument0 (pos 0) ∷ SetFixed Argument1 (pos 0) ∷ SetFixed Argument2 (pos 0) ∷ SetFixed Argument3 (pos 0)
-    ∷ SetFixed Argument4 (pos 0) ∷ SetFixed Argument5 (pos 0) ∷ set 0 4 ∷ WriteArgument 0 0 ∷ set 1 7 ∷ WriteArgument 1 1
+    ∷ SetFixed Argument4 (pos 0) ∷ SetFixed Argument5 (pos 0) ∷ set 0 4 ∷ WriteArgument 0 0 ∷ set 1 7
+    ∷ WriteArgument 1 1
     ∷ Call 1 8 ∷ FromFixed 2 Value ∷ return 2) ∷ []
 
 abbrev pub takes_eight : List (List TempInsn)

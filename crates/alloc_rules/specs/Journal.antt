@@ -1,8 +1,9 @@
 -- The journal of an allocation, by the replay of the finished function: for each instruction in linear order its visit,
 -- and then what was done there: each temporary that leaves a register for its slot, by rising number; the transfers
--- before the instruction, in their order; each temporary that gets a register by a load or a write, reads before writes;
--- and each temporary that is written. A temporary keeps its place until something takes its register, in holes of its
--- lifetime too, so it leaves there wherever its lifetime covers the point. A write that keeps its register gives none.
+-- before the instruction, in their order; each temporary that gets a register by a load or a write, reads before
+-- writes; and each temporary that is written. A temporary keeps its place until something takes its register, in holes
+-- of its lifetime too, so it leaves there wherever its lifetime covers the point. A write that keeps its register gives
+-- none.
 use Rattle.std.specs.Prelude.{◌≡◌, ℕ, suc, ◌+◌, ◌*◌, Bool, List, [], ◌∷◌, ◌++◌, map, zip, flat_map, Option, Some, None, if◌then◌else◌}
 use Rattle.temp_ir.specs.declared.insn.TempInsn.{TempInsn}
 use Rattle.temp_ir.specs.Insns.{writes_of}

@@ -99,7 +99,8 @@ stack_stated = plan one_block none_of_three ((30 ∷ []) ∷ (30 ∷ []) ∷ [] 
 -- the top of the entry says that a temporary stands in a register
 abbrev pub register_at_entry : Plan
 register_at_entry =
-    with_maps ((at_place 0 (loc.Reg 1) ∷ []) ∷ []) ([] ∷ []) (plan unset_returned ([] ∷ [] ∷ []) ((1 ∷ []) ∷ [] ∷ []) [])
+    with_maps ((at_place 0 (loc.Reg 1) ∷ []) ∷ []) ([] ∷ [])
+    (plan unset_returned ([] ∷ [] ∷ []) ((1 ∷ []) ∷ [] ∷ []) [])
 
 -- a load of what was not stored
 abbrev pub not_stored : Plan

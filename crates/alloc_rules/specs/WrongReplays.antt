@@ -47,7 +47,8 @@ shifted_from_elsewhere = plan one_block ([] ∷ (x.Shift 0 2 3 ∷ []) ∷ [] �
 -- the sum of two temporaries, with transfers before it and the registers of both
 abbrev pub summed : List Transfer → (left right : ℕ) → Plan
 summed transfers left right =
-    plan sum ([] ∷ [] ∷ transfers ∷ [] ∷ [] ∷ []) ((1 ∷ []) ∷ (2 ∷ []) ∷ (left ∷ right ∷ 3 ∷ []) ∷ (3 ∷ []) ∷ [] ∷ []) []
+    plan sum ([] ∷ [] ∷ transfers ∷ [] ∷ [] ∷ [])
+    ((1 ∷ []) ∷ (2 ∷ []) ∷ (left ∷ right ∷ 3 ∷ []) ∷ (3 ∷ []) ∷ [] ∷ []) []
 
 -- a load, and a shift, of one of them takes the register of the other one
 abbrev pub taken_by_load : Plan

@@ -1,9 +1,9 @@
 //! Rules of allocations beyond those that a right one keeps.
 //!
 //! `specs/Frugal.antt` has the seven rules of an allocation that moves no more than a scan with second chances does,
-//! over what such a scan comes upon (`specs/Visits.antt`). Small allocations show what is judged: one that is frugal and
-//! one that is not, and ones that break a clause of what is faithful. `specs/Journal.antt` says what the journal of an
-//! allocation is, `specs/Lean.antt` when few transfers stand at each place, and `specs/Scan.antt` what the lists and
+//! over what such a scan comes upon (`specs/Visits.antt`). Small allocations show what is judged: one that is frugal
+//! and one that is not, and ones that break a clause of what is faithful. `specs/Journal.antt` says what the journal of
+//! an allocation is, `specs/Lean.antt` when few transfers stand at each place, and `specs/Scan.antt` what the lists and
 //! sets are that an allocator's passes hand on (`scan`).
 #![tactic(auto)]
 

@@ -1,6 +1,6 @@
--- The code of a copy: a load and a store of each part, as wide as the alignment allows. The parts go through temporary 0,
--- which may hold a whole pointer, a piece of one, or cells that were never written. They stand at displacements of the
--- two pointers; past 16,384 bytes both pointers are moved, in temporaries 1 and 2.
+-- The code of a copy: a load and a store of each part, as wide as the alignment allows. The parts go through temporary
+-- 0, which may hold a whole pointer, a piece of one, or cells that were never written. They stand at displacements of
+-- the two pointers; past 16,384 bytes both pointers are moved, in temporaries 1 and 2.
 use Rattle.std.specs.Prelude.{ℕ, zero, suc, ◌+◌, ◌/◌, nat_lt, pos, List, [], ◌∷◌, ◌++◌, if◌then◌else◌}
 use Rattle.suifvm_ir.specs.declared.types.Alignment.{Alignment}
 use Rattle.suifvm_ir.specs.declared.types.Alignment.TheVariants.{One, Two, Four, Eight}

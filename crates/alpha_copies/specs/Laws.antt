@@ -12,8 +12,8 @@ use Rattle.alpha_forms.specs.Straight.{runs}
 use Rattle.alpha_forms.specs.Registers.{IsOfRegister, HasBytes, ComesToMemory}
 use Rattle.alpha_copies.specs.Copies.{copy_items}
 
--- the code of a copy leaves the memory that the copy leaves, wherever that has a meaning; v and w are what the registers
--- of the pointers hold
+-- the code of a copy leaves the memory that the copy leaves, wherever that has a meaning; v and w are what the
+-- registers of the pointers hold
 abbrev pub CopiesAreDone : Type 0
 CopiesAreDone =
     (widest own to from size : ℕ) (align : Alignment) (s : Temps) (o : Outer) (v w : Value) → IsOfRegister to

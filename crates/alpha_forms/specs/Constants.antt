@@ -20,7 +20,8 @@ unless_zero z x = if is_zero z then [] else x ∷ []
 abbrev pub near_items : (d n : ℕ) → List TempInsn
 near_items d n =
     if is_zero (high_part n) then Address Lda d source.Zero (low_part n) ∷ []
-    else Address Ldah d source.Zero (high_part n) ∷ unless_zero (low_part n) (Address Lda d (source.Temp d) (low_part n))
+    else Address Ldah d source.Zero (high_part n)
+    ∷ unless_zero (low_part n) (Address Lda d (source.Temp d) (low_part n))
 
 -- the displacements of a number, added to what the temporary holds
 abbrev pub lower_items : (d n : ℕ) → List TempInsn

@@ -109,7 +109,8 @@ binary_items And ty d a b = on_two o.And d a b ∷ []
 binary_items Or ty d a b = on_two o.Bis d a b ∷ []
 binary_items ExclusiveOr ty d a b = on_two o.Xor d a b ∷ []
 
--- ---- shifts: of a type of 4 bytes to the left the sign is made anew, to the right with zeros the low half is cut first
+-- ---- shifts: of a type of 4 bytes to the left the sign is made anew, to the right with zeros the low half is cut
+-- first
 
 abbrev pub left_items : (narrow : Bool) → (d a b : ℕ) → List TempInsn
 left_items true d a b = on_two o.Sll 0 a b ∷ extended_long d 0 ∷ []

@@ -8,8 +8,8 @@ use Rattle.alloc_model.specs.Stores.{without, put_all}
 use Rattle.alloc_model.specs.Effect.{Holder, Temp, holder_eq, holders_read, holders_written, is_emptied, does, takes_turn}
 use Rattle.alloc_model.specs.Temporaries.{Temps}
 
--- it goes on behind its last instruction, or an instruction of it ends the run; an instruction that takes a turn, jumps,
--- calls or returns is not straight
+-- it goes on behind its last instruction, or an instruction of it ends the run; an instruction that takes a turn,
+-- jumps, calls or returns is not straight
 pub data Ran : Type 0 where
   After : Temps → Outer → Ran
   Halted : Stop → Outer → Ran

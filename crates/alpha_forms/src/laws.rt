@@ -13,8 +13,8 @@ pub fn constants_are_made()
     ensures short { ConstantsAreShort }
 {}
 
-/// The code of a load or store does what the access does over registers, wherever that has a meaning: near displacements
-/// stand in the access, far ones are added to the pointer first.
+/// The code of a load or store does what the access does over registers, wherever that has a meaning: near
+/// displacements stand in the access, far ones are added to the pointer first.
 pub fn accesses_are_done()
     ensures loads { LoadsAreDone }
     ensures stores { StoresAreDone }

@@ -6,8 +6,8 @@ use Rattle.temp_ir.specs.Programs.{TempFn}
 use Rattle.temp_ir.specs.Cost.{bulk_when_split}
 use Rattle.selection_code.specs.Functions.{function_blocks}
 
--- the selected one of a function: its name, number of parameters and objects stay, and it has four temporaries more than
--- the function has registers
+-- the selected one of a function: its name, number of parameters and objects stay, and it has four temporaries more
+-- than the function has registers
 pub record IsSelectedFunction (f : VmFunction) (g : TempFn) : Type 0 where
   pub name : g.name ≡ f.name
   pub params : g.params ≡ f.params

@@ -24,7 +24,8 @@ SettledIsKept =
 abbrev pub NamesAreKept : Type 0
 NamesAreKept =
     (functions : List TempFn) (globals : List DataObject) (objects : List MemoryLocal) →
-    (before after : List (List TempInsn)) → KeepContents before after → AllInsns (λ i. IsTrue (names_what_is_there functions globals objects i)) before →
+    (before after : List (List TempInsn)) → KeepContents before after →
+    AllInsns (λ i. IsTrue (names_what_is_there functions globals objects i)) before →
     AllInsns (λ i. IsTrue (names_what_is_there functions globals objects i)) after
 
 -- each jump or branch back goes to a block that begins with a mark

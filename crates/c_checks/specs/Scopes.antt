@@ -10,7 +10,8 @@ abbrev pub enter : Env → Env
 enter env = record { names = env.names; outside = length env.names }
 
 abbrev pub with_name : List ℕ → NameMeaning → Env → Env
-with_name name meaning env = record { names = record { name = name; value = meaning } ∷ env.names; outside = env.outside }
+with_name name meaning env =
+    record { names = record { name = name; value = meaning } ∷ env.names; outside = env.outside }
 
 -- the names that were there when the scope was entered
 abbrev pub leave : (outside : ℕ) → Env → Env

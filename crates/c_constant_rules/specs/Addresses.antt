@@ -70,7 +70,8 @@ move_pointer (Some a) (Some size) back None word = None
 move_pointer (Some a) (Some size) back (Some t) None = None
 move_pointer (Some a) (Some size) back (Some t) (Some word) = step_elements a size back t word
 
-abbrev pub moved_by : List StructDef → Option Address → (pointer : Expr) → (back : Bool) → (integer : Expr) → Option Address
+abbrev pub moved_by : List StructDef → Option Address → (pointer : Expr) → (back : Bool) → (integer : Expr) →
+    Option Address
 moved_by ds a x back y = move_pointer a (target_size ds (type_of x)) back (integer_of (type_of y)) (constant y)
 
 -- `+` and `-`, which goes back
@@ -81,7 +82,8 @@ direction _ = None
 
 -- ---- address constants
 
-abbrev pub moved_either : List StructDef → Option Bool → (left right : Expr) → (of_left of_right : Option Address) → Option Address
+abbrev pub moved_either : List StructDef → Option Bool → (left right : Expr) → (of_left of_right : Option Address) →
+    Option Address
 moved_either ds None x y a c = None
 moved_either ds (Some back) x y a c =
     if is_pointer (type_of x) then moved_by ds a x back y else moved_by ds c y back x

@@ -162,7 +162,8 @@ fn declare_typed<'a>(
     has_value: bool,
 ) -> Result<(), AllocError>
     ensures { OnOk result ((unit.new, (env.new, notes.new))
-        ≡ declare definitions.now at name.now (Some (spec.object_declared ty.now has_value)) (unit.old, (env.old, notes.old))) }
+        ≡ declare definitions.now at name.now (Some (spec.object_declared ty.now has_value))
+        (unit.old, (env.old, notes.old))) }
 {
     let ty = DeclaredType::Value(ty.copy(alloc)?);
     let new = NameDeclaration {

@@ -161,8 +161,8 @@ pub fn defines_object(definitions: &Definitions<'_>, name: &[u8]) -> bool
     has(&definitions.objects, name)
 }
 
-/// The number of objects that are defined, which is that of the first string literal. More than 32 bits count is refused
-/// as want of memory.
+/// The number of objects that are defined, which is that of the first string literal. More than 32 bits count is
+/// refused as want of memory.
 pub fn object_count(definitions: &Definitions<'_>) -> Result<u32, AllocError>
     ensures { IfOk result (λ n. n ≡ length definitions.now.objects) }
 {

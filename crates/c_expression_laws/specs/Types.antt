@@ -18,7 +18,8 @@ AreTypes structs (ty ∷ tys) = IsTrue (is_type structs (type_view ty)) × AreTy
 abbrev pub IsTypeIn : Context → DeclaredType → Type 0
 IsTypeIn c (d.Value ty) = IsTrue (is_type c.structs (type_view ty))
 IsTypeIn c (d.Unsized element) = IsTrue (is_type c.structs (type_view element))
-IsTypeIn c (d.Function result parameters) = IsTrue (is_type c.structs (type_view result)) × AreTypes c.structs parameters
+IsTypeIn c (d.Function result parameters) = IsTrue (is_type c.structs (type_view result))
+    × AreTypes c.structs parameters
 
 -- so it is of each typedef name
 abbrev pub IsTypedefIn : Context → NameMeaning → Type 0

@@ -2,8 +2,8 @@
 
 ghost use Rattle.c_expression_laws.specs.Laws.{ExpressionIsTyped, ExpressionWalks, TypeNameIsFit, DeclaratorGivesType};
 
-/// What an expression is, is well typed in each lawful context that has the names in scope, the structs of the notes, the
-/// locals whose address is taken in memory, and the texts.
+/// What an expression is, is well typed in each lawful context that has the names in scope, the structs of the notes,
+/// the locals whose address is taken in memory, and the texts.
 pub fn expressions_are_typed()
     ensures typed { ExpressionIsTyped }
     ensures walks { ExpressionWalks }

@@ -60,7 +60,8 @@ unfoldable mutual
   judge (e.Comma' at _ operands) s =
       and_then (judge_row operands (Some []) s) (λ vs u. within u.0 (commas at vs u.1))
 
-  pub judge_row : {m : _} → k.Row_of-Expr m → Option (List TypedExpression) → State → Option (List TypedExpression) × State
+  pub judge_row : {m : _} → k.Row_of-Expr m → Option (List TypedExpression) → State →
+      Option (List TypedExpression) × State
   judge_row k.end_of-Expr found s = (found, s)
   judge_row (k.more_of-Expr x xs) found s = and_then (judge x s) (λ r. judge_row xs (append_part found r))
 

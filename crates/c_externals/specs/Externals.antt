@@ -113,7 +113,8 @@ function_typed ds e storage end (Some ty) w = function_with ds e storage end ty 
 -- ---- the type of each comes first
 
 -- what follows a type with the bodies in it
-abbrev pub behind_type : UnitSoFar → Option DeclaredType × Scope → (Option DeclaredType → Walk → Walk) → UnitSoFar × Scope
+abbrev pub behind_type : UnitSoFar → Option DeclaredType × Scope → (Option DeclaredType → Walk → Walk) →
+    UnitSoFar × Scope
 behind_type u r rest = ((rest r.0 (u, r.1.1)).0, (r.1.0, (rest r.0 (u, r.1.1)).1))
 
 abbrev pub type_of : Declaration → Scope → Option DeclaredType × Scope

@@ -1,5 +1,5 @@
--- The objects of static storage of a unit, in the order of their numbers: those with names, and then the string literals
--- (C99 6.2.4, 6.4.5). Each lies at the next multiple of 8 behind the one before it.
+-- The objects of static storage of a unit, in the order of their numbers: those with names, and then the string
+-- literals (C99 6.2.4, 6.4.5). Each lies at the next multiple of 8 behind the one before it.
 use Rattle.std.specs.Prelude.{ℕ, ◌+◌, true, false, List, [], ◌∷◌, ◌++◌, map, length, Option, Some, None, slice_get, slice_set}
 use Rattle.data_object.specs.declared.DataObject.{DataObject}
 use Rattle.data_object.specs.declared.DataCell.{DataCell}

@@ -75,7 +75,8 @@ fn add_object(
     so_far: &mut GlobalsSoFar,
     object: UnitObject,
 ) -> Result<(), AllocError>
-    ensures { OnOk result (so_far.new ≡ spec.with_global (spec.object_at structs.now so_far.old.end object) so_far.old) }
+    ensures { OnOk result
+        (so_far.new ≡ spec.with_global (spec.object_at structs.now so_far.old.end object) so_far.old) }
 {
     let UnitObject { name, ty, cells } = object;
     let global = DataObject {
@@ -136,8 +137,8 @@ fn add_texts(alloc: Global, so_far: &mut GlobalsSoFar, texts: &[Seq<u8>]) -> Res
     Ok(())
 }
 
-/// The objects of static storage of a unit: those with names, and then the string literals, each with its zero. It fails
-/// only where memory is short, as which counts a type that no object has.
+/// The objects of static storage of a unit: those with names, and then the string literals, each with its zero. It
+/// fails only where memory is short, as which counts a type that no object has.
 #[tactic(auto, using(crate::proofs::Places::globals_lie))]
 pub fn lay_out_globals(
     alloc: Global,

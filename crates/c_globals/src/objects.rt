@@ -20,7 +20,8 @@ pub struct UnitObject {
 
 /// Gives the object with a number its cells, if it is there.
 fn replace_cells(objects: &mut Vec<UnitObject>, number: usize, cells: Seq<DataCell>)
-    ensures { objects.new.items ≡ spec.replace_cells number cells (slice_get objects.old.items number) objects.old.items }
+    ensures { objects.new.items
+        ≡ spec.replace_cells number cells (slice_get objects.old.items number) objects.old.items }
 {
     match objects.get_mut(number) {
         None => {}

@@ -31,12 +31,14 @@ pub data IsLocalDeclarator (s : TypeNames) (ty : TypeNode) : List Lexeme → Loc
 
 pub data AreLocals (s : TypeNames) (ty : TypeNode) : List Lexeme → List LocalDeclarator → Type 0 where
   one : (a : List Lexeme) (x : LocalDeclarator) → IsLocalDeclarator s ty a x → AreLocals s ty a (x ∷ [])
-  more : (a : List Lexeme) (t : Lexeme) (b : List Lexeme) (x : LocalDeclarator) (xs : List LocalDeclarator) → IsLocalDeclarator s ty a x
+  more : (a : List Lexeme) (t : Lexeme) (b : List Lexeme) (x : LocalDeclarator) (xs : List LocalDeclarator) →
+      IsLocalDeclarator s ty a x
       → t.kind ≡ k.Mark p.Comma → AreLocals s ty b xs → AreLocals s ty (a ++ t ∷ b) (x ∷ xs)
 
 -- a line of declarations
 pub data IsLine (s : TypeNames) : List Lexeme → List LocalDeclarator → Type 0 where
-  line : (a b : List Lexeme) (t : Lexeme) (ty : TypeNode) (xs : List LocalDeclarator) → IsPlain s a ty → AreLocals s ty b xs
+  line : (a b : List Lexeme) (t : Lexeme) (ty : TypeNode) (xs : List LocalDeclarator) → IsPlain s a ty →
+      AreLocals s ty b xs
       → t.kind ≡ k.Mark p.Semicolon → IsLine s (a ++ (b ++ t ∷ [])) xs
 
 -- an expression that may be missing

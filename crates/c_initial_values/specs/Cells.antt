@@ -1,5 +1,5 @@
--- The cells of an object at the start of a program (C99 6.7.8). They go as far as its initialiser does, and what no part
--- of that reaches is zero.
+-- The cells of an object at the start of a program (C99 6.7.8). They go as far as its initialiser does, and what no
+-- part of that reaches is zero.
 use Rattle.std.specs.Prelude.{ℕ, zero, suc, ◌-◌, ◌/◌, ◌%◌, List, [], ◌∷◌, ◌++◌, length, map, take, replicate, Option, Some, None}
 use Rattle.c_arithmetic.specs.declared.integer_type.IntegerType.{IntegerType}
 use Rattle.c_arithmetic.specs.IntegerTypes.{bytes}

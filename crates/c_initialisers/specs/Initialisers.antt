@@ -32,7 +32,8 @@ with_surplus t.Fitting (Some at) = t.TooMany at
 with_surplus (t.TooMany first) None = t.Faulty
 with_surplus (t.TooMany first) (Some at) = t.TooMany first
 
-abbrev pub counted_by : (InitialiserItems → Option ℕ → InitialiserItems) → InitialiserItems → Option ℕ × FillingState → InitialiserItems × FillingState
+abbrev pub counted_by : (InitialiserItems → Option ℕ → InitialiserItems) → InitialiserItems →
+    Option ℕ × FillingState → InitialiserItems × FillingState
 counted_by count items r = (count items r.0, r.1)
 
 -- there is such a part, or there are no more
@@ -63,7 +64,8 @@ unfoldable mutual
       and_then (item_row items ty place 0 t.Fitting s) (λ found u.
       with_env u.1.0 (beside u.0 (list_in ty brace found u.1.1)))
 
-  pub item_row : {m : _} → i.Row_of-Init m → CType → (place k : ℕ) → InitialiserItems → FillingState → InitialiserItems × FillingState
+  pub item_row : {m : _} → i.Row_of-Init m → CType → (place k : ℕ) → InitialiserItems → FillingState →
+      InitialiserItems × FillingState
   item_row i.end_of-Init ty place k found s = (found, s)
   item_row (i.more_of-Init x xs) ty place k found s =
       and_then (if_part (part_of s.1.1.structs ty k) (counted_by with_surplus found (beside s.0 (judge_init x s.1)))

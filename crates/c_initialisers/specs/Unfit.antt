@@ -35,7 +35,8 @@ unfoldable mutual
 
   pub judge_items : {m : _} → i.Row_of-Init m → (whole : Bool) → State → Bool × State
   judge_items i.end_of-Init whole s = (whole, s)
-  judge_items (i.more_of-Init x xs) whole s = and_then (judge_init x s) (λ place. judge_items xs (is_whole_with whole place))
+  judge_items (i.more_of-Init x xs) whole s =
+      and_then (judge_init x s) (λ place. judge_items xs (is_whole_with whole place))
 
 abbrev pub no_place : Kind → ℕ → Check (Option ℕ)
 no_place kind at = fault at kind

@@ -1,5 +1,5 @@
--- Single values in objects of static storage (C99 6.7.8): that of a scalar is a constant of its type, and a text fills an
--- array of characters.
+-- Single values in objects of static storage (C99 6.7.8): that of a scalar is a constant of its type, and a text fills
+-- an array of characters.
 use Rattle.std.specs.Prelude.{ℕ, if◌then◌else◌, Bool, true, false, List, Option, Some, None, is_some}
 use Rattle.c_tree.specs.declared.expressions.Expr as e
 use Rattle.c_typed_tree.specs.declared.types.CType.{CType}

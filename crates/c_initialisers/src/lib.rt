@@ -1,7 +1,7 @@
 //! Initialisers of objects of static storage (C99 6.7.8): the cells that each gives, and every fault that is in it.
 //!
-//! An initialiser is judged at the type of what it initialises; its expressions are judged by `c_expressions`. What fits
-//! nothing is judged without a type.
+//! An initialiser is judged at the type of what it initialises; its expressions are judged by `c_expressions`. What
+//! fits nothing is judged without a type.
 #![tactic(auto)]
 
 mod initialisers;

@@ -104,7 +104,8 @@ IsUntaggedIn c None = Unit {0}
 IsUntaggedIn c (Some last) = IsTrue (is_some (slice_get c.structs last.number))
 
 -- the structs of the notes, and those that tags mean, are there
-pub record HasNoted (c : Context) (structs : List StructDef) (tags : List (Entry Tag)) (untagged : Option UntaggedStruct) : Type 0 where
+pub record HasNoted (c : Context) (structs : List StructDef) (tags : List (Entry Tag))
+    (untagged : Option UntaggedStruct) : Type 0 where
   pub structs_known : HasStructs c structs
   pub tags_known : AreTagsIn c tags
   pub untagged_known : IsUntaggedIn c untagged

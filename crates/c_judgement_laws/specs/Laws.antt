@@ -1,6 +1,6 @@
--- What judgements find is well typed (C99 6.5): of each form by its parts, in a lawful context. What a form finds is well
--- typed where the names in scope are those of the context, the structs of the notes are known there, and what was taken
--- is there.
+-- What judgements find is well typed (C99 6.5): of each form by its parts, in a lawful context. What a form finds is
+-- well typed where the names in scope are those of the context, the structs of the notes are known there, and what was
+-- taken is there.
 use Rattle.std.specs.Prelude.{ℕ, IsTrue, List, Option, IfSome}
 use Rattle.c_tree.specs.declared.expressions.UnaryOp.{UnaryOp}
 use Rattle.c_tree.specs.declared.expressions.BinaryOp.{BinaryOp}
@@ -71,12 +71,14 @@ CommaIsJudged =
 abbrev pub CastIsJudged : Type 0
 CastIsJudged =
     (c : Context) → IsLawfulContext c → (env : Env) (at : ℕ) (to : DeclaredType) (a : TypedExpression) (n : Notes) →
-    (HasNames c env → Knows c n → IsFitType c to) → IsOperand c env n a → Judges c (HasNames c env) (IsJudged c) n (cast at to a n)
+    (HasNames c env → Knows c n → IsFitType c to) → IsOperand c env n a →
+    Judges c (HasNames c env) (IsJudged c) n (cast at to a n)
 
 abbrev pub SizeIsJudged : Type 0
 SizeIsJudged =
     (c : Context) → IsLawfulContext c → (env : Env) (at : ℕ) (a : TypedExpression) (n : Notes) →
-    (HasNames c env → Knows c n → IsTrue (is_whole (type_view a.ty))) → Judges c (HasNames c env) (IsJudged c) n (size_of_value at a n)
+    (HasNames c env → Knows c n → IsTrue (is_whole (type_view a.ty))) →
+    Judges c (HasNames c env) (IsJudged c) n (size_of_value at a n)
 
 abbrev pub SizeOfNameIsJudged : Type 0
 SizeOfNameIsJudged =
@@ -119,5 +121,6 @@ NameIsJudged =
 
 abbrev pub CallIsJudged : Type 0
 CallIsJudged =
-    (c : Context) (env : Env) (at : ℕ) (name : List ℕ) (arguments : Option (List TypedExpression)) (n : Notes) → (HasNames c env → Knows c n → IfSome arguments (AreJudged c (Takes c n))) →
+    (c : Context) (env : Env) (at : ℕ) (name : List ℕ) (arguments : Option (List TypedExpression)) (n : Notes) →
+    (HasNames c env → Knows c n → IfSome arguments (AreJudged c (Takes c n))) →
     Judges c (HasNames c env) (IsJudged c) n (call_by_meaning at (meaning_of env name) arguments n)

@@ -17,19 +17,23 @@ use Rattle.c_judgements.specs.Names.{faulty, use_of_undefined}
 abbrev pub argument : CType → TypedExpression → Check (Option TExpr)
 argument ty a n = note_fault (take_value ty a) n
 
-abbrev pub convert_arguments : (parameters : List CType) → List TypedExpression → Option (List TExpr) → Check (Option (List TExpr))
+abbrev pub convert_arguments : (parameters : List CType) → List TypedExpression → Option (List TExpr) →
+    Check (Option (List TExpr))
 convert_arguments [] args found n = (found, n)
 convert_arguments (ty ∷ tys) [] found n = (found, n)
-convert_arguments (ty ∷ tys) (a ∷ args) found n = and_then (argument ty a n) (λ r. convert_arguments tys args (append_part found r))
+convert_arguments (ty ∷ tys) (a ∷ args) found n =
+    and_then (argument ty a n) (λ r. convert_arguments tys args (append_part found r))
 
 abbrev pub call_with : ℕ → Callee → (result : CType) → Option (List TExpr) → Option TypedExpression
 call_with at callee ty arguments = option_map (call at callee ty) arguments
 
-abbrev pub call_passing : ℕ → Callee → (result : CType) → (parameters : List CType) → List TypedExpression → Check (Option TypedExpression)
+abbrev pub call_passing : ℕ → Callee → (result : CType) → (parameters : List CType) → List TypedExpression →
+    Check (Option TypedExpression)
 call_passing at callee ty parameters args n =
     and_then (convert_arguments parameters args (Some []) n) (λ r. pure (call_with at callee ty r))
 
-abbrev pub call_of : ℕ → Callee → (result : CType) → (parameters : List CType) → List TypedExpression → Check (Option TypedExpression)
+abbrev pub call_of : ℕ → Callee → (result : CType) → (parameters : List CType) → List TypedExpression →
+    Check (Option TypedExpression)
 call_of at callee ty parameters args n =
     and_then (note_fault (count_arguments at parameters args) n) (λ r. each r (call_passing at callee ty parameters))
 
@@ -41,5 +45,6 @@ call_by_meaning at (Some (m.Undefined number)) args n = use_of_undefined at numb
 call_by_meaning at (Some (m.Local number ty)) args n = faulty at NotFunction n
 call_by_meaning at (Some (m.Object number ty)) args n = faulty at NotFunction n
 call_by_meaning at (Some (m.Constant word)) args n = faulty at NotFunction n
-call_by_meaning at (Some (m.Function callee result parameters)) args n = each args (call_of at callee result parameters) n
+call_by_meaning at (Some (m.Function callee result parameters)) args n =
+    each args (call_of at callee result parameters) n
 call_by_meaning at (Some (m.Typedef ty)) args n = faulty at NotFunction n

@@ -28,7 +28,8 @@ set_to at a (Err f) = Err f
 abbrev pub set : ℕ → (left right : TypedExpression) → (null : Bool) → Ruling TypedExpression
 set at a b null = if is_assignable a then set_to at a (value_for_type a.ty b null) else fault a.at NotAssignable
 
--- ---- the compound ones: the right side is converted as beside its operator, and the left one stands as it is (6.5.16.2)
+-- ---- the compound ones: the right side is converted as beside its operator, and the left one stands as it is
+-- (6.5.16.2)
 
 abbrev pub shifts : AssignOp → Bool
 shifts o.ShiftLeft = true
@@ -50,7 +51,8 @@ moved_place ds at op a b =
     (if points_to_object ds (type_view a.ty) then Ok (assign_place at op a b.tree) else fault at BadOperand)
     else fault at BadOperand
 
-abbrev pub compound_of : List StructDef → ℕ → AssignOp → (left right : TypedExpression) → Option IntegerType → Option IntegerType
+abbrev pub compound_of : List StructDef → ℕ → AssignOp → (left right : TypedExpression) → Option IntegerType →
+    Option IntegerType
     → Ruling TypedExpression
 compound_of ds at op a b s None = fault at BadOperand
 compound_of ds at op a b None (Some t) = moved_place ds at op a b

@@ -47,14 +47,16 @@ dereference ds at a = dereference_of at a (object_of ds a.ty)
 abbrev pub element_at : ℕ → t.CType → (left right : x.TExpr) → TypedExpression
 element_at at ty left right = led_to at ty (x.Index ty left right)
 
-abbrev pub element_by_index : ℕ → (left right : TypedExpression) → (is_index : Bool) → Option t.CType → Ruling TypedExpression
+abbrev pub element_by_index : ℕ → (left right : TypedExpression) → (is_index : Bool) → Option t.CType →
+    Ruling TypedExpression
 element_by_index at a b is_index None = fault at BadOperand
 element_by_index at a b is_index (Some ty) =
     if is_index then Ok (element_at at ty a.tree b.tree) else fault at BadOperand
 
 abbrev pub index : List StructDef → ℕ → (left right : TypedExpression) → Ruling TypedExpression
 index ds at a b =
-    if points_to_object ds (type_view a.ty) then element_by_index at a b (is_integer (type_view b.ty)) (object_of ds a.ty)
+    if points_to_object ds (type_view a.ty) then element_by_index at a b (is_integer (type_view b.ty))
+    (object_of ds a.ty)
     else element_by_index at a b (is_integer (type_view a.ty)) (object_of ds b.ty)
 
 -- ---- addresses, and what may be changed

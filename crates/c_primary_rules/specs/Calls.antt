@@ -9,7 +9,8 @@ use Rattle.c_type_rules.specs.Rulings.{Ruling, fault}
 use Rattle.c_type_rules.specs.Values.{value}
 
 -- there are as many arguments as parameters
-abbrev pub count_arguments : ℕ → (parameters : List CType) → (arguments : List TypedExpression) → Ruling (List TypedExpression)
+abbrev pub count_arguments : ℕ → (parameters : List CType) → (arguments : List TypedExpression) →
+    Ruling (List TypedExpression)
 count_arguments at parameters arguments =
     if length arguments == length parameters then Ok arguments else fault at BadCall
 

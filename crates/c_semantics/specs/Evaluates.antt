@@ -82,7 +82,8 @@ assign_place (Struct n) (At p) v = p
 assign_place ty place v = v
 
 -- a place is read and written; the value is picked of the old and the new one
-abbrev pub update : List StructDef → PlainType → (change : Value → Run Value) → (pick : Value → Value → Value) → ValuePlace
+abbrev pub update : List StructDef → PlainType → (change : Value → Run Value) → (pick : Value → Value → Value) →
+    ValuePlace
     → Run Value
 update ds ty change pick p = read ty p >>= (λ v. change v >>= (λ w. write ds ty p w >> pure (pick v w)))
 

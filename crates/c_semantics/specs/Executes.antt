@@ -171,7 +171,8 @@ module _ (ds : List StructDef) (ls : List Local) (functions : Functions) where
 
   abbrev pub return_value : Scope → Option Expr → Run StatementFlow
   return_value scope None = pure (Returns None)
-  return_value scope (Some x) = eval ds ls functions scope x >>= use_value UsesNoValue >>= (λ v. pure (Returns (Some v)))
+  return_value scope (Some x) =
+      eval ds ls functions scope x >>= use_value UsesNoValue >>= (λ v. pure (Returns (Some v)))
 
   -- again is what a statement does one level down
   module _ (again : Scope → Stmt → Run StatementFlow) where

@@ -22,7 +22,8 @@ is_parameter ds ty = is_object_type ds (type_view ty) && is_scalar (type_view ty
 
 -- what is known of the unit in which a function stands: its structs are lawful, it has the names that are in scope
 -- before the body, and the structs and texts that were noted behind it
-pub record IsGiven (u : TypedUnit) (d : Declaration) (of : Option FunctionType) (s later : State) (f : TypedFn) : Type 0 where
+pub record IsGiven (u : TypedUnit) (d : Declaration) (of : Option FunctionType) (s later : State) (f : TypedFn) :
+    Type 0 where
   pub structs : IsLawfulContext (context_of u f)
   pub scope : HasScope (context_of u f) s
   pub knows : Knows (context_of u f) later.1

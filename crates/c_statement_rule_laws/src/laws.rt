@@ -2,8 +2,8 @@
 
 ghost use Rattle.c_statement_rule_laws.specs.Laws.{ConditionIsTyped, SwitchIsTyped, ExpressionIsValue, ReturnIsTyped, EmptyReturnIsTyped, InitialiserIsTyped};
 
-/// A condition, the operand of a `switch`, an expression whose value is not used, what is returned, and a local with its
-/// initialiser are well typed as their statements ask, of operands that are.
+/// A condition, the operand of a `switch`, an expression whose value is not used, what is returned, and a local with
+/// its initialiser are well typed as their statements ask, of operands that are.
 pub fn parts_of_statements_are_typed()
     ensures conditions { ConditionIsTyped }
     ensures switches { SwitchIsTyped }

@@ -73,7 +73,8 @@ abbrev pub parameter_named : ℕ → (name : Option (List ℕ)) → Option CType
 parameter_named at None ty s = in_body s (each ty (no_name at) s.1.1)
 parameter_named at (Some name) ty s = local_named at name ty s
 
-abbrev pub parameter_declared : ℕ → (name : Option (List ℕ)) → Option DeclaredType → BodyState → Option NewLocal × BodyState
+abbrev pub parameter_declared : ℕ → (name : Option (List ℕ)) → Option DeclaredType → BodyState →
+    Option NewLocal × BodyState
 parameter_declared at name ty s =
     and_then (in_body s (each ty (parameter_type at) s.1.1)) (λ r. parameter_named at name r)
 

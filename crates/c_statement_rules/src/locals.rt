@@ -121,8 +121,8 @@ fn no_name(
     }
 }
 
-/// Declares a parameter of a function's definition, with its type if that has no fault. One without a name has the fault
-/// BadType, if it has none besides. It fails only where memory is short.
+/// Declares a parameter of a function's definition, with its type if that has no fault. One without a name has the
+/// fault BadType, if it has none besides. It fails only where memory is short.
 pub fn parameter_named<'a>(
     alloc: Global,
     locals: &mut Seq<Local>,

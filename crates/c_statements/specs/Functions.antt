@@ -1,6 +1,6 @@
--- The body of a function (C99 6.9.1). Parameters and the outermost block are one scope. Where the declarator has no fault
--- the parameters have the types that it gives; else they are judged once more there, and what the declarator has noted of
--- them is noted at the same places.
+-- The body of a function (C99 6.9.1). Parameters and the outermost block are one scope. Where the declarator has no
+-- fault the parameters have the types that it gives; else they are judged once more there, and what the declarator has
+-- noted of them is noted at the same places.
 use Rattle.std.specs.Prelude.{ℕ, ◌&&◌, Bool, true, false, List, [], ◌∷◌, Option, Some, None, length, is_some}
 use Rattle.c_tree.specs.declared.types.TypeNode as n
 use Rattle.c_tree.specs.declared.types.Declaration.{Declaration}

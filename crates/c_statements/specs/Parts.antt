@@ -1,4 +1,5 @@
--- The parts of statements that are no statements (C99 6.7, 6.8): expressions, locals with their initialisers, and labels.
+-- The parts of statements that are no statements (C99 6.7, 6.8): expressions, locals with their initialisers, and
+-- labels.
 use Rattle.std.specs.Prelude.{ℕ, [], Option, Some, None}
 use Rattle.std.specs.Option.{option_map}
 use Rattle.c_arithmetic.specs.declared.integer_type.IntegerType.{IntegerType}

@@ -69,7 +69,8 @@ module _ (of : Option CType) where
     statement j s.Empty w = (Some t.Empty, w)
     statement j (s.Local d) w = and_then (local_of d w) (λ r. pure (local_statement r))
 
-    pub statement_row : Jumps → {m : _} → b.Row_of-Stmt m → Option (List TStmt) → BodyState → Option (List TStmt) × BodyState
+    pub statement_row : Jumps → {m : _} → b.Row_of-Stmt m → Option (List TStmt) → BodyState →
+        Option (List TStmt) × BodyState
     statement_row j b.end_of-Stmt found w = (found, w)
     statement_row j (b.more_of-Stmt x xs) found w =
         and_then (statement j x w) (λ r. statement_row j xs (append_part found r))
@@ -80,7 +81,8 @@ module _ (of : Option CType) where
         and_then (statement j x w) (λ r. pure (option_map Some r))
 
     -- each label with the statements under it
-    pub section_row : Jumps → Option IntegerType → {m : _} → b.Row_of-Section m → Option (List TSection) → SwitchState → Option (List TSection) × SwitchState
+    pub section_row : Jumps → Option IntegerType → {m : _} → b.Row_of-Section m → Option (List TSection) →
+        SwitchState → Option (List TSection) × SwitchState
     section_row j ty b.end_of-Section found w = (found, w)
     section_row j ty (b.more_of-Section label _ list rest) found w =
         and_then (and_then (beside_locals w (label_of ty label (w.0, w.1.1))) (λ l u.

@@ -82,7 +82,8 @@ AreFit structs (ty ∷ tys) = IsTrue (is_fit structs (type_view ty)) × AreFit s
 
 -- a function that may be called: what it gives and takes, each of which is a type of values
 pub record IsFunctionOf (c : Context) (callee : Callee) (result : CType) (parameters : List CType) : Type 0 where
-  pub signature : callee_signature c callee ≡ Some (record { result = type_view result; params = map type_view parameters })
+  pub signature : callee_signature c callee
+      ≡ Some (record { result = type_view result; params = map type_view parameters })
   pub fit : IsTrue (is_fit c.structs (type_view result))
   pub value : IsFalse (is_array (type_view result))
   pub parameter_types : AreFit c.structs parameters

@@ -32,7 +32,8 @@ unary_arithmetic at op a = unary_of at op a (integer a)
 abbrev pub common_type : IntegerType → IntegerType → CType
 common_type s t = integer_type (common s t)
 
-abbrev pub arithmetic_of : ℕ → BinaryOp → (left right : TypedExpression) → Option IntegerType → Option IntegerType → Ruling TypedExpression
+abbrev pub arithmetic_of : ℕ → BinaryOp → (left right : TypedExpression) → Option IntegerType → Option IntegerType →
+    Ruling TypedExpression
 arithmetic_of at op a b None t = fault at BadOperand
 arithmetic_of at op a b (Some s) None = fault at BadOperand
 arithmetic_of at op a b (Some s) (Some t) = Ok (binary_in at (common_type s t) op (common_type s t) a b)
@@ -42,7 +43,8 @@ arithmetic at op a b = arithmetic_of at op a b (integer a) (integer b)
 
 -- ---- `<<` and `>>`: each integer is promoted by itself, and the result has the left one's type
 
-abbrev pub shift_of : ℕ → BinaryOp → (left right : TypedExpression) → Option IntegerType → Option IntegerType → Ruling TypedExpression
+abbrev pub shift_of : ℕ → BinaryOp → (left right : TypedExpression) → Option IntegerType → Option IntegerType →
+    Ruling TypedExpression
 shift_of at op a b None t = fault at BadOperand
 shift_of at op a b (Some s) None = fault at BadOperand
 shift_of at op a b (Some s) (Some t) =

@@ -37,7 +37,8 @@ abbrev pub ordered_pointers : ℕ → BinaryOp → (left right : TypedExpression
 ordered_pointers at op a b =
     if are_pointers_of_one_type a b then Ok (binary at int op a.tree b.tree) else fault at BadOperand
 
-abbrev pub comparison_of : ℕ → BinaryOp → (left right : TypedExpression) → Option IntegerType → Option IntegerType → Ruling TypedExpression
+abbrev pub comparison_of : ℕ → BinaryOp → (left right : TypedExpression) → Option IntegerType → Option IntegerType →
+    Ruling TypedExpression
 comparison_of at op a b (Some s) (Some t) = Ok (binary_in at int op (common_type s t) a b)
 comparison_of at op a b (Some s) None = fault at BadOperand
 comparison_of at op a b None t = ordered_pointers at op a b

@@ -105,7 +105,8 @@ equality_of at op a b na nb (Some s) (Some u) = Ok (binary_in at int op (common_
 equality_of at op a b na nb (Some s) None = equal_pointers at op a b (meet a.ty b.ty na nb)
 equality_of at op a b na nb None u = equal_pointers at op a b (meet a.ty b.ty na nb)
 
-abbrev pub equality : ℕ → BinaryOp → (left right : TypedExpression) → (null_left null_right : Bool) → Ruling TypedExpression
+abbrev pub equality : ℕ → BinaryOp → (left right : TypedExpression) → (null_left null_right : Bool) →
+    Ruling TypedExpression
 equality at op a b na nb = equality_of at op a b na nb (integer a) (integer b)
 
 -- ---- `?:`, with its condition
@@ -118,7 +119,8 @@ choice_met at c a b None = fault at BadOperand
 choice_met at c a b (Some ty) = Ok (choice_in at c ty a b)
 
 -- arms of void, or of one struct, have that type
-abbrev pub choice_apart : ℕ → x.TExpr → (holds fails : TypedExpression) → (null_left null_right : Bool) → Ruling TypedExpression
+abbrev pub choice_apart : ℕ → x.TExpr → (holds fails : TypedExpression) → (null_left null_right : Bool) →
+    Ruling TypedExpression
 choice_apart at c a b na nb =
     if is_same a.ty b.ty then Ok (choice_in at c a.ty a b) else choice_met at c a b (meet a.ty b.ty na nb)
 
@@ -128,5 +130,6 @@ choice_of at c a b na nb (Some s) (Some u) = Ok (choice_in at c (common_type s u
 choice_of at c a b na nb (Some s) None = choice_apart at c a b na nb
 choice_of at c a b na nb None u = choice_apart at c a b na nb
 
-abbrev pub choice : ℕ → x.TExpr → (holds fails : TypedExpression) → (null_left null_right : Bool) → Ruling TypedExpression
+abbrev pub choice : ℕ → x.TExpr → (holds fails : TypedExpression) → (null_left null_right : Bool) →
+    Ruling TypedExpression
 choice at c a b na nb = choice_of at c a b na nb (integer a) (integer b)

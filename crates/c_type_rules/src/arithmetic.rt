@@ -91,7 +91,8 @@ fn each_promoted(
     left: CType,
     right: CType,
 ) -> Result<TypedExpression, AllocError>
-    ensures { IfOk result (λ r. r ≡ values.binary at left op (values.convert_tree left a) (values.convert_tree right b)) }
+    ensures { IfOk result
+        (λ r. r ≡ values.binary at left op (values.convert_tree left a) (values.convert_tree right b)) }
 {
     let a = convert_tree(alloc, &left, a)?;
     let b = convert_tree(alloc, &right, b)?;

@@ -108,7 +108,8 @@ pub record IsTypedFn (u : TypedUnit) (f : TypedFn) : Type 0 where
   pub locals : IsTrue (list_all (is_lawful_local u.structs) f.locals)
   pub block : IsTrue (is_block (stmt_view f.body))
   pub body : IsTrue (is_typed_stmt (context_of u f) (type_view f.result) no_jumps (stmt_view f.body))
-  pub declares : (number : ℕ) → declarations number (stmt_view f.body) ≡ due_declarations f.params (length f.locals) number
+  pub declares : (number : ℕ) →
+      declarations number (stmt_view f.body) ≡ due_declarations f.params (length f.locals) number
 
 -- ---- units
 

@@ -121,8 +121,8 @@ depth_of ds (Pointer target) = 1 + depth_behind target
 depth_of ds (Array element n) = 1 + depth_of ds element
 depth_of ds (Struct n) = struct_depth (slice_get ds n)
 
--- the depth of a type that is declared is at most 256; that of an expression may be 1 more, by `&`, where a struct counts
--- as one behind a pointer, since types of expressions are not judged for depth
+-- the depth of a type that is declared is at most 256; that of an expression may be 1 more, by `&`, where a struct
+-- counts as one behind a pointer, since types of expressions are not judged for depth
 abbrev pub most_depth : ℕ
 most_depth = 256
 

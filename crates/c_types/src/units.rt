@@ -135,8 +135,8 @@ fn make_unit(
 ///
 /// # Errors
 ///
-/// [`TypeFault::Typing`] exactly where the unit has faults, with the first of them: by its place, and at one place by the
-/// number of its kind; and [`TypeFault::NoMemory`].
+/// [`TypeFault::Typing`] exactly where the unit has faults, with the first of them: by its place, and at one place by
+/// the number of its kind; and [`TypeFault::NoMemory`].
 pub fn check(alloc: Global, unit: &TranslationUnit) -> Result<TypedUnit, TypeFault>
     ensures typed { IfOk result (spec.IsTyped unit.now) }
     ensures lawful { IfOk result IsLawful }

@@ -40,7 +40,8 @@ abbrev pub caller_of : Call → (depth : ℕ) → Waiting → Call
 caller_of c depth g = call_of c.extents (left_owner c) (c.sp + frame_size c.shape) depth g
 
 -- the machine stands behind the call, for the call that waited
-pub record ExitIs (p : Program) (there : Labels) (start : Start) (g : Waiting) (gs : List Waiting) (d : Call) (o : Outer)
+pub record ExitIs (p : Program) (there : Labels) (start : Start) (g : Waiting) (gs : List Waiting) (d : Call)
+    (o : Outer)
     (held : Places) (s : State) : Type 0 where
   pub to : State
   pub comes : Comes p s to
@@ -52,7 +53,8 @@ pub record ExitIs (p : Program) (there : Labels) (start : Start) (g : Waiting) (
 abbrev pub CallsAreLeft : Type 0
 CallsAreLeft =
     (p : Program) (there : Labels) (start : Start) (c : Call) (g : Waiting) (gs : List Waiting) (o : Outer)
-    (held : Places) (rest : List AsmItem) (end : ℕ) (s : State) → FitsTheStack c → StackIs p there start c (g ∷ gs) held s →
+    (held : Places) (rest : List AsmItem) (end : ℕ) (s : State) → FitsTheStack c →
+    StackIs p there start c (g ∷ gs) held s →
     HasOuter o s → (function arguments : ℕ) (with_value : Bool) →
     StandsFor p there (exit_part c.shape c.shape.saves rest) end c o.memory usable held s →
     ExitIs p there start g gs (caller_of c (length gs) g) (end_locals o c.own (length c.shape.sizes))
@@ -65,7 +67,8 @@ ending_items =
 
 abbrev pub RunsAreEnded : Type 0
 RunsAreEnded =
-    (p : Program) (there : Labels) (start : Start) (c : Call) (o : Outer) (held : Places) (rest : List AsmItem) (end : ℕ)
+    (p : Program) (there : Labels) (start : Start) (c : Call) (o : Outer) (held : Places) (rest : List AsmItem)
+    (end : ℕ)
     (s : State) → FitsTheStack c → StackIs p there start c [] held s → HasOuter o s → start.behind ≡ ending_items →
     (with_value : Bool) (status : ℕ) → status_of (returned with_value held) ≡ Some status →
     StandsFor p there (exit_part c.shape c.shape.saves rest) end c o.memory usable held s →

@@ -42,7 +42,8 @@ abbrev pub restore_if : FrameShape → (saves : Bool) → (register : ℕ) → (
 restore_if s true r rest = frame_load r (saved_at s r) ++ rest
 restore_if s false r rest = rest
 
-abbrev pub restore_registers : FrameShape → (saves : ℕ → Bool) → (first count : ℕ) → (rest : List AsmItem) → List AsmItem
+abbrev pub restore_registers : FrameShape → (saves : ℕ → Bool) → (first count : ℕ) → (rest : List AsmItem) →
+    List AsmItem
 restore_registers s saves r zero rest = rest
 restore_registers s saves r (suc count) rest = restore_if s (saves r) r (restore_registers s saves (suc r) count rest)
 

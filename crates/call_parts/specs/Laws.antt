@@ -20,7 +20,8 @@ pub record IsFrameAt (p : Program) (s : State) (shape : FrameShape) (sp : ℕ) :
 
 -- the function is entered: its frame has the return address and the registers that it saves, and no byte beside the
 -- frame has changed
-pub record EntryDone (p : Program) (there : Labels) (rest : List AsmItem) (end : ℕ) (shape : FrameShape) (saves : ℕ → Bool)
+pub record EntryDone (p : Program) (there : Labels) (rest : List AsmItem) (end : ℕ) (shape : FrameShape)
+    (saves : ℕ → Bool)
     (sp : ℕ) (s : State) : Type 0 where
   pub to : State
   pub come : HasCome p there rest end s to
@@ -33,7 +34,8 @@ pub record EntryDone (p : Program) (there : Labels) (rest : List AsmItem) (end :
 
 abbrev pub EntriesAreDone : Type 0
 EntriesAreDone =
-    (p : Program) (there : Labels) (w : ℕ) (rest : List AsmItem) (end : ℕ) (shape : FrameShape) (saves : ℕ → Bool) (sp : ℕ)
+    (p : Program) (there : Labels) (w : ℕ) (rest : List AsmItem) (end : ℕ) (shape : FrameShape) (saves : ℕ → Bool)
+    (sp : ℕ)
     (s : State) → IsAt p there w (entry_part shape saves rest) end s → register s 30 ≡ sp + frame_size shape →
     IsFrameAt p s shape sp → EntryDone p there rest end shape saves sp s
 
@@ -61,6 +63,7 @@ pub record ExitDone (p : Program) (there : Labels) (shape : FrameShape) (saves :
 
 abbrev pub ExitsAreDone : Type 0
 ExitsAreDone =
-    (p : Program) (there : Labels) (w : ℕ) (rest : List AsmItem) (end : ℕ) (shape : FrameShape) (saves : ℕ → Bool) (sp : ℕ)
+    (p : Program) (there : Labels) (w : ℕ) (rest : List AsmItem) (end : ℕ) (shape : FrameShape) (saves : ℕ → Bool)
+    (sp : ℕ)
     (s : State) → IsAt p there w (exit_part shape saves rest) end s → register s 30 ≡ sp →
     IsFrameAt p s shape sp → ExitDone p there shape saves sp s

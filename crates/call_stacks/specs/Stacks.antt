@@ -15,8 +15,8 @@ use Rattle.flat_frames.specs.Frames.{word_in, FrameIs, is_written}
 use Rattle.frame_transfers.specs.Laws.{Call}
 use Rattle.instruction_items.specs.Laws.{ArgumentsAre}
 
--- a call that waits: the shape of its frame, the number of its first object, what it holds once the transfers before its
--- call are done, and the items behind its call
+-- a call that waits: the shape of its frame, the number of its first object, what it holds once the transfers before
+-- its call are done, and the items behind its call
 pub record Waiting : Type 0 where
   pub shape : FrameShape
   pub own : ℕ

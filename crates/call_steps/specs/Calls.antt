@@ -37,7 +37,8 @@ CallsAreDone =
     HasOuter o s → (transfers : List Transfer) → AllMayTransfer c.shape transfers →
     (widest function arguments : ℕ) (registers : List ℕ) → registers ≡ [] → arguments ≤ c.shape.outgoing + 6 →
     (a : Plan) (f : ItemSetting) (behind : List AsmItem) (last : ℕ) → FunctionStands p there a f function behind last →
-    (insns : List TempInsn) → slice_get a.function.blocks 0 ≡ Some insns → top_transfers a 0 ≡ [] → HasRoom p c f.shape →
+    (insns : List TempInsn) → slice_get a.function.blocks 0 ≡ Some insns → top_transfers a 0 ≡ [] →
+    HasRoom p c f.shape →
     StandsFor p there
     (items_of_transfers c.shape transfers (insn_items g registers (i.Call function arguments) ++ rest)) end c o.memory
     usable store s →

@@ -8,4 +8,5 @@ with_targets with_target i k (block ∷ blocks) = with_targets with_target (with
 
 -- an instruction with each target replaced by its number in a list
 abbrev pub renumber : {I : Type 0} → (targets : I → List ℕ) → (with_target : I → ℕ → ℕ → I) → (numbers : List ℕ) → I → I
-renumber targets with_target numbers i = with_targets with_target i 0 (map (λ block. slice_index_or numbers block 0) (targets i))
+renumber targets with_target numbers i =
+    with_targets with_target i 0 (map (λ block. slice_index_or numbers block 0) (targets i))

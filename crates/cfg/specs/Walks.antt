@@ -24,10 +24,11 @@ pub data Step (I : Type 0) : Type 0 where
 abbrev pub block_at : {I : Type 0} → List (List I) → ℕ → List I
 block_at blocks number = slice_index_or blocks number []
 
--- What may be done from a place of a block, of which these instructions are left, up to any point: an instruction without
--- targets, after which the next one follows or nothing; a branch that is passed or taken; a jump, which is no step
--- itself; and the end of a block, which leads into the next one
-pub data Walk {I : Type 0} (targets : I → List ℕ) (with_target : I → ℕ → ℕ → I) (flows_on : I → Bool) (blocks : List (List I)) : ℕ → List I → List (Step I) → Type 0 where
+-- What may be done from a place of a block, of which these instructions are left, up to any point: an instruction
+-- without targets, after which the next one follows or nothing; a branch that is passed or taken; a jump, which is no
+-- step itself; and the end of a block, which leads into the next one
+pub data Walk {I : Type 0} (targets : I → List ℕ) (with_target : I → ℕ → ℕ → I) (flows_on : I → Bool)
+    (blocks : List (List I)) : ℕ → List I → List (Step I) → Type 0 where
   Stops : {block : ℕ} {rest : List I} → Walk targets with_target flows_on blocks block rest []
   Goes : {block : ℕ} {rest : List I} {steps : List (Step I)} → (i : I) → length (targets i) ≡ 0
       → flows_on i ≡ true → Walk targets with_target flows_on blocks block rest steps

@@ -4,7 +4,8 @@ use Rattle.cfg.specs.Walks.{bare}
 
 -- The blocks after are those before, in their order and with targets that may be others, and between them blocks that
 -- are a jump alone and so have one successor
-pub data AddsJumps {I : Type 0} (targets : I → List ℕ) (with_target : I → ℕ → ℕ → I) (jump_to : ℕ → I) : (before after : List (List I)) → Type 0 where
+pub data AddsJumps {I : Type 0} (targets : I → List ℕ) (with_target : I → ℕ → ℕ → I) (jump_to : ℕ → I) :
+    (before after : List (List I)) → Type 0 where
   NoBlocks : AddsJumps targets with_target jump_to [] []
   SameBlock : {before after : List (List I)} (block new : List I)
       → map (bare targets with_target) new ≡ map (bare targets with_target) block

@@ -19,4 +19,5 @@ is_critical followers e = nat_lt 1 (length (slice_index_or followers e.0 [])) &&
 -- how many such edges there are
 abbrev pub critical_count : {I : Type 0} → (targets : I → List ℕ) → (flows_on : I → Bool) → List (List I) → ℕ
 critical_count targets flows_on blocks =
-    length (filter (is_critical (successors_from targets flows_on 0 blocks)) (edges_from 0 (successors_from targets flows_on 0 blocks)))
+    length (filter (is_critical (successors_from targets flows_on 0 blocks))
+    (edges_from 0 (successors_from targets flows_on 0 blocks)))

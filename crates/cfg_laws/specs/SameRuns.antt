@@ -31,7 +31,8 @@ SameEnding (More w) e = e ≡ More w
 -- each ending of the one program is one of the other
 abbrev pub RunsAs : Rooms → (before after : VmProgram) → (input : List ℕ) → (turns : ℕ) → Type 0
 RunsAs rooms before after input turns =
-    (e : Ending) → behave_vm rooms before input turns e → (f : Ending) × behave_vm rooms after input turns f × SameEnding e f
+    (e : Ending) → behave_vm rooms before input turns e →
+    (f : Ending) × behave_vm rooms after input turns f × SameEnding e f
 
 -- programs with the same globals, and functions with the same walks, run alike
 abbrev pub SameWalksRunAlike : Type 0

@@ -36,7 +36,8 @@ pub record HasScratch (p : Program) (c : Call) (s : State) : Type 0 where
 -- at the call of a routine the machine does what the division does with the contents of registers 24 and 25
 abbrev pub DivisionsAreDone : Type 0
 DivisionsAreDone =
-    (p : Program) (there : Labels) (g : ItemSetting) (rest : List AsmItem) (end : ℕ) (c : Call) (o : Outer) (held : Places)
+    (p : Program) (there : Labels) (g : ItemSetting) (rest : List AsmItem) (end : ℕ) (c : Call) (o : Outer)
+    (held : Places)
     (s : State) → FitsTheStack c → HasOuter o s → RoutinesStand p there → HasScratch p c s → (r : DivisionRoutine) →
     StandsFor p there (Branch Bsr 23 (entry_label (routine_of r)) ∷ rest) end c o.memory usable held s →
     ActIsDone p there g rest end c (store_behind [] (i.Divide r) held) (i.Divide r) s

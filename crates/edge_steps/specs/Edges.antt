@@ -1,4 +1,5 @@
--- What the machine does on the edges between blocks: at the end of a block, at its jump, and at the top of the next one.
+-- What the machine does on the edges between blocks: at the end of a block, at its jump, and at the top of the next
+-- one.
 use Rattle.std.specs.Prelude.{◌≡◌, ℕ, suc, List, [], ◌∷◌, drop, Some, slice_get}
 use Rattle.alpha_isa.specs.declared.insn.BranchOp.TheVariants.{Br}
 use Rattle.alpha_isa.specs.Program.{Program}
@@ -37,7 +38,8 @@ JumpsAreDone =
     (transfers edge : List Transfer) → AllMayTransfer c.shape transfers → CanTransferAll c.shape usable edge →
     (l widest block : ℕ) (registers : List ℕ) → registers ≡ [] →
     StandsFor p there
-    (items_of_transfers c.shape transfers (items_of_transfers c.shape edge (Branch Br 31 l ∷ rest))) end c o.memory usable
+    (items_of_transfers c.shape transfers
+    (items_of_transfers c.shape edge (Branch Br 31 l ∷ rest))) end c o.memory usable
     store s →
     PointIsLeft p there start l c gs o
     (do_all edge ((placed_site widest transfers registers (i.Jump block)).put [] store)) s
@@ -55,7 +57,8 @@ EndsAreDone =
 abbrev pub BlocksAreEntered : Type 0
 BlocksAreEntered =
     (p : Program) (there : Labels) (start : Start) (a : Plan) (g : ItemSetting) (number : ℕ) (behind : List AsmItem)
-    (end : ℕ) (c : Call) (gs : List Waiting) (o : Outer) (held : Places) (s : State) → FitsTheStack c → g.shape ≡ c.shape →
+    (end : ℕ) (c : Call) (gs : List Waiting) (o : Outer) (held : Places) (s : State) → FitsTheStack c →
+    g.shape ≡ c.shape →
     FunctionStands p there a g number behind end → (block : ℕ) (insns : List TempInsn) →
     slice_get a.function.blocks block ≡ Some insns → CanTransferAll c.shape usable (top_transfers a block) →
     PointIsLeft p there start (g.block_label block) c gs o held s →

@@ -29,7 +29,8 @@ fn has_call_rule(unit: &TypedUnit, callee: Callee, ty: &CType, arguments: &Seq<T
 
 /// The comma operator (C99 6.5.17).
 fn has_comma_rule(unit: &TypedUnit, ty: &CType, operands: &Seq<TExpr>) -> bool
-    ensures { result ≡ (is_fit unit.now.structs (type_view ty.now) && are_operands (type_view ty.now) (exprs_view operands.now)) }
+    ensures { result ≡ (is_fit unit.now.structs (type_view ty.now) && are_operands (type_view ty.now)
+        (exprs_view operands.now)) }
 {
     is_fit(unit.structs.as_slice(), ty) && are_operands(ty, operands.as_slice())
 }

@@ -181,7 +181,8 @@ fn gives_nothing(ty: &CType) -> bool
 }
 
 fn calls_builtin(builtin: Builtin, ty: &CType, arguments: &[TExpr]) -> bool
-    ensures { (u : TypedUnit) (f : TypedFn) → result ≡ spec.is_call (spec.callee_signature (context_of u f) (c.Builtin builtin))
+    ensures { (u : TypedUnit) (f : TypedFn) →
+        result ≡ spec.is_call (spec.callee_signature (context_of u f) (c.Builtin builtin))
         (type_view ty.now) (exprs_view arguments.now) }
 {
     match builtin {
@@ -195,7 +196,8 @@ fn calls_builtin(builtin: Builtin, ty: &CType, arguments: &[TExpr]) -> bool
 /// What is called gives the type and takes the arguments.
 #[tactic(auto, using(crate::proofs::Signatures::signature_at))]
 pub(crate) fn is_called(unit: &TypedUnit, callee: Callee, ty: &CType, arguments: &[TExpr]) -> bool
-    ensures { (f : TypedFn) → result ≡ spec.is_call (spec.callee_signature (context_of unit.now f) callee) (type_view ty.now)
+    ensures { (f : TypedFn) →
+        result ≡ spec.is_call (spec.callee_signature (context_of unit.now f) callee) (type_view ty.now)
         (exprs_view arguments.now) }
 {
     match callee {

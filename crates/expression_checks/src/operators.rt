@@ -30,7 +30,8 @@ pub(crate) fn has_truth_type(ty: &CType, operand: &CType) -> bool
 
 /// Whether a type is that of what `++` and `--` step.
 fn is_stepped(structs: &[StructDef], operand: &CType) -> bool
-    ensures { result ≡ (constants.is_integer (type_view operand.now) || spec.points_to_object structs.now (type_view operand.now)) }
+    ensures { result ≡ (constants.is_integer (type_view operand.now) || spec.points_to_object structs.now
+        (type_view operand.now)) }
 {
     is_integer(operand) || points_to_object(structs, operand)
 }
@@ -51,7 +52,8 @@ fn is_arithmetic(ty: &CType, left: &CType, right: &CType) -> bool
 
 /// Whether a pointer is moved by an integer.
 fn is_moved(structs: &[StructDef], ty: &CType, pointer: &CType, integer: &CType) -> bool
-    ensures { result ≡ (spec.points_to_object structs.now (type_view pointer.now) && constants.is_integer (type_view integer.now)
+    ensures { result ≡ (spec.points_to_object structs.now (type_view pointer.now) && constants.is_integer
+        (type_view integer.now)
         && spec.is_same_type (type_view pointer.now) (type_view ty.now)) }
 {
     points_to_object(structs, pointer) && is_integer(integer) && is_same(pointer, ty)
@@ -59,7 +61,8 @@ fn is_moved(structs: &[StructDef], ty: &CType, pointer: &CType, integer: &CType)
 
 /// Whether an integer in front of a pointer moves it.
 fn is_moved_behind(structs: &[StructDef], ty: &CType, integer: &CType, pointer: &CType) -> bool
-    ensures { result ≡ (constants.is_integer (type_view integer.now) && spec.points_to_object structs.now (type_view pointer.now)
+    ensures { result ≡ (constants.is_integer (type_view integer.now) && spec.points_to_object structs.now
+        (type_view pointer.now)
         && spec.is_same_type (type_view pointer.now) (type_view ty.now)) }
 {
     is_integer(integer) && points_to_object(structs, pointer) && is_same(pointer, ty)
@@ -76,7 +79,8 @@ fn is_sum(structs: &[StructDef], ty: &CType, left: &CType, right: &CType) -> boo
 
 /// Whether the result is the distance of two pointers.
 fn is_distance(structs: &[StructDef], ty: &CType, left: &CType, right: &CType) -> bool
-    ensures { result ≡ (spec.points_to_object structs.now (type_view left.now) && spec.is_same_type (type_view left.now) (type_view right.now)
+    ensures { result ≡ (spec.points_to_object structs.now (type_view left.now) && spec.is_same_type
+        (type_view left.now) (type_view right.now)
         && spec.is_same_type (type_view ty.now) spec.long) }
 {
     points_to_object(structs, left) && is_same(left, right) && is_long(ty)
@@ -126,7 +130,8 @@ pub(crate) fn has_binary_type(
     left: &CType,
     right: &CType,
 ) -> bool
-    ensures { result ≡ spec.has_binary_type structs.now op (type_view ty.now) (type_view left.now) (type_view right.now) }
+    ensures { result ≡ spec.has_binary_type structs.now op (type_view ty.now) (type_view left.now)
+        (type_view right.now) }
 {
     match op {
         BinaryOp::LogicalOr => is_logical(ty, left, right),
@@ -170,7 +175,8 @@ fn is_compound(left: &CType, right: &CType) -> bool
 }
 
 fn is_pointer_step(structs: &[StructDef], left: &CType, right: &CType) -> bool
-    ensures { result ≡ (spec.points_to_object structs.now (type_view left.now) && constants.is_integer (type_view right.now)) }
+    ensures { result ≡ (spec.points_to_object structs.now (type_view left.now) && constants.is_integer
+        (type_view right.now)) }
 {
     points_to_object(structs, left) && is_integer(right)
 }
@@ -212,7 +218,8 @@ pub(crate) fn has_assigned_type(
 }
 
 fn is_chosen(ty: &CType) -> bool
-    ensures { result ≡ (spec.is_promoted (type_view ty.now) || spec.is_pointer (type_view ty.now) || spec.is_void (type_view ty.now)
+    ensures { result ≡ (spec.is_promoted (type_view ty.now) || spec.is_pointer (type_view ty.now) || spec.is_void
+        (type_view ty.now)
         || spec.is_struct (type_view ty.now)) }
 {
     is_promoted(ty) || is_pointer(ty) || is_void(ty) || is_struct(ty)
@@ -220,7 +227,8 @@ fn is_chosen(ty: &CType) -> bool
 
 /// `?:` (C99 6.5.15).
 pub(crate) fn is_choice(ty: &CType, condition: &CType, holds: &CType, fails: &CType) -> bool
-    ensures { result ≡ spec.is_choice (type_view ty.now) (type_view condition.now) (type_view holds.now) (type_view fails.now) }
+    ensures { result ≡ spec.is_choice (type_view ty.now) (type_view condition.now) (type_view holds.now)
+        (type_view fails.now) }
 {
     is_scalar(condition) && is_same(holds, ty) && is_same(fails, ty) && is_chosen(ty)
 }
@@ -264,7 +272,8 @@ fn is_null(to: &CType, from: &CType, null: bool) -> bool
 }
 
 fn is_met(to: &CType, from: &CType) -> bool
-    ensures { result ≡ (spec.is_same_type (type_view to.now) (type_view from.now) || spec.is_pointer_to_void (type_view to.now)
+    ensures { result ≡ (spec.is_same_type (type_view to.now) (type_view from.now) || spec.is_pointer_to_void
+        (type_view to.now)
         || spec.is_pointer_to_void (type_view from.now)) }
 {
     is_same(to, from) || is_pointer_to_void(to) || is_pointer_to_void(from)
@@ -295,13 +304,15 @@ pub(crate) fn is_conversion(to: &CType, from: &CType, null: bool, place: bool) -
 }
 
 fn is_element_of(structs: &[StructDef], ty: &CType, pointer: &CType, index: &CType) -> bool
-    ensures { result ≡ (spec.points_to structs.now (type_view ty.now) (type_view pointer.now) && constants.is_integer (type_view index.now)) }
+    ensures { result ≡ (spec.points_to structs.now (type_view ty.now)
+        (type_view pointer.now) && constants.is_integer (type_view index.now)) }
 {
     points_to(structs, ty, pointer) && is_integer(index)
 }
 
 fn is_element_by(structs: &[StructDef], ty: &CType, index: &CType, pointer: &CType) -> bool
-    ensures { result ≡ (constants.is_integer (type_view index.now) && spec.points_to structs.now (type_view ty.now) (type_view pointer.now)) }
+    ensures { result ≡ (constants.is_integer (type_view index.now) && spec.points_to structs.now (type_view ty.now)
+        (type_view pointer.now)) }
 {
     is_integer(index) && points_to(structs, ty, pointer)
 }

@@ -157,8 +157,8 @@ fn is_behind_at_most(most: u64, ty: &CType) -> bool
     }
 }
 
-/// Whether an expression may have the type: all its parts are there, and it is at most 257 deep where a struct counts as
-/// behind a pointer.
+/// Whether an expression may have the type: all its parts are there, and it is at most 257 deep where a struct counts
+/// as behind a pointer.
 pub(crate) fn is_fit(structs: &[StructDef], ty: &CType) -> bool
     ensures { result ≡ spec.is_fit structs.now (type_view ty.now) }
 {

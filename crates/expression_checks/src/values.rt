@@ -74,7 +74,8 @@ pub(crate) fn is_assignment(
     left: &TExpr,
     right: &TExpr,
 ) -> bool
-    ensures { result ≡ (spec.is_place (expr_view left.now) && spec.is_same_type (type_of (expr_view left.now)) (type_view ty.now)
+    ensures { result ≡ (spec.is_place (expr_view left.now) && spec.is_same_type (type_of (expr_view left.now))
+        (type_view ty.now)
         && spec.has_assigned_type structs.now op (type_of (expr_view left.now)) (type_of (expr_view right.now))) }
 {
     is_place(left)
@@ -84,14 +85,16 @@ pub(crate) fn is_assignment(
 
 /// A cast (C99 6.5.4).
 pub(crate) fn is_cast_of(ty: &CType, operand: &TExpr) -> bool
-    ensures { result ≡ spec.is_cast (type_view ty.now) (type_of (expr_view operand.now)) (is_null_constant (expr_view operand.now)) }
+    ensures { result ≡ spec.is_cast (type_view ty.now) (type_of (expr_view operand.now))
+        (is_null_constant (expr_view operand.now)) }
 {
     is_cast(ty, operand.ty(), is_null_constant(operand))
 }
 
 /// A conversion that no cast spells (C99 6.3).
 pub(crate) fn is_conversion_of(ty: &CType, operand: &TExpr) -> bool
-    ensures { result ≡ spec.is_conversion (type_view ty.now) (type_of (expr_view operand.now)) (is_null_constant (expr_view operand.now))
+    ensures { result ≡ spec.is_conversion (type_view ty.now) (type_of (expr_view operand.now))
+        (is_null_constant (expr_view operand.now))
         (spec.is_place (expr_view operand.now)) }
 {
     is_conversion(

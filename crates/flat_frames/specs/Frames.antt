@@ -63,7 +63,8 @@ WordsAreKept =
     mine ≢ other → word_in (put_word m a w) b ≡ word_in m b
 
 -- and a frame with a word in a slot or an argument place stands for the call that holds its content there
-pub record FrameAndMemory (xs : Extents) (memory : Memory) (owner : Owners) (m : Bytes) (sp depth own : ℕ) (s : FrameShape)
+pub record FrameAndMemory (xs : Extents) (memory : Memory) (owner : Owners) (m : Bytes) (sp depth own : ℕ)
+    (s : FrameShape)
     (store : Places) : Type 0 where
   pub frame : FrameIs xs owner m sp depth own s store
   pub memory_is : MemoryIs xs memory owner m

@@ -5,9 +5,9 @@ ghost use Rattle.frame_bounds.specs.Near.{NearPlansAreTheSame, NearShapesAreTheS
 ghost use Rattle.frame_bounds.specs.Fronts.{ItemsStandInFront};
 
 /// Where a function has at most seven temporaries for each unit of a weight, and sixteen more, and no call of more
-/// arguments than that, its frame and the 32 bytes of a division routine fit the room of that weight and of its objects.
-/// A frame has at most the bytes of its slots, of the arguments of the widest call and of its objects and 64 more, up to
-/// a multiple of 16, and is one; each object begins at a multiple of 8.
+/// arguments than that, its frame and the 32 bytes of a division routine fit the room of that weight and of its
+/// objects. A frame has at most the bytes of its slots, of the arguments of the widest call and of its objects and 64
+/// more, up to a multiple of 16, and is one; each object begins at a multiple of 8.
 pub fn frames_fit_rooms()
     ensures rooms { FramesFitRooms }
     ensures few { FramesAreFew }

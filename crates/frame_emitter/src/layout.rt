@@ -35,8 +35,10 @@ pub struct FrameLayout<'a> {
     pub saves: Vec<bool>,
     pub ghost outgoing_is: { outgoing ≡ (shape_of (with_blocks (plan_of allocation.now) blocks.now)).outgoing },
     pub ghost size_is: { size ≡ frame_size (shape_of (with_blocks (plan_of allocation.now) blocks.now)) },
-    pub ghost objects_are: { (k : ℕ) → get_or objects.items k end ≡ object_at (shape_of (with_blocks (plan_of allocation.now) blocks.now)) k },
-    pub ghost saves_are: { (k : ℕ) → k < 7 → get_or saves.items k false ≡ is_named (with_blocks (plan_of allocation.now) blocks.now) (9 + k) },
+    pub ghost objects_are: { (k : ℕ) →
+        get_or objects.items k end ≡ object_at (shape_of (with_blocks (plan_of allocation.now) blocks.now)) k },
+    pub ghost saves_are: { (k : ℕ) → k < 7 →
+        get_or saves.items k false ≡ is_named (with_blocks (plan_of allocation.now) blocks.now) (9 + k) },
     pub ghost exit_is: { exit_label ≡ first_label + length blocks.now },
     pub ghost size_small: { size ≤ 2 ^ 29 },
 }

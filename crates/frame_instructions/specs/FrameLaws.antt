@@ -61,7 +61,8 @@ abbrev pub GlobalsHaveAddresses : Type 0
 GlobalsHaveAddresses =
     (p : Program) (there : Labels) (rest : List AsmItem) (end : ℕ) (c : Call) (m : memory.Memory) (known : ℕ → Bool)
     (store : Places) (s : State) → FitsTheStack c → KnowsValues known →
-    (r k offset plus : ℕ) (e : Extent) → StandsFor p there (DataAddress r (offset + plus) ∷ rest) end c m known store s →
+    (r k offset plus : ℕ) (e : Extent) →
+    StandsFor p there (DataAddress r (offset + plus) ∷ rest) end c m known store s →
     IsWritable c.shape r → slice_get c.extents k ≡ Some e → IsExtent e → e.base ≡ data_start p + offset →
     plus ≤ e.size → data_start p + (offset + plus) < 2147450880 →
     GivesRegister p there rest end c m known store s r (address_content k plus)

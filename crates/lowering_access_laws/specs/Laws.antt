@@ -29,7 +29,8 @@ pub record IsWholeStruct (c : Setting) (number : ℕ) : Type 0 where
 
 module _ (c : Setting) where
   -- what follows a write, where the code behind stands: states correspond, and no register was written
-  abbrev pub Leaves : (heads : List ℕ) → (rest : List CodeItem) → CodePlace → Names → Scope → Registers → CallState → Memory
+  abbrev pub Leaves : (heads : List ℕ) → (rest : List CodeItem) → CodePlace → Names → Scope → Registers → CallState →
+      Memory
       → (Unit {0} → CallState → CodeObservation) → Type 0
   Leaves heads rest q f scope r s m K =
       (t : CallState) (n : Memory) → Stands c heads (next_place q) rest → Aft c f s m f t n → Fit c f scope r t n
@@ -44,7 +45,8 @@ module _ (c : Setting) where
         → EndsSo c (finish (write_at c.structs ty at v s) K) q r s.world m
     pub structs : (number : ℕ) → IsWholeStruct c number → (to from : ℕ) (rest : List CodeItem) (heads : List ℕ)
         (q : CodePlace) (at v : Value) (f : Names) (scope : Scope) (r : Registers) (s : CallState) (m : Memory)
-        (K : Unit {0} → CallState → CodeObservation) → Stands c heads q (copy_code c.structs to from (Struct number) rest)
+        (K : Unit {0} → CallState → CodeObservation) →
+        Stands c heads q (copy_code c.structs to from (Struct number) rest)
         → Fit c f scope r s m → IsValueOf f at (r to) → IsValueOf f v (r from) → Leaves heads rest q f scope r s m K
         → EndsSo c (finish (write_at c.structs (Struct number) at v s) K) q r s.world m
 

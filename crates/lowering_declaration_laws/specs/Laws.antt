@@ -36,7 +36,8 @@ AllMeet c again (d ∷ ds) = StmtMeets c again (Declare d) × AllMeet c again ds
 
 pub record Declarations (c : Setting) (again : Scope → Stmt → Run StatementFlow) : Type 0 where
   -- a block declares each local once at most
-  pub blocks : (ss : Stmts) → MayDeclareAll c.structs c.locals (declared_in ss) → ((k : ℕ) → stmts_declarations k ss ≤ 1)
+  pub blocks : (ss : Stmts) → MayDeclareAll c.structs c.locals (declared_in ss) →
+      ((k : ℕ) → stmts_declarations k ss ≤ 1)
       → StmtsMeet c again ss → StmtMeets c again (Block ss)
   pub without_value : (k : ℕ) (l : Local) → slice_get c.locals k ≡ Some l
       → StmtMeets c again (Declare (record { number = k; init = None }))

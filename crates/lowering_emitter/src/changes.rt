@@ -46,7 +46,8 @@ impl EmittedCode {
         local: u32,
     ) -> Result<(), AllocError>
         requires { r.locals + 5 * (depth + 5) < 2 ^ 32 }
-        ensures { OnOk result (self.new ≡ step_register_code r.locals structs.now op false depth (type_view ty.now) local self.old) }
+        ensures { OnOk result
+            (self.new ≡ step_register_code r.locals structs.now op false depth (type_view ty.now) local self.old) }
     {
         let value = r.value(depth, ty);
         self.move_value(ty, local, value)?;
@@ -65,7 +66,8 @@ impl EmittedCode {
         local: u32,
     ) -> Result<(), AllocError>
         requires { r.locals + 5 * (depth + 5) < 2 ^ 32 }
-        ensures { OnOk result (self.new ≡ step_register_code r.locals structs.now op true depth (type_view ty.now) local self.old) }
+        ensures { OnOk result
+            (self.new ≡ step_register_code r.locals structs.now op true depth (type_view ty.now) local self.old) }
     {
         let value = r.value(depth, ty);
         let new = r.value(depth + 1, ty);
@@ -87,7 +89,8 @@ impl EmittedCode {
     ) -> Result<(), AllocError>
         requires at { r.locals + 5 * (depth + 5) < 2 ^ 32 }
         requires plus { plus < 2 ^ 63 }
-        ensures { OnOk result (self.new ≡ step_memory_code r.locals structs.now op false depth plus (type_view ty.now) self.old) }
+        ensures { OnOk result
+            (self.new ≡ step_memory_code r.locals structs.now op false depth plus (type_view ty.now) self.old) }
     {
         let new = r.value(depth + 1, ty);
         let pointer = r.address(depth);
@@ -109,7 +112,8 @@ impl EmittedCode {
     ) -> Result<(), AllocError>
         requires at { r.locals + 5 * (depth + 5) < 2 ^ 32 }
         requires plus { plus < 2 ^ 63 }
-        ensures { OnOk result (self.new ≡ step_memory_code r.locals structs.now op true depth plus (type_view ty.now) self.old) }
+        ensures { OnOk result
+            (self.new ≡ step_memory_code r.locals structs.now op true depth plus (type_view ty.now) self.old) }
     {
         let old = r.value(depth + 1, ty);
         let new = r.value(depth + 2, ty);
@@ -173,7 +177,9 @@ impl EmittedCode {
     ) -> Result<(), AllocError>
         requires at { r.locals + 5 * (depth + 5) < 2 ^ 32 }
         requires plus { plus < 2 ^ 63 }
-        ensures { OnOk result (self.new ≡ combine_memory_code r.locals structs.now op depth plus (type_view left.now) (type_view right.now) self.old) }
+        ensures { OnOk result
+            (self.new ≡ combine_memory_code r.locals structs.now op depth plus (type_view left.now)
+            (type_view right.now) self.old) }
     {
         let value = r.value(depth + 2, left);
         let pointer = r.address(depth);

@@ -42,7 +42,9 @@ impl EmittedCode {
         requires left { r.locals + 5 * (at.left + 1) < 2 ^ 32 }
         requires right { r.locals + 5 * (at.right + 1) < 2 ^ 32 }
         requires free { r.locals + 5 * (at.free + 1) < 2 ^ 32 }
-        ensures { OnOk result (self.new ≡ step_code r.locals structs.now op at.left at.right at.free (type_view element.now) (type_view ty.now) self.old) }
+        ensures { OnOk result
+            (self.new ≡ step_code r.locals structs.now op at.left at.right at.free (type_view element.now)
+            (type_view ty.now) self.old) }
     {
         self.add(r.address(at.left), r.address(at.left), r.bytes(at.right))?;
         if op == BinaryOp::Subtract {
@@ -61,7 +63,9 @@ impl EmittedCode {
         ty: &CType,
     ) -> Result<(), AllocError>
         requires { r.locals + 5 * (depth + 3) < 2 ^ 32 }
-        ensures { OnOk result (self.new ≡ step_back_code r.locals structs.now depth (depth + 2) (type_view element.now) (type_view ty.now) self.old) }
+        ensures { OnOk result
+            (self.new ≡ step_back_code r.locals structs.now depth (depth + 2) (type_view element.now)
+            (type_view ty.now) self.old) }
     {
         self.add(r.address(depth), r.address(depth + 1), r.bytes(depth))?;
         self.scale(r, depth, depth + 2, ty, stride(structs, element))
@@ -78,7 +82,9 @@ impl EmittedCode {
         element: &CType,
     ) -> Result<(), AllocError>
         requires { r.locals + 5 * (depth + 3) < 2 ^ 32 }
-        ensures { OnOk result (self.new ≡ pointers_code r.locals structs.now op depth (type_view ty.now) (type_view element.now) self.old) }
+        ensures { OnOk result
+            (self.new ≡ pointers_code r.locals structs.now op depth (type_view ty.now)
+            (type_view element.now) self.old) }
     {
         match op {
             BinaryOp::Subtract => {
@@ -127,7 +133,9 @@ impl EmittedCode {
         right: &CType,
     ) -> Result<(), AllocError>
         requires { r.locals + 5 * (depth + 3) < 2 ^ 32 }
-        ensures { OnOk result (self.new ≡ integers_code r.locals op depth (type_view ty.now) (type_view left.now) (type_view right.now) self.old) }
+        ensures { OnOk result
+            (self.new ≡ integers_code r.locals op depth (type_view ty.now) (type_view left.now)
+            (type_view right.now) self.old) }
     {
         let destination = r.value(depth, ty);
         let from = r.value(depth, left);
@@ -147,7 +155,9 @@ impl EmittedCode {
         right: &CType,
     ) -> Result<(), AllocError>
         requires { r.locals + 5 * (depth + 3) < 2 ^ 32 }
-        ensures { OnOk result (self.new ≡ binary_code r.locals structs.now op depth (type_view ty.now) (type_view left.now) (type_view right.now) self.old) }
+        ensures { OnOk result
+            (self.new ≡ binary_code r.locals structs.now op depth (type_view ty.now) (type_view left.now)
+            (type_view right.now) self.old) }
     {
         match (element_of(left), element_of(right)) {
             (Some(element), Some(_)) => self.pointers(structs, r, op, depth, ty, element),
@@ -177,7 +187,8 @@ impl EmittedCode {
         requires left { r.locals + 5 * (at.left + 1) < 2 ^ 32 }
         requires right { r.locals + 5 * (at.right + 1) < 2 ^ 32 }
         requires free { r.locals + 5 * (at.free + 1) < 2 ^ 32 }
-        ensures { OnOk result (self.new ≡ combine_in r.locals op t at.left at.right (type_view left.now) (type_view ty.now) self.old) }
+        ensures { OnOk result
+            (self.new ≡ combine_in r.locals op t at.left at.right (type_view left.now) (type_view ty.now) self.old) }
     {
         let whole = plain_of(t);
         self.convert(r, at.left, &whole, left)?;
@@ -204,7 +215,9 @@ impl EmittedCode {
         requires left { r.locals + 5 * (at.left + 1) < 2 ^ 32 }
         requires right { r.locals + 5 * (at.right + 1) < 2 ^ 32 }
         requires free { r.locals + 5 * (at.free + 1) < 2 ^ 32 }
-        ensures { OnOk result (self.new ≡ combine_code r.locals structs.now op at.left at.right at.free (type_view left.now) (type_view ty.now) self.old) }
+        ensures { OnOk result
+            (self.new ≡ combine_code r.locals structs.now op at.left at.right at.free (type_view left.now)
+            (type_view ty.now) self.old) }
     {
         match element_of(left) {
             Some(element) => self.step_pointer(structs, r, op, at, element, ty),
@@ -225,7 +238,8 @@ impl EmittedCode {
         right: &CType,
     ) -> Result<(), AllocError>
         requires { r.locals + 5 * (depth + 3) < 2 ^ 32 }
-        ensures { OnOk result (self.new ≡ element_code r.locals structs.now depth (type_view left.now) (type_view right.now) self.old) }
+        ensures { OnOk result
+            (self.new ≡ element_code r.locals structs.now depth (type_view left.now) (type_view right.now) self.old) }
     {
         match (element_of(left), element_of(right)) {
             (Some(element), _) => {
@@ -251,7 +265,8 @@ impl EmittedCode {
         to: &CType,
     ) -> Result<(), AllocError>
         requires { r.locals + 5 * (depth + 1) < 2 ^ 32 }
-        ensures { OnOk result (self.new ≡ integer_code r.locals depth (type_view from.now) (type_view to.now) self.old) }
+        ensures { OnOk result
+            (self.new ≡ integer_code r.locals depth (type_view from.now) (type_view to.now) self.old) }
     {
         match to {
             CType::Int { .. } => self.convert(r, depth, from, to),
@@ -277,7 +292,8 @@ impl EmittedCode {
         to: &CType,
     ) -> Result<(), AllocError>
         requires { r.locals + 5 * (depth + 1) < 2 ^ 32 }
-        ensures { OnOk result (self.new ≡ converted_code r.locals depth (type_view from.now) (type_view to.now) self.old) }
+        ensures { OnOk result
+            (self.new ≡ converted_code r.locals depth (type_view from.now) (type_view to.now) self.old) }
     {
         match from {
             CType::Int { .. } => self.convert_integer(r, depth, from, to),

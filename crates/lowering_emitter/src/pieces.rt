@@ -67,8 +67,8 @@ impl EmittedCode {
         })
     }
 
-    /// What stands behind the pointer at a depth, moved by so many bytes: a scalar is loaded, of others the value is the
-    /// address.
+    /// What stands behind the pointer at a depth, moved by so many bytes: a scalar is loaded, of others the value is
+    /// the address.
     #[tactic(auto, unfolding(c_typed_tree::specs::model::View::opens))]
     pub fn load(
         &mut self,
@@ -100,7 +100,9 @@ impl EmittedCode {
     ) -> Result<(), AllocError>
         requires at { r.locals + 5 * (depth + 1) < 2 ^ 32 }
         requires plus { plus < 2 ^ 63 }
-        ensures { OnOk result (self.new ≡ load_from (type_view ty.now) (value_register r.locals depth (type_view ty.now)) (address_register r.locals depth) plus self.old) }
+        ensures { OnOk result
+            (self.new ≡ load_from (type_view ty.now) (value_register r.locals depth (type_view ty.now))
+            (address_register r.locals depth) plus self.old) }
     {
         self.load_from(ty, r.value(depth, ty), r.address(depth), plus)
     }
@@ -170,7 +172,8 @@ impl EmittedCode {
         to: &CType,
     ) -> Result<(), AllocError>
         requires { r.locals + 5 * (depth + 1) < 2 ^ 32 }
-        ensures { OnOk result (self.new ≡ convert_code r.locals depth (type_view from.now) (type_view to.now) self.old) }
+        ensures { OnOk result
+            (self.new ≡ convert_code r.locals depth (type_view from.now) (type_view to.now) self.old) }
     {
         if is_kept(from, to) {
             return Ok(());

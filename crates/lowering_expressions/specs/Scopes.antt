@@ -70,7 +70,8 @@ call_code s d ty callee xs rest =
     Plain (n.Call (destination_of s d ty) (code.vm_callee callee) (argument_registers s d xs)) ∷ rest
 
 -- a compound assignment to a register, behind its right side
-abbrev pub combine_register_code : LoweringScope → (depth : ℕ) → BinaryOp → (ty right : PlainType) → (local : ℕ) → List CodeItem
+abbrev pub combine_register_code : LoweringScope → (depth : ℕ) → BinaryOp → (ty right : PlainType) → (local : ℕ) →
+    List CodeItem
     → List CodeItem
 combine_register_code s d op ty right k rest =
     code.move_code ty (value_register s.registers.locals d ty) k

@@ -1,5 +1,5 @@
--- What is said of a local that is an object of the C meaning while its block lasts (C99 6.2.4). In the code it stands in
--- an object that lasts as long as the call, and of which nothing is asked when the block is entered anew.
+-- What is said of a local that is an object of the C meaning while its block lasts (C99 6.2.4). In the code it stands
+-- in an object that lasts as long as the call, and of which nothing is asked when the block is entered anew.
 use Rattle.std.specs.Prelude.{◌≡◌, ◌≤◌, ℕ, ◌+◌, true, List, length, slice_get, Some, None}
 use Rattle.mem_model.specs.Memory.{Memory, begin_object, end_object}
 use Rattle.mem_model.specs.Related.{Names, IsMemoryOf, with_name}

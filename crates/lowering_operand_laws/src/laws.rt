@@ -3,8 +3,8 @@
 
 ghost use Rattle.lowering_operand_laws.specs.Laws.{OperandsMeet};
 
-/// The code of commas, of `!`, and of conversions and casts to void and between pointers does what they do, where that of
-/// their operands does.
+/// The code of commas, of `!`, and of conversions and casts to void and between pointers does what they do, where that
+/// of their operands does.
 pub fn operands_meet()
     ensures { OperandsMeet }
 {}

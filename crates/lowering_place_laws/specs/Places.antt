@@ -34,14 +34,16 @@ module _ (c : Setting) where
   abbrev pub PlaceFollows : (depth plus : ℕ) → Expr → (heads : List ℕ) → (rest : List CodeItem) → Names → Scope
       → Registers → CallState → Memory → (objects.ValuePlace → CallState → CodeObservation) → Type 0
   PlaceFollows d plus x heads rest f scope r s n K =
-      (q : CodePlace) (base at : Value) (g : Names) (t : CallState) (q1 : Registers) (m : Memory) → Stands c heads q rest
+      (q : CodePlace) (base at : Value) (g : Names) (t : CallState) (q1 : Registers) (m : Memory) →
+      Stands c heads q rest
       → Aft c f s n g t m → Fit c g scope q1 t m → KeepsLower (count c) d r q1 → IsHeld (Pointer Void) at
       → IsValueOf g base (q1 (address_register (count c) d)) → left_of x plus ≤ MOST_DATA
       → IsBase t.world.outer.memory base (left_of x plus) at plus → EndsSo c (K (objects.At at) t) q q1 t.world m
 
   -- the place is to be moved by no more bytes than it has
   pub record PlaceMeets (x : Expr) : Type 0 where
-    pub by : (d plus : ℕ) (rest : List CodeItem) (heads : List ℕ) (p : CodePlace) (f : Names) (scope : Scope) (r : Registers)
+    pub by : (d plus : ℕ) (rest : List CodeItem) (heads : List ℕ) (p : CodePlace) (f : Names) (scope : Scope)
+        (r : Registers)
         (s : CallState) (n : Memory) (K : objects.ValuePlace → CallState → CodeObservation) → plus ≤ MOST_DATA
         → plus ≤ size_of c.structs (type_of x) →
         Stands c heads p (place_code (count c) c.structs c.locals d x plus rest) → Fit c f scope r s n

@@ -40,4 +40,5 @@ pub record Statements (c : Setting) (again : Scope → Stmt → Run StatementFlo
 
 abbrev pub StatementsMeet : Type 0
 StatementsMeet =
-    (c : Setting) (again : Scope → Stmt → Run StatementFlow) → slice_get c.functions c.number ≡ Some c.code → Statements c again
+    (c : Setting) (again : Scope → Stmt → Run StatementFlow) → slice_get c.functions c.number ≡ Some c.code →
+    Statements c again

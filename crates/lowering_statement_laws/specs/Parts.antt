@@ -53,7 +53,8 @@ module _ (c : Setting) where
       with_memory (with_meter w (leave_call c.rooms c.number w.meter)) (end_objects m c.own (length c.code.sizes))
 
   -- what follows a statement, by how it ends
-  pub record Onward (scope : Scope) (f : Names) (s : CallState) (n : Memory) (K : StatementFlow → CallState → CodeObservation)
+  pub record Onward (scope : Scope) (f : Names) (s : CallState) (n : Memory)
+      (K : StatementFlow → CallState → CodeObservation)
       (heads : List ℕ) (rest : List CodeItem) (break_to continue_to : ℕ) : Type 0 where
     pub goes : (q : CodePlace) (g : Names) (t : CallState) (r : Registers) (m : Memory) → Stands c heads q rest
         → Aft c f s n g t m → Fit c g scope r t m → EndsSo c (K Goes t) q r t.world m
@@ -68,15 +69,19 @@ module _ (c : Setting) where
   -- again is what a statement does one level down
   module _ (again : Scope → Stmt → Run StatementFlow) where
     pub record StmtMeets (x : Stmt) : Type 0 where
-      pub by : (break_to continue_to : ℕ) (rest : List CodeItem) (heads : List ℕ) (p : CodePlace) (f : Names) (scope : Scope)
-          (r : Registers) (s : CallState) (n : Memory) (K : StatementFlow → CallState → CodeObservation) → IsApart scope x →
+      pub by : (break_to continue_to : ℕ) (rest : List CodeItem) (heads : List ℕ) (p : CodePlace) (f : Names)
+          (scope : Scope)
+          (r : Registers) (s : CallState) (n : Memory) (K : StatementFlow → CallState → CodeObservation) →
+          IsApart scope x →
           Stands c heads p (stmt_code (count c) c.structs c.locals break_to continue_to x rest) → Fit c f scope r s n
           → s.world.meter.turns ≤ c.level → Onward scope f s n K heads rest break_to continue_to
           → EndsSo c (finish (exec c.structs c.locals c.calls again scope x s) K) p r s.world n
 
     pub record StmtsMeet (xs : Stmts) : Type 0 where
-      pub by : (break_to continue_to : ℕ) (rest : List CodeItem) (heads : List ℕ) (p : CodePlace) (f : Names) (scope : Scope)
-          (r : Registers) (s : CallState) (n : Memory) (K : StatementFlow → CallState → CodeObservation) → AreApart scope xs →
+      pub by : (break_to continue_to : ℕ) (rest : List CodeItem) (heads : List ℕ) (p : CodePlace) (f : Names)
+          (scope : Scope)
+          (r : Registers) (s : CallState) (n : Memory) (K : StatementFlow → CallState → CodeObservation) →
+          AreApart scope xs →
           Stands c heads p (stmts_code (count c) c.structs c.locals break_to continue_to xs rest) → Fit c f scope r s n
           → s.world.meter.turns ≤ c.level → Onward scope f s n K heads rest break_to continue_to
           → EndsSo c (finish (execs c.structs c.locals c.calls again scope xs s) K) p r s.world n

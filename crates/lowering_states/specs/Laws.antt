@@ -36,7 +36,8 @@ module _ (rooms : Rooms) (functions : List FunctionCode) (i own : ℕ) (code : F
   -- an instruction that writes values leads to the place behind it
   abbrev pub InsnLeads : Type 0
   InsnLeads =
-      (insn : VmInsn) (p : CodePlace) (r : Registers) (w : World) (m m1 : Memory) (vs : List Value) (o : CodeObservation) →
+      (insn : VmInsn) (p : CodePlace) (r : Registers) (w : World) (m m1 : Memory) (vs : List Value)
+      (o : CodeObservation) →
       stands_at code.blocks p ≡ Some (Some insn) → takes_turn insn ≡ false →
       does insn own (map r (reads_of insn)) (outer_with_memory w.outer m) ≡ Writes vs (outer_with_memory w.outer m1) →
       EndsSo o (next_place p) (set_registers (writes_of insn) vs r) w m1 → EndsSo o p r w m
@@ -49,7 +50,8 @@ module _ (rooms : Rooms) (functions : List FunctionCode) (i own : ℕ) (code : F
 
   abbrev pub EndLeads : Type 0
   EndLeads =
-      (p : CodePlace) (r : Registers) (w : World) (m : Memory) (o : CodeObservation) → stands_at code.blocks p ≡ Some None →
+      (p : CodePlace) (r : Registers) (w : World) (m : Memory) (o : CodeObservation) →
+      stands_at code.blocks p ≡ Some None →
       EndsSo o (next_block p) r w m → EndsSo o p r w m
 
 pub record PlacesLead (rooms : Rooms) (functions : List FunctionCode) (i own : ℕ) (code : FunctionCode)

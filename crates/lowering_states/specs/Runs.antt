@@ -69,12 +69,14 @@ module _ (rooms : Rooms) (functions : List FunctionCode) where
   abbrev pub resumes : (at : ℕ) → List Value → World → List (Frame Registers) → Next Registers
   resumes at vs w frames = machine.return_to Value Registers rooms (vm_code functions) at vs w frames
 
-  pub record Resumes (o : CodeObservation) (vs : List Value) (w : World) (frames : List (Frame Registers)) : Type 0 where
+  pub record Resumes (o : CodeObservation) (vs : List Value) (w : World) (frames : List (Frame Registers)) :
+      Type 0 where
     pub by : o ≢ NotDefined → (at : ℕ) → (steps : ℕ) × (observation (go_on (resumes at vs w frames) (run steps)) ≡ o)
 
 -- a call of a function at a place, with the memory of the code in the place of that of the C meaning
 abbrev pub frame_of : (function own : ℕ) → CodePlace → Registers → Frame Registers
 frame_of i own p r = record { point = record { function = i; block = p.block; at = p.at }; own = own; store = r }
 
-abbrev pub config : (function own : ℕ) → List (Frame Registers) → CodePlace → Registers → World → Memory → Config Registers
+abbrev pub config : (function own : ℕ) → List (Frame Registers) → CodePlace → Registers → World → Memory →
+    Config Registers
 config i own waiting p r w n = record { here = frame_of i own p r; callers = waiting; world = with_memory w n }

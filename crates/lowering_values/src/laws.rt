@@ -12,8 +12,8 @@ pub fn integers_correspond()
     ensures operators { OperatorsCorrespond }
 {}
 
-/// In a memory that stands for that of the C meaning a value is tested as there, and a load or a store at a pointer that
-/// is still to be moved does what one at the moved pointer does there.
+/// In a memory that stands for that of the C meaning a value is tested as there, and a load or a store at a pointer
+/// that is still to be moved does what one at the moved pointer does there.
 pub fn memories_correspond()
     ensures { MemoriesCorrespond }
 {}

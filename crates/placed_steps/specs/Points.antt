@@ -1,5 +1,5 @@
--- What the machine does at a point of a block: the transfers there, and an instruction that is no call of a function and
--- no return, with the stack of the run as it was.
+-- What the machine does at a point of a block: the transfers there, and an instruction that is no call of a function
+-- and no return, with the stack of the run as it was.
 use Rattle.std.specs.Prelude.{◌≡◌, ℕ, ◌+◌, ◌<◌, ◌≤◌, Bool, true, false, List, [], ◌∷◌, ◌++◌, Some, slice_get}
 use Rattle.alpha_isa.specs.Program.{Program}
 use Rattle.alpha_isa.specs.State.{State}
@@ -60,7 +60,8 @@ pub record PointIsLeft (p : Program) (there : Labels) (start : Start) (l : ℕ) 
   pub outer : HasOuter o to
 
 -- the machine does what an act is, where contents are written by a function of them
-abbrev pub PointIsDone : Program → Labels → Start → ItemSetting → (rest : List AsmItem) → (end : ℕ) → Call → List Waiting →
+abbrev pub PointIsDone : Program → Labels → Start → ItemSetting → (rest : List AsmItem) → (end : ℕ) → Call →
+    List Waiting →
     (written : List Content → Places) → TempInsn → State → Act Content → Type 0
 PointIsDone p there start g rest end c gs written x s (Writes cs o) =
     PointIsPassed p there start rest end c gs o (written cs) s

@@ -1,4 +1,5 @@
-//! Checks the tables of the folder `data/`: each row is a C program, and says how the program that it is lowered to runs.
+//! Checks the tables of the folder `data/`: each row is a C program, and says how the program that it is lowered to
+//! runs.
 //!
 //! The form of the files is described in `docs/rows.md`, and that of each kind of row at the head of its file.
 #![tactic(auto)]

@@ -1,5 +1,5 @@
--- The code of blocks and functions. Blocks keep their numbers. A function begins with the code that takes its parameters,
--- in front of the code of block 0, which nothing goes back to.
+-- The code of blocks and functions. Blocks keep their numbers. A function begins with the code that takes its
+-- parameters, in front of the code of block 0, which nothing goes back to.
 use Rattle.std.specs.Prelude.{ℕ, List, [], ◌∷◌, ◌++◌, map}
 use Rattle.suifvm_ir.specs.declared.insn.VmInsn.{VmInsn}
 use Rattle.temp_ir.specs.declared.insn.TempInsn.{TempInsn}

@@ -26,4 +26,5 @@ SelectionKeeps program selected =
     behave_vm rooms program input turns e → IsDefined e → EndsSo rooms selected input turns e
 
 abbrev pub SelectedPrograms : Type 0
-SelectedPrograms = (program : VmProgram) (selected : TempProgram) → IsSelected program selected → SelectionKeeps program selected
+SelectedPrograms = (program : VmProgram) (selected : TempProgram) → IsSelected program selected →
+    SelectionKeeps program selected

@@ -34,7 +34,8 @@ FunctionsAreSettled = (f : VmFunction) → IsTrue (is_settled f.params (function
 abbrev pub MarksAreKept : Type 0
 MarksAreKept =
     (f : VmFunction) →
-    ((b : ℕ) (insns : List VmInsn) → slice_get f.blocks b ≡ Some insns → All (λ y. IsTrue (vm.goes_back_to_marks f.blocks b y)) insns) →
+    ((b : ℕ) (insns : List VmInsn) → slice_get f.blocks b ≡ Some insns →
+    All (λ y. IsTrue (vm.goes_back_to_marks f.blocks b y)) insns) →
     (b : ℕ) (code : List TempInsn) → slice_get (function_blocks f.params f.blocks) b ≡ Some code →
     All (λ z. IsTrue (goes_back_to_marks (function_blocks f.params f.blocks) b z)) code
 

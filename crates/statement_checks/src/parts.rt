@@ -66,7 +66,8 @@ fn is_initialiser(
     unit: &TypedUnit,
     function: &TypedFn,
 ) -> bool
-    ensures { result ≡ spec.is_initialiser (context_of unit.now function.now) (Some local.now) (option_map expr_view init.now) }
+    ensures { result ≡ spec.is_initialiser (context_of unit.now function.now) (Some local.now)
+        (option_map expr_view init.now) }
 {
     match init {
         None => true,
@@ -134,13 +135,15 @@ pub(crate) fn is_for(
 // ---- `return` (C99 6.8.6.4)
 
 fn is_returned_value(e: &TExpr, unit: &TypedUnit, function: &TypedFn) -> bool
-    ensures { result ≡ spec.is_returned (context_of unit.now function.now) (type_view function.now.result) (Some (expr_view e.now)) }
+    ensures { result ≡ spec.is_returned (context_of unit.now function.now) (type_view function.now.result)
+        (Some (expr_view e.now)) }
 {
     is_same(e.ty(), &function.result) && !is_void(&function.result) && is_typed(e, unit, function)
 }
 
 pub(crate) fn is_returned(e: &Option<Box<TExpr>>, unit: &TypedUnit, function: &TypedFn) -> bool
-    ensures { result ≡ spec.is_returned (context_of unit.now function.now) (type_view function.now.result) (option_map expr_view e.now) }
+    ensures { result ≡ spec.is_returned (context_of unit.now function.now) (type_view function.now.result)
+        (option_map expr_view e.now) }
 {
     match e {
         None => is_void(&function.result),

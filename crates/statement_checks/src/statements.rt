@@ -40,8 +40,8 @@ fn is_switch(
     Ok(is_typed(operand, unit, function))
 }
 
-/// Whether a statement of a function of a unit is well typed, where jumps may leave what stands around it. It fails only
-/// where memory is short.
+/// Whether a statement of a function of a unit is well typed, where jumps may leave what stands around it. It fails
+/// only where memory is short.
 #[cycle(typed)]
 #[tactic(auto, using(c_typed_tree::proofs::Views::view_if), unfolding(c_typed_tree::specs::model::View::opens))]
 pub fn is_typed_statement(
@@ -52,7 +52,8 @@ pub fn is_typed_statement(
     breaks: bool,
     continues: bool,
 ) -> Result<bool, AllocError>
-    ensures { IfOk result (λ b. b ≡ spec.is_typed_stmt (context_of unit.now function.now) (type_view function.now.result)
+    ensures { IfOk result
+        (λ b. b ≡ spec.is_typed_stmt (context_of unit.now function.now) (type_view function.now.result)
         (record { breaks = breaks; continues = continues }) (stmt_view statement.now)) }
 {
     match statement {
@@ -118,7 +119,8 @@ fn is_typed_else(
     breaks: bool,
     continues: bool,
 ) -> Result<bool, AllocError>
-    ensures { IfOk result (λ b. b ≡ spec.is_typed_else (context_of unit.now function.now) (type_view function.now.result)
+    ensures { IfOk result
+        (λ b. b ≡ spec.is_typed_else (context_of unit.now function.now) (type_view function.now.result)
         (record { breaks = breaks; continues = continues }) (else_view otherwise.now)) }
 {
     match otherwise {
@@ -137,7 +139,8 @@ fn are_typed_statements(
     breaks: bool,
     continues: bool,
 ) -> Result<bool, AllocError>
-    ensures { IfOk result (λ b. b ≡ spec.are_typed_stmts (context_of unit.now function.now) (type_view function.now.result)
+    ensures { IfOk result
+        (λ b. b ≡ spec.are_typed_stmts (context_of unit.now function.now) (type_view function.now.result)
         (record { breaks = breaks; continues = continues }) (stmts_view list.now)) }
 {
     for statement in list.as_slice() {
@@ -158,7 +161,8 @@ fn are_typed_sections(
     breaks: bool,
     continues: bool,
 ) -> Result<bool, AllocError>
-    ensures { IfOk result (λ b. b ≡ spec.are_typed_sections (context_of unit.now function.now) (type_view function.now.result)
+    ensures { IfOk result
+        (λ b. b ≡ spec.are_typed_sections (context_of unit.now function.now) (type_view function.now.result)
         (record { breaks = breaks; continues = continues }) (sections_view list.now)) }
 {
     for section in list.as_slice() {

@@ -46,4 +46,5 @@ insn_cost i = 24 * most_insns i + 160 * most_calls i
 
 abbrev pub cost : VmFunction → ℕ
 cost f =
-    64 + 24 * f.params + sum_by (λ block. sum_by insn_cost block) f.blocks + 536 * edge_count targets_of flows_on_of f.blocks
+    64 + 24 * f.params + sum_by
+    (λ block. sum_by insn_cost block) f.blocks + 536 * edge_count targets_of flows_on_of f.blocks

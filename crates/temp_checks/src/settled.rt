@@ -96,8 +96,8 @@ fn are_settled_blocks(alloc: Global, blocks: &[Block<TempInsn>]) -> Result<bool,
     Ok(true)
 }
 
-/// Whether each fixed register that an instruction of a function reads was written as fixed by an earlier instruction of
-/// its block and not ended since, where the arguments count as written at the start of block 0. It fails only where
+/// Whether each fixed register that an instruction of a function reads was written as fixed by an earlier instruction
+/// of its block and not ended since, where the arguments count as written at the start of block 0. It fails only where
 /// memory is short.
 pub fn is_settled(alloc: Global, f: &Func<TempInsn>) -> Result<bool, AllocError>
     ensures { IfOk result (λ settled. settled ≡ fixed.is_settled f.now.params f.now.blocks) }

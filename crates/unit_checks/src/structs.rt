@@ -33,8 +33,10 @@ fn aligned_up(align: u64, place: u64) -> Option<u64>
 
 /// The end of a member that lies behind an end, if it does.
 fn end_behind(structs: &[StructDef], member: &Member, end: u64) -> Option<u64>
-    ensures place { IfSome result (λ next. member.now.offset ≡ layout.aligned_up (layout.align_of structs.now (type_view member.now.ty)) end) }
-    ensures end { IfSome result (λ next. next ≡ member.now.offset + layout.size_of structs.now (type_view member.now.ty)) }
+    ensures place { IfSome result
+        (λ next. member.now.offset ≡ layout.aligned_up (layout.align_of structs.now (type_view member.now.ty)) end) }
+    ensures end { IfSome result
+        (λ next. next ≡ member.now.offset + layout.size_of structs.now (type_view member.now.ty)) }
 {
     if !is_object(structs, &member.ty) {
         return None;

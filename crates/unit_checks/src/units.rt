@@ -23,8 +23,8 @@ fn is_countable(unit: &TypedUnit) -> bool
     unit_nodes(unit) <= 1 << 40
 }
 
-/// Whether a unit is lawful, with the locals of each function numbered in the order of their declarations. It fails only
-/// where memory is short.
+/// Whether a unit is lawful, with the locals of each function numbered in the order of their declarations. It fails
+/// only where memory is short.
 #[tactic(auto, using(crate::proofs::Lawful::lawful_unit))]
 pub fn is_lawful(alloc: Global, unit: &TypedUnit) -> Result<bool, AllocError>
     ensures { IfOk result (λ b. OnTrue b (IsLawful unit.now)) }

@@ -1,4 +1,5 @@
-//! Checks the tables of the folder `data/`, of whole units: each row says what a public function is given and what is due.
+//! Checks the tables of the folder `data/`, of whole units: each row says what a public function is given and what is
+//! due.
 //!
 //! The form of the files is described in `docs/rows.md`, and that of each kind of row at the head of its file.
 #![tactic(auto)]

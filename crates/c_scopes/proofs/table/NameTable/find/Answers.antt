@@ -5,7 +5,7 @@ use Rattle.std.proofs.lemmas.Bool.Decides.{nat_tests}
 use Rattle.c_scopes.specs.Names.{find}
 use Rattle.c_scopes.specs.model.Shadows.{place_of}
 use Rattle.c_scopes.proofs.Tables.{found, within, no_place}
-use Rattle.c_scopes.proofs.table.Table.find.Goals as goal
+use Rattle.c_scopes.proofs.table.NameTable.find.Goals as goal
 
 pub returns-in-None-get : goal.returns-in-None-get
 returns-in-None-get g c =

@@ -1,7 +1,7 @@
 use Rattle.std.proofs.Common.{◌++◌, ◌∙◌, refl, ap}
 use Rattle.std.specs.Option.{option_to_list}
 use Rattle.c_scopes.proofs.Tables.{popped}
-use Rattle.c_scopes.proofs.table.Table.pop.Goals as goal
+use Rattle.c_scopes.proofs.table.NameTable.pop.Goals as goal
 
 pub invariant_of-self-2 : goal.invariant_of-self-2
 invariant_of-self-2 g c =

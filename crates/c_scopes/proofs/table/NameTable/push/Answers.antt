@@ -2,7 +2,7 @@ use Rattle.std.proofs.Common.{◌≡◌, refl, sym, ap, ◌∙◌, length, arith
 use Rattle.c_scopes.specs.Names.{find}
 use Rattle.c_scopes.specs.model.Shadows.{place_of}
 use Rattle.c_scopes.proofs.Tables.{pushed}
-use Rattle.c_scopes.proofs.table.Table.push.Goals as goal
+use Rattle.c_scopes.proofs.table.NameTable.push.Goals as goal
 
 pub invariant_of-self-in-Ok : goal.invariant_of-self-in-Ok
 invariant_of-self-in-Ok g c =
