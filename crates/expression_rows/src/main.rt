@@ -1,0 +1,20 @@
+//! Checks the tables of the folder `data/`, of declarations and expressions: each row says what a public function is
+//! given and what is due.
+//!
+//! The form of the files is described in `docs/rows.md`, and that of each kind of row at the head of its file.
+#![tactic(auto)]
+
+mod declarations;
+mod expressions;
+mod kind;
+mod types;
+
+use crate::kind::Kind;
+use anyhow::Result;
+use row_sheets::check_tables;
+
+/// Checks the files that the words name, or all of them in this folder where there are no words.
+fn main(rt: HostRuntime) -> Result<()> {
+    let mut kinds = [Kind::Declarations, Kind::Expressions];
+    check_tables(&rt, &mut kinds)
+}
