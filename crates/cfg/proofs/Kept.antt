@@ -1,6 +1,6 @@
 -- The marked blocks of a function, with other numbers, go as they went.
 use Rattle.std.proofs.Common.{◌≡◌, ℕ, zero, suc, ◌+◌, ◌-◌, ◌<◌, ◌≤◌, Bool, true, false, cond, List, [], ◌∷◌, map, length, take, get_or, option_map, Option, Some, None, slice_get, refl, sym, ap, subst, ◌∙◌, inl, inr, arith, length-append, add-zero, slice_index_or, if◌then◌else◌}
-use Rattle.std.specs.Prelude.{All, IsTrue, filter, nat_lt}
+use Rattle.std.specs.Prelude.{All, IsTrue, filter, nat_lt, sum_by}
 use Rattle.std.specs.List.{Contains, range_with_len}
 use Rattle.std.proofs.lemmas.Bool.{cases_lt}
 use Rattle.std.proofs.lemmas.List.{get_or_default}
@@ -16,6 +16,7 @@ use Rattle.cfg.specs.Edges.{successors_from, edge_count}
 use Rattle.cfg.specs.Walks.{bare, block_at, SameWalks}
 use Rattle.cfg.specs.Paths.{Reached, IsEntry, Follows, AllReached}
 use Rattle.cfg.specs.Contents.{is_no_jump, contents, KeepsBlocks, KeepsBack}
+use Rattle.cfg.specs.Measures.{measure_of, NoMeasureGrows}
 use Rattle.cfg.specs.model.Search.{marked_count}
 use Rattle.cfg.specs.model.ReachedPart.{IsReachedPart}
 use Rattle.cfg.specs.Renumber.{renumber}
@@ -393,6 +394,23 @@ module _ {I : Type 0} (reads writes targets : I → List ℕ) (with_target : I �
         omega (arith, fewer ms h, length-map ren x, sum_by-cons (λ (block : List I). length block) (map ren x) (map (map ren) (marked_of ms h)), sum_by-cons (λ (block : List I). length block) x h)
     fewer (false ∷ ms) (x ∷ h) = omega (arith, fewer ms h, sum_by-cons (λ (block : List I). length block) x h)
 
+  pub kept_measures : NoMeasureGrows targets with_target f g
+  kept_measures measure unseen = no_more marks f where
+    one : (i : I) → measure (ren i) ≡ measure i
+    one i =
+        sym (unseen (ren i)) ∙ ap measure (renumber_bare reads writes targets with_target jump_to flows_on traps laws numbers i) ∙ unseen i
+
+    block : (xs : List I) → sum_by measure (map ren xs) ≡ sum_by measure xs
+    block [] = refl
+    block (x ∷ xs) = omega (arith, one x, block xs, sum_by-cons measure (ren x) (map ren xs), sum_by-cons measure x xs)
+
+    no_more : (ms : List Bool) (h : List (List I)) → measure_of measure (map (map ren) (marked_of ms h)) ≤ measure_of measure h
+    no_more [] h = omega arith
+    no_more (m ∷ ms) [] = omega arith
+    no_more (true ∷ ms) (x ∷ h) =
+        omega (arith, no_more ms h, block x, sum_by-cons (λ (xs : List I). sum_by measure xs) (map ren x) (map (map ren) (marked_of ms h)), sum_by-cons (λ (xs : List I). sum_by measure xs) x h)
+    no_more (false ∷ ms) (x ∷ h) = omega (arith, no_more ms h, sum_by-cons (λ (xs : List I). sum_by measure xs) x h)
+
   pub kept_registers : (temps : ℕ) → AllInsns (UsesRegisters reads writes temps) f → AllInsns (UsesRegisters reads writes temps) g
   kept_registers temps all = each_block (All (UsesRegisters reads writes temps)) (λ b m.
       All-map (UsesRegisters reads writes temps) ren (block_at f b) (λ k d below.
@@ -557,5 +575,6 @@ module _ {I : Type 0} (reads writes targets : I → List ℕ) (with_target : I �
         back = kept_back reads writes targets with_target jump_to flows_on traps laws f goes straight ends marks tells slice slice_are;
         fewer_blocks = kept_fewer reads writes targets with_target jump_to flows_on traps laws f goes straight ends marks tells slice slice_are;
         fewer_insns = kept_count reads writes targets with_target jump_to flows_on traps laws f goes straight ends marks tells slice slice_are;
+        measures = kept_measures reads writes targets with_target jump_to flows_on traps laws f goes straight ends marks tells slice slice_are;
         fewer_edges = kept_edges reads writes targets with_target jump_to flows_on traps laws f goes straight ends marks tells slice slice_are;
       })

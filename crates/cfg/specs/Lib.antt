@@ -2,5 +2,6 @@ pub mod Edges
 pub mod Walks
 pub mod Paths
 pub mod Contents
+pub mod Measures
 pub mod Renumber
 pub mod model

@@ -6,6 +6,7 @@ ghost use Rattle.cfg.specs.Edges.{successors_from, edge_count};
 ghost use Rattle.cfg.specs.Walks.{SameWalks};
 ghost use Rattle.cfg.specs.Paths.{AllReached};
 ghost use Rattle.cfg.specs.Contents.{KeepsBlocks, KeepsBack};
+ghost use Rattle.cfg.specs.Measures.{NoMeasureGrows};
 ghost use Rattle.cfg.specs.model.ReachedPart.{IsReachedPart};
 
 use crate::renumber::{marked_blocks, numbers_of};
@@ -44,6 +45,7 @@ pub fn remove_unreachable<I: Insn>(alloc: Global, f: Func<I>) -> Result<Func<I>,
     ensures objects { IfOk result (λ g. g.objects ≡ f.objects) }
     ensures blocks { IfOk result (λ g. length g.blocks ≤ length f.blocks) }
     ensures insns { IfOk result (λ g. count_of g.blocks ≤ count_of f.blocks) }
+    ensures measures { IfOk result (λ g. NoMeasureGrows I.targets I.with_target f.blocks g.blocks) }
     ensures edges { IfOk result (λ g.
         edge_count (successors_from I.targets I.flows_on 0 g.blocks)
         ≤ edge_count (successors_from I.targets I.flows_on 0 f.blocks)) }

@@ -5,6 +5,7 @@ use Rattle.cfg.specs.Edges.{successors_from, edge_count}
 use Rattle.cfg.specs.Walks.{SameWalks}
 use Rattle.cfg.specs.Paths.{AllReached}
 use Rattle.cfg.specs.Contents.{KeepsBlocks, KeepsBack}
+use Rattle.cfg.specs.Measures.{NoMeasureGrows}
 
 -- what the invariants of a function ask of these blocks, and what they keep of those before
 pub record IsReachedPart {I : Type 0} (reads writes targets : I → List ℕ) (with_target : I → ℕ → ℕ → I) (flows_on : I → Bool) (before after : List (List I)) : Type 0 where
@@ -19,4 +20,5 @@ pub record IsReachedPart {I : Type 0} (reads writes targets : I → List ℕ) (w
   pub back : KeepsBack targets with_target flows_on before after
   pub fewer_blocks : length after ≤ length before
   pub fewer_insns : count_of after ≤ count_of before
+  pub measures : NoMeasureGrows targets with_target before after
   pub fewer_edges : edge_count (successors_from targets flows_on 0 after) ≤ edge_count (successors_from targets flows_on 0 before)
