@@ -176,6 +176,7 @@ typed_fn unit fs n h {f = f} {g = g} e k t p =
       scalars = along (λ ts. list_all is_scalar ts) (same_parameters k) t.scalars;
       count = subst (λ ls. length ls < 2 ^ 32) (sym k.locals) t.count;
       locals = along (λ ls. list_all (is_lawful_local unit.structs) ls) k.locals t.locals;
+      block = k.block t.block;
       body = subst (λ ss. body_by unit ss f.locals (type_view f.result) (stmt_view f.body)) (sym (same_signatures fs unit.functions h))
           (subst (λ ls. body_by unit (map signature_of unit.functions) ls (type_view f.result) (stmt_view f.body)) (sym k.locals)
           (subst (λ x. body_by unit (map signature_of unit.functions) g.locals (type_view x) (stmt_view f.body)) (sym k.result) body));

@@ -22,7 +22,7 @@ use Rattle.c_typed_tree.specs.View.{type_view, stmt_view}
 use Rattle.c_typed_tree.specs.Constants.{is_built, constant}
 use Rattle.c_typed_tree.specs.Typing.{Context, is_place, is_in_memory, is_typed}
 use Rattle.c_typed_tree.specs.TypingStatements.{Jumps, is_typed_stmt}
-use Rattle.c_typed_tree.specs.Lawful.{signature_of, IsTypedUnit}
+use Rattle.c_typed_tree.specs.Lawful.{is_block, signature_of, IsTypedUnit}
 use Rattle.c_typed_tree.specs.Declarations.{declarations}
 use Rattle.c_typed_tree.specs.Names.{Referent, names, stmt_names}
 use Rattle.c_typed_tree.specs.Weight.{expr_weight, stmt_weight, function_weight}
@@ -127,12 +127,13 @@ StmtRefines s t = (unit : TypedUnit) (n : ℕ) (j : Jumps) → IsTypedAt unit n 
 
 -- ---- functions and units
 
--- a function refines another one with the same name, types and locals
+-- a function refines another one with the same name, types and locals, and a block for a block
 pub record FnRefines (f g : TypedFn) : Type 0 where
   pub name : f.name ≡ g.name
   pub result : f.result ≡ g.result
   pub params : f.params ≡ g.params
   pub locals : f.locals ≡ g.locals
+  pub block : IsTrue (is_block (stmt_view g.body)) → IsTrue (is_block (stmt_view f.body))
   pub body : StmtRefines (stmt_view f.body) (stmt_view g.body)
 
 -- functions by number, each refining its own
