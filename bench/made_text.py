@@ -7,7 +7,10 @@ The kinds: `ordinary` (declarations and functions with names, numbers, literals,
 `brackets` (an expression in 250 brackets, again and again), `typedefs` (names of types, and an object of each), and units
 without faults for the typing: `unit` (the ordinary functions and a main), `names` (100,000 locals of one scope, each used),
 `objects` (100,000 objects of file scope, each used), `scopes` (100,000 blocks with a local each), `members` (a struct of
-100,000 members, each used), `items` (an initialiser of a million items) and `cases` (a switch of 100,000 labels).
+100,000 members, each used), `items` (an initialiser of a million items) and `cases` (a switch of 100,000 labels). Units
+within the limit of the weight for the lowering: `long` (4 MiB of ordinary C, most of it comments), `one` (one function
+with most of the weight that there may be), `labels` (a switch of 20,000 labels), `deep` (expressions in 240 brackets) and
+`locals` (60,000 locals).
 """
 import itertools
 import sys
@@ -77,6 +80,13 @@ def members():
     return front, parts, "return 0; }\n"
 
 
+def long():
+    draw = draws()
+    comment = "/* " + "a line of words that says what the next function does, and why " * 40 + "*/\n"
+    parts = (comment + function(number, draw) for number in range(900))
+    return '# 1 "made.c"\n', parts, "int main(void) { return f0(1, 2, 3); }\n"
+
+
 KINDS = {
     "ordinary": ordinary,
     "operators": lambda: ("int main(void) { return 1", itertools.repeat(" + 1"), "; }\n"),
@@ -90,6 +100,19 @@ KINDS = {
     "scopes": lambda: ("int main(void) {", numbered("{int a#;a#=1;}"), "return 0; }\n"),
     "members": members,
     "items": lambda: ("int a[] = {", itertools.repeat("1,", 1000000), "};int main(void) {return a[1];}\n"),
+    "long": long,
+    "one": lambda: ("int main(void) { int a; a = 0;", itertools.repeat("a=a+1;", 16000), "return a; }\n"),
+    "labels": lambda: (
+        "int main(void) {switch(1) {",
+        ("case %d:break;" % label for label in range(20000)),
+        "}return 0;}\n",
+    ),
+    "deep": lambda: (
+        "int main(void) { int a; a = 1;",
+        itertools.repeat("a=" + "(1+" * 240 + "a" + ")" * 240 + ";", 80),
+        "return a; }\n",
+    ),
+    "locals": lambda: ("int main(void) {", ("int a%d;" % local for local in range(60000)), "return 0; }\n"),
     "cases": lambda: ("int main(void) {switch(1) {", numbered("case #:break;"), "}return 0;}\n"),
 }
 
