@@ -1,0 +1,4 @@
+pub mod Starts
+pub mod Called
+pub mod Meets
+pub mod Units
