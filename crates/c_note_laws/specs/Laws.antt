@@ -1,25 +1,40 @@
--- Structs that were noted stay, and others are added behind them.
+-- What is noted is added to what was noted, by every expression, specifier and declarator.
 use Rattle.std.specs.Prelude.{◌≡◌, ℕ, List, ◌++◌, Option}
 use Rattle.c_tree.specs.declared.expressions.Expr.{Expr}
 use Rattle.c_tree.specs.declared.types.TypeNode.{TypeNode}
-use Rattle.c_typed_tree.specs.declared.types.StructDef.{StructDef}
 use Rattle.c_declared_types.specs.declared.declared.DeclaredType.{DeclaredType}
 use Rattle.c_checks.specs.declared.env.Env.{Env}
 use Rattle.c_checks.specs.declared.notes.Notes.{Notes}
 use Rattle.c_judgements.specs.Leaves.{leaf}
 use Rattle.c_judgements.specs.Types.{State}
 use Rattle.c_expressions.specs.Expressions.{judge, derive}
+use Rattle.c_note_laws.specs.Steps.{Steps}
 
+-- ---- what is noted on the way
+
+abbrev pub ExpressionsTakeSteps : Type 0
+ExpressionsTakeSteps = (x : Expr) (s : State) → Steps s.1 (judge x s).1.1
+
+abbrev pub SpecifiersTakeSteps : Type 0
+SpecifiersTakeSteps = (env : Env) (at : ℕ) (node : TypeNode) (n : Notes) → Steps n (leaf env at node n).1
+
+abbrev pub DeclaratorsTakeSteps : Type 0
+DeclaratorsTakeSteps =
+    (at : ℕ) (node : TypeNode) (of : Option DeclaredType) (s : State) → Steps s.1 (derive at node of s).1.1
+
+-- ---- what follows of it
+
+-- one list stands first in another one
+pub record StandsFirst {A : Type 0} (xs ys : List A) : Type 0 where
+  pub more : List A
+  pub same : ys ≡ xs ++ more
+
+-- structs, faults and texts that were noted stay as they are, and others are added behind them
 pub record OnlyAdds (n later : Notes) : Type 0 where
-  pub more : List StructDef
-  pub same : later.structs ≡ n.structs ++ more
+  pub structs : StandsFirst n.structs later.structs
+  pub faults : StandsFirst n.faults later.faults
+  pub texts : StandsFirst n.texts later.texts
+  pub first : later.first_text ≡ n.first_text
 
-abbrev pub ExpressionsAddStructs : Type 0
-ExpressionsAddStructs = (x : Expr) (s : State) → OnlyAdds s.1 (judge x s).1.1
-
-abbrev pub SpecifiersAddStructs : Type 0
-SpecifiersAddStructs = (env : Env) (at : ℕ) (node : TypeNode) (n : Notes) → OnlyAdds n (leaf env at node n).1
-
-abbrev pub DeclaratorsAddStructs : Type 0
-DeclaratorsAddStructs =
-    (at : ℕ) (node : TypeNode) (of : Option DeclaredType) (s : State) → OnlyAdds s.1 (derive at node of s).1.1
+abbrev pub StepsAdd : Type 0
+StepsAdd = (n later : Notes) → Steps n later → OnlyAdds n later

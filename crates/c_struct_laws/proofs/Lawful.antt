@@ -28,14 +28,14 @@ incomplete_lawful known name = record { members = refl; size = refl; align = ref
 module _ (ds es : List StructDef) (k : AreKnown ds es) where
   -- ---- types of objects are the same among both
 
-  same_align : (x : PlainType) → IsTrue (is_object ds x) → align_of es x ≡ align_of ds x
+  pub same_align : (x : PlainType) → IsTrue (is_object ds x) → align_of es x ≡ align_of ds x
   same_align Void h = refl
   same_align (Int n s) h = refl
   same_align (Pointer x) h = refl
   same_align (Array x n) h = same_align x (front (is_object ds x) (nat_le 1 n) (front (is_object ds x && nat_le 1 n) (nat_le (size_of ds x * n) MOST_DATA) h))
   same_align (Struct n) h = ap struct_align (k n h)
 
-  same_depth : (x : PlainType) → IsTrue (is_object ds x) → depth_of es x ≡ depth_of ds x
+  pub same_depth : (x : PlainType) → IsTrue (is_object ds x) → depth_of es x ≡ depth_of ds x
   same_depth Void h = refl
   same_depth (Int n s) h = refl
   same_depth (Pointer x) h = refl

@@ -1,6 +1,6 @@
 use Rattle.c_note_laws.proofs.Walks.{judge_adds, derive_adds}
 use Rattle.c_note_laws.proofs.Forms.{leaf_adds}
-use Rattle.c_note_laws.proofs.laws.structs_are_only_added.Goals as goal
+use Rattle.c_note_laws.proofs.laws.judgements_take_steps.Goals as goal
 
 pub returns-clause-expressions : goal.returns-clause-expressions
 returns-clause-expressions c = judge_adds

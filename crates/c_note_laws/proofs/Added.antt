@@ -1,0 +1,40 @@
+-- What steps note is added to what was noted.
+use Rattle.std.proofs.Common.{◌≡◌, List, [], ◌∷◌, ◌++◌, refl, ap, ◌∙◌, append_assoc}
+use Rattle.c_checks.specs.declared.notes.Notes.{Notes}
+use Rattle.c_judgements.specs.Leaves.{incomplete}
+use Rattle.c_note_laws.specs.Steps.{Steps}
+use Rattle.c_note_laws.specs.Laws.{StandsFirst, OnlyAdds}
+
+append_none : {A : Type 0} (xs : List A) → xs ≡ xs ++ []
+append_none [] = refl
+append_none (x ∷ xs) = ap (λ ys. x ∷ ys) (append_none xs)
+
+itself : {A : Type 0} (xs : List A) → StandsFirst xs xs
+itself xs = record { more = []; same = append_none xs }
+
+one_more : {A : Type 0} (xs : List A) (x : A) → StandsFirst xs (xs ++ x ∷ [])
+one_more xs x = record { more = x ∷ []; same = refl }
+
+farther : {A : Type 0} (xs ys zs : List A) → StandsFirst xs ys → StandsFirst ys zs → StandsFirst xs zs
+farther xs ys zs h g = record { more = h.more ++ g.more; same = g.same ∙ (ap (λ l. l ++ g.more) h.same ∙ append_assoc xs h.more g.more) }
+
+pub steps_add : {n later : Notes} → Steps n later → OnlyAdds n later
+steps_add {n = n} Steps.Stays = record { structs = itself n.structs; faults = itself n.faults; texts = itself n.texts; first = refl }
+steps_add {n = n} (Steps.Follows {m = m} {later = later} h g) =
+    let a = steps_add h in
+    let b = steps_add g in
+    record {
+      structs = farther n.structs m.structs later.structs a.structs b.structs;
+      faults = farther n.faults m.faults later.faults a.faults b.faults;
+      texts = farther n.texts m.texts later.texts a.texts b.texts;
+      first = b.first ∙ a.first;
+    }
+steps_add {n = n} (Steps.AddsFault at kind) = record { structs = itself n.structs; faults = one_more n.faults _; texts = itself n.texts; first = refl }
+steps_add {n = n} (Steps.AddsUse number at) = record { structs = itself n.structs; faults = itself n.faults; texts = itself n.texts; first = refl }
+steps_add {n = n} (Steps.ListsAddresses addressed) = record { structs = itself n.structs; faults = itself n.faults; texts = itself n.texts; first = refl }
+steps_add {n = n} (Steps.AddsText bytes) = record { structs = itself n.structs; faults = itself n.faults; texts = one_more n.texts bytes; first = refl }
+steps_add {n = n} (Steps.Aside inner) =
+    let a = steps_add inner in
+    record { structs = a.structs; faults = a.faults; texts = itself n.texts; first = a.first }
+steps_add {n = n} (Steps.AddsEnum name) = record { structs = itself n.structs; faults = itself n.faults; texts = itself n.texts; first = refl }
+steps_add {n = n} (Steps.AddsStruct name) = record { structs = one_more n.structs (incomplete name); faults = itself n.faults; texts = itself n.texts; first = refl }

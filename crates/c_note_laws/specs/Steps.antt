@@ -1,0 +1,22 @@
+-- What judgements note (C99 6.5 to 6.7): faults, uses, texts, tags, and structs of which no member is known, each
+-- behind those that were noted before. Of the locals whose addresses were taken nothing is said.
+use Rattle.std.specs.Prelude.{ℕ, List, length}
+use Rattle.c_type_faults.specs.declared.faults.Kind.{Kind}
+use Rattle.c_checks.specs.declared.meanings.Tag.TheVariants as g
+use Rattle.c_checks.specs.declared.notes.Notes.{Notes}
+use Rattle.c_checks.specs.Notes.{with_fault, with_use, with_taken, new_text, apart, rejoin, new_struct, with_tag}
+use Rattle.c_judgements.specs.Leaves.{incomplete}
+
+-- one after the other
+pub data Steps : (n later : Notes) → Type 0 where
+  Stays : {n : Notes} → Steps n n
+  Follows : {n m later : Notes} → Steps n m → Steps m later → Steps n later
+  AddsFault : {n : Notes} (at : ℕ) (kind : Kind) → Steps n (with_fault at kind n)
+  AddsUse : {n : Notes} (number at : ℕ) → Steps n (with_use number at n)
+  ListsAddresses : {n : Notes} (addressed : List ℕ) → Steps n (with_taken addressed n.texts n)
+  AddsText : {n : Notes} (bytes : List ℕ) → Steps n (new_text bytes n).1
+  -- what an operand that is not evaluated takes is forgotten
+  Aside : {n m : Notes} → Steps (apart n) m → Steps n (rejoin n.addressed n.texts m)
+  AddsEnum : {n : Notes} (name : List ℕ) → Steps n (with_tag name g.Enum n)
+  AddsStruct : {n : Notes} (name : List ℕ) →
+      Steps n (with_tag name (g.Struct (length n.structs)) (new_struct (incomplete name) n).1)
