@@ -1,10 +1,9 @@
 //! What is asked of instructions.
 
-ghost use Rattle.std.specs.Prelude.{◌≡◌, ◌<◌, ◌≤◌, ◌^◌, All, slice_get};
-ghost use Rattle.std.specs.Bool.{OnTrue};
-ghost use Rattle.suifvm_ir.specs.Functions.{AllInsns};
+ghost use Rattle.std.specs.Prelude.{◌≡◌, slice_get};
+ghost use Rattle.std.specs.List.{list_all};
 ghost use Rattle.suifvm_ir.specs.Programs as programs;
-ghost use Rattle.frame_checks.specs.model.Asked.{IsAsked};
+ghost use Rattle.frame_checks.specs.model.Asked.{is_asked};
 
 use data_object::DataObject;
 use suifvm_ir::block::Block;
@@ -14,6 +13,9 @@ use temp_ir::insn::TempInsn;
 
 /// No call has more arguments.
 const MOST_ARGUMENTS: u32 = 1 << 24;
+
+/// The label of the function with the number 0.
+const FUNCTIONS: u64 = 256;
 
 /// Whether an object of static storage is there and has so many bytes.
 fn global_reaches(globals: &[DataObject], global: usize, plus: u64) -> bool
@@ -57,7 +59,7 @@ fn insn_asks(
     first_label: u32,
     insn: &TempInsn,
 ) -> bool
-    ensures { OnTrue result (IsAsked globals.now objects.now first_label insn.now) }
+    ensures { result ≡ is_asked globals.now objects.now first_label insn.now }
 {
     match insn {
         TempInsn::ObjectAddress { place, plus, .. } => {
@@ -66,24 +68,21 @@ fn insn_asks(
         TempInsn::Call {
             function,
             arguments,
-        } => {
-            if u64::from(*function) + 256 >= u64::from(first_label) {
-                return false;
-            }
-            *arguments <= MOST_ARGUMENTS
-        }
+        } => FUNCTIONS + u64::from(*function) < u64::from(first_label)
+            && *arguments <= MOST_ARGUMENTS,
         _ => true,
     }
 }
 
 /// Whether each instruction of a block is.
+#[tactic(auto, using(crate::proofs::Loops::insns_next, crate::proofs::Loops::insns_wrong))]
 fn block_asks(
     globals: &[DataObject],
     objects: &[MemoryLocal],
     first_label: u32,
     block: &Block<TempInsn>,
 ) -> bool
-    ensures { OnTrue result (All (IsAsked globals.now objects.now first_label) block.now) }
+    ensures { result ≡ list_all (is_asked globals.now objects.now first_label) block.now }
 {
     for line in block.insns.iter() {
         let (_id, insn) = line;
@@ -95,13 +94,14 @@ fn block_asks(
 }
 
 /// Whether each instruction of each block is.
+#[tactic(auto, using(crate::proofs::Loops::all_next, crate::proofs::Loops::all_wrong, crate::proofs::Loops::all_end))]
 pub(crate) fn all_ask(
     globals: &[DataObject],
     objects: &[MemoryLocal],
     first_label: u32,
     blocks: &[Block<TempInsn>],
 ) -> bool
-    ensures { OnTrue result (AllInsns (IsAsked globals.now objects.now first_label) blocks.now) }
+    ensures { result ≡ list_all (list_all (is_asked globals.now objects.now first_label)) blocks.now }
 {
     for block in blocks {
         if !block_asks(globals, objects, first_label, block) {

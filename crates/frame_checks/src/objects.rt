@@ -1,17 +1,15 @@
 //! What is asked of objects.
 
-ghost use Rattle.std.specs.Prelude.{◌≤◌, ◌^◌, map};
-ghost use Rattle.std.specs.Bool.{OnTrue};
-ghost use Rattle.data_object.specs.Layout.{LieFrom};
-ghost use Rattle.flat_frames.specs.Shapes.{objects_size};
+ghost use Rattle.std.specs.Prelude.{◌≡◌};
+ghost use Rattle.frame_checks.specs.model.Storage as storage;
 
 use data_object::{DataObject, MOST_DATA, next_place};
 use suifvm_ir::function::MemoryLocal;
 
 /// Whether memory locals, each up to a multiple of 8, have no more bytes than data may have.
-#[tactic(auto, using(frame_layout::proofs::Objects::end_next))]
+#[tactic(auto, using(crate::proofs::Storage::small_next, crate::proofs::Storage::small_large, crate::proofs::Storage::small_past, crate::proofs::Storage::small_end))]
 pub(crate) fn are_small(objects: &[MemoryLocal]) -> bool
-    ensures { OnTrue result (objects_size (map (λ o. o.size) objects.now) ≤ 2 ^ 26) }
+    ensures { result ≡ storage.are_small_from 0 objects.now }
 {
     let mut end = 0;
     for object in objects {
@@ -27,18 +25,22 @@ pub(crate) fn are_small(objects: &[MemoryLocal]) -> bool
 }
 
 /// Whether objects of static storage lie one behind the other, none of them past the end of the most data.
+#[tactic(auto, using(crate::proofs::Storage::lie_next, crate::proofs::Storage::lie_large, crate::proofs::Storage::lie_elsewhere, crate::proofs::Storage::lie_past, crate::proofs::Storage::lie_end))]
 pub(crate) fn lie_in_order(globals: &[DataObject]) -> bool
-    ensures { OnTrue result (LieFrom 0 globals.now) }
+    ensures { result ≡ storage.lie_from 0 globals.now }
 {
     let mut end = 0;
     for object in globals {
-        if end > MOST_DATA || object.size > MOST_DATA {
+        if object.size > MOST_DATA {
             return false;
         }
         if object.offset != next_place(end) {
             return false;
         }
         end = object.offset + object.size;
+        if end > MOST_DATA {
+            return false;
+        }
     }
     true
 }

@@ -1,12 +1,14 @@
--- What is asked of an instruction.
-use Rattle.std.specs.Prelude.{ℕ, ◌≤◌, ◌^◌, List}
+-- What is asked of an instruction, as a test.
+use Rattle.std.specs.Prelude.{ℕ, ◌^◌, ◌&&◌, nat_lt, nat_le, Bool, true, List}
 use Rattle.data_object.specs.declared.DataObject.{DataObject}
 use Rattle.suifvm_ir.specs.declared.function.MemoryLocal.{MemoryLocal}
+use Rattle.suifvm_ir.specs.Programs.{place_reaches}
 use Rattle.temp_ir.specs.declared.insn.TempInsn.{TempInsn}
-use Rattle.alloc_model.specs.Effect.{width_of}
-use Rattle.frame_layout.specs.Names.{NamesObjects, CallsBelow}
+use Rattle.temp_ir.specs.declared.insn.TempInsn.TheVariants.{ObjectAddress, Call}
+use Rattle.instruction_items.specs.Items.{function_label}
 
-pub record IsAsked (globals : List DataObject) (objects : List MemoryLocal) (first : ℕ) (x : TempInsn) : Type 0 where
-  pub calls : CallsBelow first x
-  pub names : NamesObjects globals objects x
-  pub width : width_of x ≤ 2 ^ 24
+abbrev pub is_asked : List DataObject → List MemoryLocal → (first : ℕ) → TempInsn → Bool
+is_asked globals objects first (ObjectAddress destination place plus) = place_reaches globals objects plus place
+is_asked globals objects first (Call function arguments) =
+    nat_lt (function_label function) first && nat_le arguments (2 ^ 24)
+is_asked globals objects first _ = true

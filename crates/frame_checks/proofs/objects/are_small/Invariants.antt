@@ -1,6 +1,6 @@
-use Rattle.std.proofs.Common.{◌≡◌, ◌≤◌, ◌+◌, ◌^◌, map, take}
-use Rattle.flat_frames.specs.Shapes.{objects_size}
+use Rattle.std.proofs.Common.{◌≡◌, ◌≤◌, ◌^◌, drop}
+use Rattle.frame_checks.specs.model.Storage.{are_small_from}
 use Rattle.frame_checks.proofs.objects.are_small.Given as goal
 
 abbrev pub invariant-loop-object : goal.invariant-loop-object
-invariant-loop-object l = (l.end ≡ 0 + objects_size (map (λ o. o.size) (take l.object-index l.objects))) × (l.end ≤ 2 ^ 26)
+invariant-loop-object l = (are_small_from 0 l.objects ≡ are_small_from l.end (drop l.object-index l.objects)) × (l.end ≤ 2 ^ 26)
