@@ -1,0 +1,26 @@
+-- A function is found, unless a fault was noted or a use of what is never defined.
+use Rattle.std.specs.Prelude.{Bool, true, false, IsTrue, List, [], ◌∷◌, Option, Some, None}
+use Rattle.c_tree.specs.declared.types.Declaration.{Declaration}
+use Rattle.c_tree.specs.declared.statements.Stmt.{Stmt}
+use Rattle.c_judgements.specs.Types.{State}
+use Rattle.c_statements.specs.declared.functions.FunctionType.{FunctionType}
+use Rattle.c_statements.specs.Functions.{parameters_of, function}
+use Rattle.c_found_laws.specs.Laws.{Tells, IsFound}
+
+-- whether there is a type for each parameter
+abbrev pub are_as_many : {A B : Type 0} → List A → List B → Bool
+are_as_many [] [] = true
+are_as_many [] (y ∷ ys) = false
+are_as_many (x ∷ xs) [] = false
+are_as_many (x ∷ xs) (y ∷ ys) = are_as_many xs ys
+
+-- a type that fits the declarator
+abbrev pub fits : Option FunctionType → Declaration → Bool
+fits None d = false
+fits (Some of) d = are_as_many (parameters_of d.ty) of.parameters
+
+-- what is judged of a function whose declarator has no fault
+abbrev pub FunctionsAreFound : Type 0
+FunctionsAreFound =
+    (d : Declaration) (of : Option FunctionType) (list : List Stmt) (s : State) →
+    Tells (IsTrue (fits of d) → IsFound (function d of list s).0) s (function d of list s).1

@@ -1,0 +1,9 @@
+pub mod Bodies
+pub mod Names
+pub mod Initialisers
+pub mod Constants
+pub mod Declarations
+pub mod Shapes
+pub mod Externals
+pub mod Numbers
+pub mod Units

@@ -1,0 +1,82 @@
+-- What declarations at file scope without a fault change of the unit and of the names in scope.
+use Rattle.std.specs.Prelude.{◌≡◌, ℕ, Bool, true, false, not, ◌&&◌, ◌||◌, IsTrue, List, Option, Some, None}
+use Rattle.c_arithmetic.specs.declared.integer_type.IntegerType.TheVariants.{Int}
+use Rattle.c_arithmetic.specs.Words.{is_word}
+use Rattle.c_tree.specs.declared.types.Declaration.{Declaration}
+use Rattle.c_tree.specs.declared.statements.Stmt.{Stmt}
+use Rattle.data_object.specs.declared.DataCell.{DataCell}
+use Rattle.c_scopes.specs.Names.{find}
+use Rattle.c_typed_tree.specs.declared.types.CType.{CType}
+use Rattle.c_typed_tree.specs.declared.units.TypedFn.{TypedFn}
+use Rattle.c_declared_types.specs.declared.declared.DeclaredType.{DeclaredType}
+use Rattle.c_declared_types.specs.declared.declared.DeclaredType.TheVariants as d
+use Rattle.c_checks.specs.declared.env.Env.{Env}
+use Rattle.c_checks.specs.declared.meanings.NameMeaning.TheVariants as m
+use Rattle.c_checks.specs.declared.notes.Notes.{Notes}
+use Rattle.c_checks.specs.Scopes.{with_name, meaning_of}
+use Rattle.c_definitions.specs.declared.names.Definitions.{Definitions}
+use Rattle.c_statements.specs.declared.functions.FunctionType.{FunctionType}
+use Rattle.c_statements.specs.Functions.{function}
+use Rattle.c_unit_names.specs.declared.names.NameDeclaration.{NameDeclaration}
+use Rattle.c_unit_names.specs.declared.names.UnitNames.{UnitNames}
+use Rattle.c_unit_names.specs.UnitNames.{may_follow, named_first, with_declared, with_value}
+use Rattle.c_declarations.specs.declared.walk.UnitSoFar.{UnitSoFar}
+use Rattle.c_declarations.specs.Walk.{with_names, add_object, keep_cells, keep_function}
+use Rattle.c_declarations.specs.Functions.{with_main, function_declared}
+use Rattle.c_declarations.specs.Objects.{object_declared}
+use Rattle.c_externals.specs.Externals.{typedef_of}
+
+-- a name that is declared for the first time, or again
+pub data IsDeclared (ds : Definitions) (name : List ℕ) (new : NameDeclaration) : UnitNames → Env → UnitNames → Env → Type 0 where
+  First : {u : UnitNames} {env : Env} → find name u.declared ≡ None → meaning_of env name ≡ None →
+      IsDeclared ds name new u env (named_first ds name new u env).0 (named_first ds name new u env).1
+  Again : {u : UnitNames} {env : Env} (old : ℕ × NameDeclaration) → find name u.declared ≡ Some old →
+      IsTrue (may_follow old.1 new) →
+      IsDeclared ds name new u env (with_declared name (with_value (old.1.has_value || new.has_value) new) u) env
+
+-- the type of a declaration of a function
+abbrev pub declared_as : FunctionType → DeclaredType
+declared_as of = d.Function of.result of.parameters
+
+pub data UnitSteps (ds : Definitions) : UnitSoFar → Env → UnitSoFar → Env → Type 0 where
+  Stays : {u : UnitSoFar} {env : Env} → UnitSteps ds u env u env
+  Follows : {u v w : UnitSoFar} {env mid later : Env} →
+      UnitSteps ds u env v mid → UnitSteps ds v mid w later → UnitSteps ds u env w later
+  -- an enumeration constant, whose value is one of the type `int`
+  AddsConstant : {u : UnitSoFar} {env : Env} (name : List ℕ) (word : ℕ) → find name env.names ≡ None →
+      IsTrue (is_word Int word) → UnitSteps ds u env u (with_name name (m.Constant word) env)
+  SeesMain : {u : UnitSoFar} {env : Env} (is_defined : Bool) → UnitSteps ds u env (with_main is_defined u) env
+  DeclaresType : {u : UnitSoFar} {env : Env} {names : UnitNames} {later : Env} (name : List ℕ) (ty : DeclaredType) →
+      IsDeclared ds name (typedef_of ty) u.names env names later → UnitSteps ds u env (with_names names u) later
+  DeclaresFunction : {u : UnitSoFar} {env : Env} {names : UnitNames} {later : Env} (name : List ℕ) (of : FunctionType) →
+      IsDeclared ds name (function_declared false (declared_as of)) u.names env names later →
+      UnitSteps ds u env (with_names names u) later
+  -- a function is declared, and then its body is judged
+  DefinesFunction : {u : UnitSoFar} {env : Env} {names : UnitNames} {later : Env} (e : Declaration) (of : FunctionType)
+      (list : List Stmt) (n : Notes) (f : TypedFn) →
+      IsDeclared ds e.name (function_declared true (declared_as of)) u.names env names later →
+      (function e (Some of) list (later, n)).0 ≡ Some f →
+      UnitSteps ds u env (keep_function later e.name (Some f) (with_names names u)) later
+  DeclaresObject : {u : UnitSoFar} {env : Env} {names : UnitNames} {later : Env} (name : List ℕ) (ty : CType)
+      (has_value : Bool) → IsDeclared ds name (object_declared ty has_value) u.names env names later →
+      UnitSteps ds u env (add_object later name ty (with_names names u)) later
+  KeepsCells : {u : UnitSoFar} {env : Env} (name : List ℕ) (cells : List DataCell) →
+      UnitSteps ds u env (keep_cells env name (Some cells) u) env
+
+-- ---- names that have a body
+
+abbrev pub is_function_type : DeclaredType → Bool
+is_function_type (d.Value ty) = false
+is_function_type (d.Unsized ty) = false
+is_function_type (d.Function of parameters) = true
+
+abbrev pub is_body : NameDeclaration → Bool
+is_body a = not a.is_typedef && a.has_value && is_function_type a.ty
+
+abbrev pub is_body_in : Option (ℕ × NameDeclaration) → Bool
+is_body_in None = false
+is_body_in (Some r) = is_body r.1
+
+-- a function whose body was judged
+abbrev pub has_body : List ℕ → UnitNames → Bool
+has_body name u = is_body_in (find name u.declared)

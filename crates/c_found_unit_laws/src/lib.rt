@@ -1,0 +1,6 @@
+//! Laws of units that are judged: where nothing was noted, every declaration is found.
+//!
+//! It has laws alone and no bodies.
+#![tactic(auto)]
+
+pub mod laws;
