@@ -1,0 +1,25 @@
+-- What functions and initialisers note (C99 6.7.8, 6.8, 6.9.1).
+use Rattle.std.specs.Prelude.{List, Option}
+use Rattle.c_tree.specs.declared.declarations.Init.{Init}
+use Rattle.c_tree.specs.declared.statements.Stmt.{Stmt}
+use Rattle.c_tree.specs.declared.types.Declaration.{Declaration}
+use Rattle.c_typed_tree.specs.declared.types.CType.{CType}
+use Rattle.c_type_faults.specs.declared.faults.Kind.{Kind}
+use Rattle.c_judgements.specs.Types.{State}
+use Rattle.c_note_laws.specs.Steps.{Steps}
+use Rattle.c_statements.specs.declared.functions.FunctionType.{FunctionType}
+use Rattle.c_statements.specs.Functions.{function}
+use Rattle.c_initialisers.specs.Initialisers.{object_cells}
+use Rattle.c_initialisers.specs.Unfit.{judge_init, unfit}
+
+abbrev pub FunctionsTakeSteps : Type 0
+FunctionsTakeSteps =
+    (d : Declaration) (of : Option FunctionType) (list : List Stmt) (s : State) → Steps s.1 (function d of list s).1.1
+
+abbrev pub InitialisersTakeSteps : Type 0
+InitialisersTakeSteps = (ty : CType) (x : Init) (s : State) → Steps s.1 (object_cells ty x s).1.1
+
+-- what an initialiser is made of, where it initialises nothing
+abbrev pub InitialisersAreJudgedBySteps : Type 0
+InitialisersAreJudgedBySteps =
+    (x : Init) (s : State) → Steps s.1 (judge_init x s).1.1 × ((kind : Kind) → Steps s.1 (unfit kind x s).1.1)

@@ -1,0 +1,4 @@
+//! What functions and initialisers note.
+#![tactic(auto)]
+
+pub mod laws;
