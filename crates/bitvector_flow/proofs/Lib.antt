@@ -2,3 +2,4 @@ pub mod Unions
 pub mod Rounds
 pub mod Registers
 pub mod Lives
+pub mod Tested

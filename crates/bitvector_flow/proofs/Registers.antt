@@ -94,14 +94,14 @@ pushed_at R c d ends (a ∷ xs) [] same all x y last k = absurd (omega (arith, s
 pushed_at R c d ends (a ∷ xs) (b ∷ ys) same all x y last zero = all 0
 pushed_at R c d ends (a ∷ xs) (b ∷ ys) same all x y last (suc k) = pushed_at R c d ends xs ys (omega (arith, same)) (λ j. all (suc j)) x y last k
 
-pushed_bounds : (bound : ℕ) (xs : List (List Bool)) (x : List Bool) → ((b : ℕ) → b < length xs → length (get_or xs b []) ≡ bound) → length x ≡ bound →
+pub pushed_bounds : (bound : ℕ) (xs : List (List Bool)) (x : List Bool) → ((b : ℕ) → b < length xs → length (get_or xs b []) ≡ bound) → length x ≡ bound →
     (b : ℕ) → b < length (xs ++ x ∷ []) → length (get_or (xs ++ x ∷ []) b []) ≡ bound
 pushed_bounds bound [] x all last zero within = last
 pushed_bounds bound [] x all last (suc b) within = absurd (omega (arith, within))
 pushed_bounds bound (a ∷ xs) x all last zero within = all 0 (omega arith)
 pushed_bounds bound (a ∷ xs) x all last (suc b) within = pushed_bounds bound xs x (λ k below. all (suc k) (omega (arith, below))) last b (omega (arith, within))
 
-length_push : {A : Type 0} (xs : List A) (x : A) → length (xs ++ x ∷ []) ≡ suc (length xs)
+pub length_push : {A : Type 0} (xs : List A) (x : A) → length (xs ++ x ∷ []) ≡ suc (length xs)
 length_push [] x = refl
 length_push (y ∷ xs) x = ap suc (length_push xs x)
 

@@ -7,7 +7,7 @@ ghost use Rattle.bitvector_flow.specs.Lives.{HasFewRegisters, AreLive};
 
 use crate::blocks::{BlockSets, block_sets};
 use crate::flow::Flow;
-use crate::solve::{Solution, solve_sets};
+use crate::settling::{Solution, solve_sets};
 use c_tree::Seq;
 use cfg::Graph;
 use pass_core::Insn;

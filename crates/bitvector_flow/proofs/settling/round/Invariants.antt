@@ -1,7 +1,7 @@
 -- The blocks so far are settled where nothing grew, and the sets have no more than what flows.
 use Rattle.std.proofs.Common.{◌≡◌, List, Bool, length}
 use Rattle.bitvector_flow.specs.model.Rounds.{AreForced, IsSwept}
-use Rattle.bitvector_flow.proofs.solve.round.Given as goal
+use Rattle.bitvector_flow.proofs.settling.round.Given as goal
 
 abbrev pub invariant-loop-i : goal.invariant-loop-i
 invariant-loop-i l = record {

@@ -1,7 +1,7 @@
 -- The sets have their bounds, and no more than what flows.
 use Rattle.std.proofs.Common.{◌≡◌, List, Bool, length}
 use Rattle.bitvector_flow.specs.model.Rounds.{missing, AreBelow, AreForced}
-use Rattle.bitvector_flow.proofs.solve.settle_all.Given as goal
+use Rattle.bitvector_flow.proofs.settling.settle_all.Given as goal
 
 abbrev pub invariant-loop : goal.invariant-loop
 invariant-loop l = record {

@@ -1,7 +1,7 @@
 use Rattle.std.proofs.Common.{◌≡◌, refl, subst, length, arith, ◌∙◌}
 use Rattle.bitvector_flow.specs.model.Rounds.{IsSwept}
 use Rattle.bitvector_flow.proofs.Rounds.{sweep_begins, sweep_next, forced_next, bound_same}
-use Rattle.bitvector_flow.proofs.solve.round.Goals as goal
+use Rattle.bitvector_flow.proofs.settling.round.Goals as goal
 
 pub loop-i-init : goal.loop-i-init
 loop-i-init c = record {

@@ -1,5 +1,5 @@
 use Rattle.bitvector_flow.proofs.Rounds.{solved}
-use Rattle.bitvector_flow.proofs.solve.solve_sets.Goals as goal
+use Rattle.bitvector_flow.proofs.settling.solve_sets.Goals as goal
 
 pub returns : goal.returns
 returns c =

@@ -1,6 +1,6 @@
 use Rattle.std.proofs.Common.{length, ◌∙◌}
 use Rattle.bitvector_flow.proofs.Rounds.{fewer_missing, bound_same, flows_at_end}
-use Rattle.bitvector_flow.proofs.solve.settle_all.Goals as goal
+use Rattle.bitvector_flow.proofs.settling.settle_all.Goals as goal
 
 pub round-requires-clause-stops : goal.round-requires-clause-stops
 round-requires-clause-stops c = bound_same _ _ _ c.loop.invariant.spare c.requires.stops

@@ -1,7 +1,7 @@
 use Rattle.std.proofs.Common.{[], length, get_or, set}
 use Rattle.std.proofs.lemmas.List.{get_or_default}
 use Rattle.bitvector_flow.proofs.Rounds.{read_again, step}
-use Rattle.bitvector_flow.proofs.solve.settle.Goals as goal
+use Rattle.bitvector_flow.proofs.settling.settle.Goals as goal
 
 pub returns-clause-step : goal.returns-clause-step
 returns-clause-step c =
