@@ -4,7 +4,7 @@
 -- writes; and each temporary that is written. A temporary keeps its place until something takes its register, in holes
 -- of its lifetime too, so it leaves there wherever its lifetime covers the point. A write that keeps its register gives
 -- none.
-use Rattle.std.specs.Prelude.{◌≡◌, ℕ, suc, ◌+◌, ◌*◌, Bool, List, [], ◌∷◌, ◌++◌, map, zip, flat_map, Option, Some, None, if◌then◌else◌}
+use Rattle.std.specs.Prelude.{◌≡◌, ℕ, suc, ◌+◌, ◌*◌, ◌==◌, Bool, List, [], ◌∷◌, ◌++◌, map, zip, flat_map, Option, Some, None, if◌then◌else◌}
 use Rattle.temp_ir.specs.declared.insn.TempInsn.{TempInsn}
 use Rattle.temp_ir.specs.Insns.{writes_of}
 use Rattle.alloc_model.specs.declared.allocation.Transfer.{Transfer}
@@ -43,7 +43,7 @@ assigned_by_move x = []
 
 abbrev pub assigned_unless : Option ℕ → (t r : ℕ) → List Event
 assigned_unless None t r = event.Assign t r ∷ []
-assigned_unless (Some q) t r = []
+assigned_unless (Some q) t r = if q == r then [] else event.Assign t r ∷ []
 
 -- the events of a visit, with the places before it, before its writes, and behind it
 abbrev pub visit_events : Plan → Wants → (number : ℕ) → List Transfer → (writes : List (ℕ × ℕ)) →
