@@ -1,10 +1,7 @@
-mod Sets
-mod Registers
-mod Lists
-mod EdgeCodes
-mod Walk
-mod Given
-mod Faithfulness
-mod Counts
+mod Homes
+mod Steps
+mod Journals
+mod Comes
+mod Nexts
 mod Loops
-mod Lean
+mod Made

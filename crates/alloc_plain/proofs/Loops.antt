@@ -1,71 +1,117 @@
 -- One turn of each loop.
-use Rattle.std.proofs.Common.{◌≡◌, ◌≢◌, ℕ, zero, suc, ◌+◌, ◌<◌, ◌≤◌, List, [], ◌∷◌, ◌++◌, Option, Some, if◌then◌else◌, refl, sym, ap, ◌∙◌, length, map, take, append_assoc, append-nil, arith}
-use Rattle.std.specs.Prelude.{slice_index_or}
-use Rattle.std.proofs.lemmas.Bool.{lt-ltb, le-ltb}
+use Rattle.std.proofs.Common.{◌≡◌, ℕ, zero, suc, ◌+◌, ◌<◌, ◌≤◌, Bool, true, List, [], ◌∷◌, ◌++◌, Option, Some, None, refl, sym, ap, ◌∙◌, subst, length, take, drop, append_assoc, append-nil, arith}
+use Rattle.std.specs.Prelude.{All, Contains, IfSome, slice_get, slice_index_or}
+use Rattle.std.proofs.lemmas.Bool.{eq-eqb}
+use Rattle.std.proofs.lemmas.Option.{get_or_from_slice_get}
+use Rattle.std.proofs.lemmas.List.Sums.{sum_by-take-le}
 use Rattle.bk_ilist.specs.Listing.{items}
-use Rattle.suifvm_ir.specs.Functions.{last_of, successors_of}
-use Rattle.cfg.specs.Edges.{successors_from}
+use Rattle.suifvm_ir.specs.Functions.{UsesRegisters, count_of}
 use Rattle.temp_ir.specs.declared.insn.TempInsn.{TempInsn}
-use Rattle.temp_ir.specs.Insns.{reads_of, targets_of, flows_on_of}
-use Rattle.alloc_model.specs.declared.allocation.Transfer.{Transfer}
-use Rattle.alloc_model.specs.Faithful.{rising}
-use Rattle.alloc_plain.specs.Plain.{loads, registers_of, stores_behind, transfers_from, edge_code, edges_behind, all_edges}
+use Rattle.temp_ir.specs.Insns.{reads_of, writes_of}
+use Rattle.alloc_model.specs.Lifetimes.{Blocks}
+use Rattle.alloc_model.specs.declared.allocation.Event.{Event}
+use Rattle.plain_lists.proofs.Lists.{there}
+use Rattle.alloc_plain.specs.declared.holders.Held.{Held}
+use Rattle.alloc_plain.specs.model.Held.{is_in, held_left, held_behind, held_behind_all, held_at_top, Holds}
+use Rattle.alloc_plain.specs.model.Visits.{visit_in_slots, visits_in_slots, journal_in_slots}
+use Rattle.alloc_plain.proofs.Steps.{left_holds, behind_holds}
+use Rattle.alloc_plain.proofs.Journals.{count_step}
 
-pub transfers_next : (out : List (List Transfer)) (p : Option TempInsn) (i : TempInsn) (rest all : List (ℕ × TempInsn)) (id : ℕ) → all ≡ (id, i) ∷ rest → (out ++ (stores_behind p ++ loads (reads_of i) 1) ∷ []) ++ transfers_from (Some i) (items rest) ≡ out ++ transfers_from p (items all)
-transfers_next out p i rest all id is =
-    append_assoc out ((stores_behind p ++ loads (reads_of i) 1) ∷ []) (transfers_from (Some i) (items rest)) ∙ sym (ap (λ x. out ++ transfers_from p (items x)) is)
+-- ---- the instructions of a block
 
-pub registers_next : (out : List (List ℕ)) (i : TempInsn) (rest all : List (ℕ × TempInsn)) (id : ℕ) → all ≡ (id, i) ∷ rest → (out ++ registers_of i ∷ []) ++ map registers_of (items rest) ≡ out ++ map registers_of (items all)
-registers_next out i rest all id is =
-    append_assoc out (registers_of i ∷ []) (map registers_of (items rest)) ∙ sym (ap (λ x. out ++ map registers_of (items x)) is)
+pub visits_next : (ends : List ℕ) (number next id : ℕ) (p : Option TempInsn) (x : TempInsn) (h h' : Held) (rest all : List (ℕ × TempInsn)) (out new whole : List Event) → all ≡ (id, x) ∷ rest →
+    new ≡ out ++ visit_in_slots ends number p x h → h' ≡ held_behind x h → next ≡ number + 1 →
+    out ++ visits_in_slots ends number p (items all) h ≡ whole → new ++ visits_in_slots ends next (Some x) (items rest) h' ≡ whole
+visits_next ends number next id p x h h' rest all out new whole is put behind step so_far =
+    ap (λ es. es ++ visits_in_slots ends next (Some x) (items rest) h') put
+    ∙ append_assoc out (visit_in_slots ends number p x h) (visits_in_slots ends next (Some x) (items rest) h')
+    ∙ ap (λ n. out ++ (visit_in_slots ends number p x h ++ visits_in_slots ends n (Some x) (items rest) h')) (let e : next ≡ suc number = omega (arith, step) in e)
+    ∙ ap (λ g. out ++ (visit_in_slots ends number p x h ++ visits_in_slots ends (suc number) (Some x) (items rest) g)) behind
+    ∙ sym (ap (λ ps. out ++ visits_in_slots ends number p (items ps) h) is) ∙ so_far
 
-pub rising_few : (xs : List ℕ) → length xs ≢ 2 → xs ≡ rising xs
-rising_few [] few = refl
-rising_few (a ∷ []) few = refl
-rising_few (a ∷ b ∷ []) few = absurd (few refl)
-rising_few (a ∷ b ∷ c ∷ xs) few = refl
+pub visits_done : (ends : List ℕ) (number : ℕ) (p : Option TempInsn) (h : Held) (left : List (ℕ × TempInsn)) (out whole : List Event) → left ≡ [] →
+    out ++ visits_in_slots ends number p (items left) h ≡ whole → out ≡ whole
+visits_done ends number p h left out whole none so_far = sym (append-nil out) ∙ sym (ap (λ ps. out ++ visits_in_slots ends number p (items ps) h) none) ∙ so_far
 
-pub rising_turned : (xs : List ℕ) (a b : ℕ) → length xs ≡ 2 → a ≡ slice_index_or xs 0 a → b ≡ slice_index_or xs 1 b → b < a → b ∷ a ∷ [] ≡ rising xs
-rising_turned [] a b two first second below = absurd (omega (arith, two))
-rising_turned (x ∷ []) a b two first second below = absurd (omega (arith, two))
-rising_turned (x ∷ y ∷ z ∷ xs) a b two first second below = absurd (omega (arith, two))
-rising_turned (x ∷ y ∷ []) a b two first second below =
-    ap (λ v. v ∷ a ∷ []) second ∙ ap (λ v. y ∷ v ∷ []) first
-    ∙ sym (ap (λ t. if t then y ∷ x ∷ [] else x ∷ y ∷ []) (lt-ltb y x (omega (arith, first, second, below))))
+pub behind_next : (id : ℕ) (x : TempInsn) (h h' whole : Held) (rest all : List (ℕ × TempInsn)) → all ≡ (id, x) ∷ rest → h' ≡ held_behind x h →
+    held_behind_all (items all) h ≡ whole → held_behind_all (items rest) h' ≡ whole
+behind_next id x h h' whole rest all is behind so_far =
+    ap (held_behind_all (items rest)) behind ∙ sym (ap (λ ps. held_behind_all (items ps) h) is) ∙ so_far
 
-pub rising_same : (xs : List ℕ) (a b : ℕ) → length xs ≡ 2 → a ≡ slice_index_or xs 0 a → b ≡ slice_index_or xs 1 b → a ≤ b → xs ≡ rising xs
-rising_same [] a b two first second above = refl
-rising_same (x ∷ []) a b two first second above = refl
-rising_same (x ∷ y ∷ z ∷ xs) a b two first second above = refl
-rising_same (x ∷ y ∷ []) a b two first second above =
-    sym (ap (λ t. if t then y ∷ x ∷ [] else x ∷ y ∷ []) (le-ltb y x (omega (arith, first, second, above))))
+pub behind_done : (h whole : Held) (left : List (ℕ × TempInsn)) → left ≡ [] → held_behind_all (items left) h ≡ whole → h ≡ whole
+behind_done h whole left none so_far = sym (ap (λ ps. held_behind_all (items ps) h) none) ∙ so_far
 
-edges_more : (start : ℕ) (blocks : List (List TempInsn)) (k n : ℕ) (d : List TempInsn) → n ≡ start + k → k < length blocks → all_edges start (take (suc k) blocks) ≡ all_edges start (take k blocks) ++ edges_behind n (slice_index_or blocks k d)
-edges_more start [] k n d e within = absurd (omega (arith, within))
-edges_more start (b ∷ bs) zero n d e within =
-    let same : start ≡ n = omega (arith, e) in
-    append-nil (edges_behind start b) ∙ ap (λ m. edges_behind m b) same
-edges_more start (b ∷ bs) (suc k) n d e within =
-    ap (λ es. edges_behind start b ++ es) (edges_more (suc start) bs k n d (omega (arith, e)) (omega (arith, within)))
-    ∙ sym (append_assoc (edges_behind start b) (all_edges (suc start) (take k bs)) (edges_behind n (slice_index_or bs k d)))
+named_below : (n : ℕ) (ts : List ℕ) → All (λ t. t < n) ts → (t : ℕ) → Contains ts t → t < n
+named_below n ts all t (k, within, is) = subst (λ u. u < n) is (all k t within)
 
-pub as_many : (start : ℕ) (blocks : List (List TempInsn)) → length (successors_from targets_of flows_on_of start blocks) ≡ length blocks
-as_many start [] = refl
-as_many start (b ∷ bs) = ap suc (as_many (suc start) bs)
+pub left_below : (n : ℕ) (x : TempInsn) (h left : Held) → UsesRegisters reads_of writes_of n x → left ≡ held_left x h → Holds (λ t. t < n) h → Holds (λ t. t < n) left
+left_below n x h left used is holds = subst (Holds (λ t. t < n)) (sym is) (left_holds (λ t. t < n) x h (named_below n (reads_of x) used.0) holds)
 
-followers_at : (start : ℕ) (blocks : List (List TempInsn)) (k n : ℕ) (d : List ℕ) (b : List TempInsn) → n ≡ start + k → k < length blocks → slice_index_or (successors_from targets_of flows_on_of start blocks) k d ≡ successors_of targets_of flows_on_of n (slice_index_or blocks k b)
-followers_at start [] k n d b e within = absurd (omega (arith, within))
-followers_at start (c ∷ bs) zero n d b e within =
-    let same : start ≡ n = omega (arith, e) in
-    ap (λ m. successors_of targets_of flows_on_of m c) same
-followers_at start (c ∷ bs) (suc k) n d b e within = followers_at (suc start) bs k n d b (omega (arith, e)) (omega (arith, within))
+pub behind_below : (n : ℕ) (x : TempInsn) (h h' : Held) → UsesRegisters reads_of writes_of n x → h' ≡ held_behind x h → Holds (λ t. t < n) h → Holds (λ t. t < n) h'
+behind_below n x h h' used is holds = subst (Holds (λ t. t < n)) (sym is)
+    (behind_holds (λ t. t < n) x (held_left x h) (named_below n (writes_of x) used.1) (left_holds (λ t. t < n) x h (named_below n (reads_of x) used.0) holds))
 
-pub edges_next : (blocks : List (List TempInsn)) (lists : List (List ℕ)) (at : ℕ) (block : List TempInsn) (followers : List ℕ) → lists ≡ successors_from targets_of flows_on_of 0 blocks → at < length blocks → block ≡ slice_index_or blocks at block → followers ≡ slice_index_or lists at followers → all_edges 0 (take at blocks) ++ map (edge_code at (stores_behind (last_of block))) (rising followers) ≡ all_edges 0 (take (at + 1) blocks)
-edges_next blocks lists at block followers all within here there =
-    let next : at + 1 ≡ suc at = omega arith in
-    let own : followers ≡ successors_of targets_of flows_on_of at (slice_index_or blocks at block) =
-    there ∙ ap (λ ls. slice_index_or ls at followers) all ∙ followers_at 0 blocks at at followers block (omega arith) within in
-    ap (λ fs. all_edges 0 (take at blocks) ++ map (edge_code at (stores_behind (last_of block))) (rising fs)) own
-    ∙ ap (λ x. all_edges 0 (take at blocks) ++ map (edge_code at (stores_behind (last_of x))) (rising (successors_of targets_of flows_on_of at (slice_index_or blocks at block)))) here
-    ∙ sym (edges_more 0 blocks at at block (omega arith) within)
-    ∙ ap (λ n. all_edges 0 (take n blocks)) (sym next)
+pub visit_put : (ends : List ℕ) (number : ℕ) (v : Event) (out one two three four five leaving moved loaded assigned written : List Event) →
+    one ≡ out ++ v ∷ [] → two ≡ one ++ leaving → three ≡ two ++ moved → four ≡ three ++ loaded → five ≡ four ++ assigned ++ written →
+    five ≡ out ++ (v ∷ leaving ++ moved ++ loaded ++ assigned ++ written)
+visit_put ends number v out one two three four five leaving moved loaded assigned written p q r s u =
+    u ∙ ap (λ es. es ++ assigned ++ written) (s ∙ ap (λ es. es ++ loaded) (r ∙ ap (λ es. es ++ moved) (q ∙ ap (λ es. es ++ leaving) p)))
+    ∙ ap (λ es. es ++ written) (ap (λ es. es ++ assigned) (ap (λ es. es ++ loaded) (ap (λ es. es ++ moved) (append_assoc out (v ∷ []) leaving)
+    ∙ append_assoc out (v ∷ leaving) moved) ∙ append_assoc out (v ∷ leaving ++ moved) loaded) ∙ append_assoc out (v ∷ leaving ++ moved ++ loaded) assigned)
+    ∙ append_assoc out (v ∷ leaving ++ moved ++ loaded ++ assigned) written
+
+-- ---- the blocks
+
+block_get : (blocks : Blocks) (k : ℕ) (b : List TempInsn) → k < length blocks → b ≡ slice_index_or blocks k b → slice_get blocks k ≡ Some b
+block_get blocks k b within is =
+    let (x, found) = there blocks k within in
+    found ∙ ap Some (sym (is ∙ get_or_from_slice_get blocks k x b found))
+
+drop_block : (blocks : Blocks) (k : ℕ) (b : List TempInsn) → slice_get blocks k ≡ Some b → drop k blocks ≡ b ∷ drop (k + 1) blocks
+drop_block [] k b is = absurd (cc)
+drop_block (c ∷ bs) zero b is = (let same : c ≡ b = cc in ap (λ x. x ∷ bs) same)
+drop_block (c ∷ bs) (suc k) b is = drop_block bs k b is ∙ ap (λ n. b ∷ drop n (c ∷ bs)) (let e : suc (k + 1) ≡ suc k + 1 = omega arith in e)
+
+pub blocks_next : (ends : List ℕ) (tops : List (List Bool)) (blocks : Blocks) (k number next : ℕ) (b : List TempInsn) (set : List Bool) (h entered h' : Held) (out new whole : List Event) →
+    k < length blocks → b ≡ slice_index_or blocks k b → set ≡ slice_index_or tops k [] → entered ≡ held_at_top set h →
+    new ≡ out ++ visits_in_slots ends number None b entered → h' ≡ held_behind_all b entered → next ≡ number + length b →
+    out ++ journal_in_slots ends tops number k (drop k blocks) h ≡ whole → new ++ journal_in_slots ends tops next (k + 1) (drop (k + 1) blocks) h' ≡ whole
+blocks_next ends tops blocks k number next b set h entered h' out new whole within is set_is top put behind step so_far =
+    let e : k + 1 ≡ suc k = omega arith in
+    let top_is = top ∙ ap (λ s. held_at_top s h) set_is in
+    ap (λ es. es ++ journal_in_slots ends tops next (k + 1) (drop (k + 1) blocks) h') (put ∙ ap (λ g. out ++ visits_in_slots ends number None b g) top_is)
+    ∙ ap (λ g. (out ++ visits_in_slots ends number None b (held_at_top (slice_index_or tops k []) h)) ++ journal_in_slots ends tops next (k + 1) (drop (k + 1) blocks) g) (behind ∙ ap (held_behind_all b) top_is)
+    ∙ ap (λ n. (out ++ visits_in_slots ends number None b (held_at_top (slice_index_or tops k []) h)) ++ journal_in_slots ends tops n (k + 1) (drop (k + 1) blocks) (held_behind_all b (held_at_top (slice_index_or tops k []) h))) step
+    ∙ append_assoc out (visits_in_slots ends number None b (held_at_top (slice_index_or tops k []) h)) (journal_in_slots ends tops (number + length b) (k + 1) (drop (k + 1) blocks) (held_behind_all b (held_at_top (slice_index_or tops k []) h)))
+    ∙ ap (λ n. out ++ (visits_in_slots ends number None b (held_at_top (slice_index_or tops k []) h) ++ journal_in_slots ends tops (number + length b) n (drop (k + 1) blocks) (held_behind_all b (held_at_top (slice_index_or tops k []) h)))) e
+    ∙ sym (ap (λ bs. out ++ journal_in_slots ends tops number k bs h) (drop_block blocks k b (block_get blocks k b within is))) ∙ so_far
+
+pub blocks_done : (ends : List ℕ) (tops : List (List Bool)) (blocks : Blocks) (k number : ℕ) (h : Held) (out whole : List Event) → length blocks ≤ k →
+    out ++ journal_in_slots ends tops number k (drop k blocks) h ≡ whole → out ≡ whole
+blocks_done ends tops blocks k number h out whole past so_far =
+    sym (append-nil out) ∙ sym (ap (λ bs. out ++ journal_in_slots ends tops number k bs h) (all_dropped blocks k past)) ∙ so_far
+  where
+    all_dropped : (bs : Blocks) (k : ℕ) → length bs ≤ k → drop k bs ≡ []
+    all_dropped [] zero past = refl
+    all_dropped [] (suc k) past = refl
+    all_dropped (b ∷ bs) zero past = absurd (omega (arith, past))
+    all_dropped (b ∷ bs) (suc k) past = all_dropped bs k (omega (arith, past))
+
+pub count_next : (blocks : Blocks) (k number next : ℕ) (b : List TempInsn) → k < length blocks → b ≡ slice_index_or blocks k b → number ≡ count_of (take k blocks) → next ≡ number + length b → next ≡ count_of (take (k + 1) blocks)
+count_next blocks k number next b within is count step =
+    let more = count_step blocks k b (block_get blocks k b within is) in
+    let e : k + 1 ≡ suc k = omega arith in
+    let same : count_of (take (k + 1) blocks) ≡ count_of (take (suc k) blocks) = ap (λ n. count_of (take n blocks)) e in
+    omega (arith, count, step, more, same)
+
+pub few_next : (blocks : Blocks) (k number bound : ℕ) (b : List TempInsn) → k < length blocks → b ≡ slice_index_or blocks k b → number ≡ count_of (take k blocks) → count_of blocks < bound → number + length b < bound
+few_next blocks k number bound b within is count few =
+    let more = count_step blocks k b (block_get blocks k b within is) in
+    let most = sum_by-take-le (λ (block : List TempInsn). length block) blocks (suc k) in
+    omega (arith, count, more, most, few)
+
+-- ---- what a register has is below a bound
+
+pub some_below : (n : ℕ) (o : Option ℕ) → ((t : ℕ) → is_in o t ≡ true → t < n) → IfSome o (λ t. t < n)
+some_below n None all = tt
+some_below n (Some u) all = all u (eq-eqb u u refl)

@@ -6,46 +6,47 @@ ghost use Rattle.alloc_model.specs.Temporaries.{code_of};
 ghost use Rattle.alloc_model.specs.Places.{plan_of};
 ghost use Rattle.alloc_model.specs.Faithful.{Faithful};
 ghost use Rattle.alloc_rules.specs.Lean.{IsLean};
-ghost use Rattle.alloc_plain.specs.Plain.{plain_plan};
+ghost use Rattle.alloc_rules.specs.Journal.{IsJournal};
+ghost use Rattle.plain_lists.specs.Plain.{plain_plan};
 
-use crate::blocks::{all_registers, all_transfers, empty_maps};
-use crate::edges::all_edges;
-use alloc_model::allocation::Allocation;
+use crate::journal::journal_of;
+use alloc_model::allocation::{Allocation, Event};
 use c_tree::Seq;
+use plain_lists::lists_of;
 use std::alloc::{AllocError, Global};
 use suifvm_ir::function::Func;
-use temp_ir::copy_fn;
 use temp_ir::insn::TempInsn;
 
-/// The lists of a function. It fails only where memory is short.
-fn plain_lists(alloc: Global, f: &Func<TempInsn>) -> Result<Allocation, AllocError>
-    ensures name { IfOk result (λ a. a.func.name ≡ f.now.name) }
-    ensures objects { IfOk result (λ a. a.func.objects ≡ f.now.objects) }
-    ensures plan { IfOk result (λ a. plan_of a ≡ plain_plan (code_of f.now) f.now.params f.now.temps) }
-    ensures journal { IfOk result (λ a. a.journal ≡ []) }
+/// An allocation with a journal in place of its own.
+fn with_journal(a: Allocation, journal: Seq<Event>) -> Allocation
+    ensures plan { plan_of result ≡ plan_of a }
+    ensures func { result.func ≡ a.func }
+    ensures top { result.top ≡ a.top }
+    ensures journal { result.journal ≡ journal }
 {
-    let graph = cfg::build(alloc, f)?;
-    let blocks = f.blocks.as_slice();
-    let edges = all_edges(alloc, blocks, graph.succ.as_slice())?;
-    let top = empty_maps(alloc, blocks)?;
-    let bottom = empty_maps(alloc, blocks)?;
-    let at = all_transfers(alloc, blocks)?;
-    let regs = all_registers(alloc, blocks)?;
-    let func = copy_fn(alloc, f)?;
-    Ok(Allocation {
+    let Allocation {
         func,
         top,
         bottom,
         at,
         regs,
         edges,
-        journal: Seq::new(alloc),
-    })
+        journal: _old,
+    } = a;
+    Allocation {
+        func,
+        top,
+        bottom,
+        at,
+        regs,
+        edges,
+        journal,
+    }
 }
 
 /// A faithful allocation of a function in which every temporary lives in its slot: it is loaded before each
 /// instruction that reads it, and stored behind each that writes it. The function of the allocation has the same name,
-/// numbers, objects, blocks and instructions, no map names a temporary, and nothing stands in the journal. It fails
+/// numbers, objects, blocks and instructions, no map names a temporary, and the journal says what was done. It fails
 /// only where memory is short.
 pub fn plain(alloc: Global, f: &Func<TempInsn>) -> Result<Allocation, AllocError>
     requires { IsTrue (is_settled f.now.params f.now.blocks) }
@@ -58,7 +59,10 @@ pub fn plain(alloc: Global, f: &Func<TempInsn>) -> Result<Allocation, AllocError
     ensures objects { IfOk result (λ a. a.func.objects ≡ f.now.objects) }
     ensures blocks { IfOk result (λ a. a.func.blocks ≡ f.now.blocks) }
     ensures slots { IfOk result (λ a. All (λ named. named ≡ []) a.top) }
-    ensures journal { IfOk result (λ a. a.journal ≡ []) }
+    ensures journal { IfOk result (λ a. IsJournal (plan_of a) a.journal) }
 {
-    plain_lists(alloc, f)
+    let graph = cfg::build(alloc, f)?;
+    let lists = lists_of(alloc, f, &graph)?;
+    let journal = journal_of(alloc, f, &graph)?;
+    Ok(with_journal(lists, journal))
 }

@@ -1,16 +1,15 @@
 //! The plainest allocation: every temporary lives in its slot.
 //!
-//! Before each instruction the temporaries that it reads are loaded, and behind it what it wrote is stored: before the
-//! next instruction, or on each edge from its block. That this is faithful is proved of the lists
-//! (`specs/Plain.antt`, `proofs/Faithfulness.antt`), and the code makes these lists.
+//! The lists are those of `plain_lists`. The journal is put down on a walk over the blocks that keeps which temporaries
+//! have their places in registers (`specs/model/Held.antt`); that it is the journal of the allocation is proved of its
+//! definition (`proofs/Journals.antt`).
 #![tactic(auto)]
 
 mod allocation;
-mod blocks;
-mod edges;
-mod insns;
-pub mod laws;
+mod holders;
+mod journal;
 #[cfg(test)]
 mod tests;
+mod visits;
 
 pub use allocation::plain;

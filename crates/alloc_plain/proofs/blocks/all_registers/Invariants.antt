@@ -1,8 +1,0 @@
--- The registers of the blocks so far.
-use Rattle.std.proofs.Common.{◌≡◌, take, map}
-use Rattle.std.specs.Prelude.{flat_map}
-use Rattle.alloc_plain.specs.Plain.{registers_of}
-use Rattle.alloc_plain.proofs.blocks.all_registers.Given as goal
-
-abbrev pub invariant-loop-block : goal.invariant-loop-block
-invariant-loop-block l = l.all ≡ flat_map (map registers_of) (take l.block-index l.blocks)
