@@ -3,7 +3,7 @@
 use crate::types::push_type;
 use anyhow::{Context, Result, bail, ensure};
 use c_expressions::judge;
-use c_externals::judge as judge_unit;
+use c_externals::{UnitState, judge as judge_unit};
 use c_lexer::TEXT_LIMIT;
 use c_parser::parse;
 use c_tree::{Expr, External, FunctionEnd, Stmt, TranslationUnit};
@@ -66,16 +66,14 @@ fn put_outcome(
 /// What comes of the expression of a unit. It is judged once more behind the unit, whose names are in scope there.
 fn outcome(alloc: Global, unit: &TranslationUnit, begin: u32) -> Result<String> {
     let e = last_expression(unit.externals.as_slice()).context("no expression in the unit")?;
-    let mut state = judge_unit(alloc, unit)?;
-    let found = judge(alloc, e, &mut state.env, &mut state.notes)?;
+    let UnitState {
+        mut env,
+        mut notes,
+        ..
+    } = judge_unit(alloc, unit)?;
+    let found = judge(alloc, e, &mut env, &mut notes)?;
     let mut text = String::new(alloc);
-    put_outcome(
-        alloc,
-        &mut text,
-        state.notes.faults.as_slice(),
-        begin,
-        &found,
-    )?;
+    put_outcome(alloc, &mut text, notes.faults.as_slice(), begin, &found)?;
     Ok(text)
 }
 
