@@ -1,6 +1,6 @@
 //! The kinds of rows, each with its file.
 
-use crate::{needs, placements, runs};
+use crate::{journals, needs, placements, runs};
 use anyhow::Result;
 use row_sheets::Table;
 use std::alloc::Global;
@@ -10,17 +10,19 @@ use std::alloc::Global;
 pub enum Kind {
     Runs,
     Placements,
+    Journals,
     Needs,
 }
 
 /// The kinds in the order in which they are checked.
-pub const KINDS: [Kind; 3] = [Kind::Runs, Kind::Placements, Kind::Needs];
+pub const KINDS: [Kind; 4] = [Kind::Runs, Kind::Placements, Kind::Journals, Kind::Needs];
 
 impl Table for Kind {
     fn file(&self) -> &'static str {
         match self {
             Kind::Runs => "temp_runs.rows",
             Kind::Placements => "plain.rows",
+            Kind::Journals => "journals.rows",
             Kind::Needs => "needs.rows",
         }
     }
@@ -29,6 +31,7 @@ impl Table for Kind {
         match self {
             Kind::Runs => runs::answer(alloc, given),
             Kind::Placements => placements::answer(alloc, given),
+            Kind::Journals => journals::answer(alloc, given),
             Kind::Needs => needs::answer(alloc, given),
         }
     }

@@ -1,8 +1,10 @@
-//! Checks the tables of the folder `data/`: programs over temporaries, how they run, and where `plain` puts them.
+//! Checks the tables of the folder `data/`: programs over temporaries, how they run, where `plain` puts them, and what
+//! it does at each instruction.
 //!
 //! The form of the files is described in `docs/rows.md`, and that of each kind of row at the head of its file.
 #![tactic(auto)]
 
+mod journals;
 mod kind;
 mod needs;
 mod placements;
