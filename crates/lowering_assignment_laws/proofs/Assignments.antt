@@ -27,12 +27,12 @@ use Rattle.vm_meaning.specs.Effect.{writes}
 use Rattle.vm_meaning.specs.Behave.{Registers, set_register}
 use Rattle.lowering_code.specs.declared.item.CodeItem.{CodeItem}
 use Rattle.lowering_code.specs.Registers.{register_type, value_register, address_register}
-use Rattle.lowering_code.specs.Expressions.{move_code, set_scalar_code, register_of, assign_code, plus_of, expr_code, place_code}
+use Rattle.lowering_code.specs.Expressions.{store_code, move_code, set_scalar_code, register_of, assign_code, plus_of, expr_code, place_code}
 use Rattle.lowering_states.specs.Places.{CodePlace, next_place}
 use Rattle.lowering_states.specs.Runs.{opens, CodeObservation, NotDefined, finish}
 use Rattle.lowering_states.specs.States.{IsHeld, IsIn, KeepsLower, type_at}
 use Rattle.lowering_states.proofs.Steps.{meets_anything, meets_same, used_meets}
-use Rattle.lowering_states.proofs.States.{set_other, temporary_past, kept_on, kept_local, kept_temporary, kept_reads, is_in, is_at, after_on, fits_temporary, fits_local}
+use Rattle.lowering_states.proofs.States.{set_other, temporary_past, kept_on, kept_local, kept_temporary, kept_reads, is_at, after_on, fits_temporary, fits_local}
 use Rattle.lowering_values.specs.Laws.{IsMoved}
 use Rattle.lowering_expression_places.proofs.Behind.{at_plain}
 use Rattle.lowering_expression_laws.specs.Parts.{Setting, count, EndsSo, Stands, Fit, Aft, Follows, ExprMeets}
@@ -87,37 +87,36 @@ module _ (c : Setting) (found : slice_get c.functions c.number ≡ Some c.code) 
   -- ---- to memory
 
   -- a value that is not set ends the run
-  unset_write : (ty : PlainType) (at v : Value) (t : CallState) (K : Value → CallState → CodeObservation) → IsScalarType ty → vm.is_set v ≡ false → finish (and_then (write_at c.structs ty at v t) (λ _. pure v)) K ≡ NotDefined
+  unset_write : (ty : PlainType) (at z v : Value) (t : CallState) (K : Value → CallState → CodeObservation) → IsScalarType ty → vm.is_set z ≡ false → finish (and_then (write_at c.structs ty at z t) (λ _. pure v)) K ≡ NotDefined
   unfolding opens
-  unset_write ty at (Word k) t K scalar e = absurd (cc)
-  unset_write ty at (Address k) t K scalar e = absurd (cc)
-  unset_write ty at Unset t K (inl x) e = ap (λ z. finish (and_then (write_at c.structs z at Unset t) (λ _. pure Unset)) K) x.1
-  unset_write ty at Unset t K (inr x) e = ap (λ z. finish (and_then (write_at c.structs z at Unset t) (λ _. pure Unset)) K) x.1
+  unset_write ty at (Word k) v t K scalar e = absurd (cc)
+  unset_write ty at (Address k) v t K scalar e = absurd (cc)
+  unset_write ty at Unset v t K (inl x) e = ap (λ z. finish (and_then (write_at c.structs z at Unset t) (λ _. pure v)) K) x.1
+  unset_write ty at Unset v t K (inr x) e = ap (λ z. finish (and_then (write_at c.structs z at Unset t) (λ _. pure v)) K) x.1
 
-  -- a scalar that is put, by its type and by whether it is set
-  put_scalar : (ty : PlainType) (d left : ℕ) (rest : List CodeItem) (heads : List ℕ) (f : Names) (scope : Scope) (r : Registers) (s : CallState) (m : Memory) (K : Value → CallState → CodeObservation) → Follows c d ty heads rest f scope r s m K
-      → IsScalarType ty → (q : CodePlace) (base at v : Value) (g : Names) (t : CallState) (q1 : Registers) (m1 : Memory) → Aft c f s m g t m1 → Fit c g scope q1 t m1 → KeepsLower L d r q1 → IsHeld ty v
-      → IsValueOf g v (q1 (value_register L (suc d) ty)) → IsValueOf g base (q1 (address_register L d)) → IsMoved t.world.outer.memory base left at → Stands c heads q (set_scalar_code L d left ty rest)
-      → EndsSo c (finish (and_then (write_at c.structs ty at v t) (λ _. pure v)) K) q q1 t.world m1
+  -- a value that stands at one depth is stored, and one at another one is moved to the depth of the place
+  pub put_on : (ty : PlainType) → IsScalarType ty → (d o e plus : ℕ) (rest : List CodeItem) (heads : List ℕ) (f g : Names) (scope : Scope) (r r1 : Registers) (s t : CallState) (m m1 : Memory) (K : Value → CallState → CodeObservation) (q : CodePlace) (base at z v : Value)
+      → Stands c heads q (store_code ty (address_register L d) plus (value_register L o ty) (move_code ty (value_register L d ty) (value_register L e ty) rest))
+      → Aft c f s m g t m1 → Fit c g scope r1 t m1 → KeepsLower L d r r1 → IsHeld ty z → IsIn g ty z (r1 (value_register L o ty)) → IsHeld ty v → IsIn g ty v (r1 (value_register L e ty)) → (vm.is_set z ≡ true → vm.is_set v ≡ true)
+      → IsValueOf g base (r1 (address_register L d)) → IsMoved t.world.outer.memory base plus at → Follows c d ty heads rest f scope r s m K
+      → EndsSo c (finish (and_then (write_at c.structs ty at z t) (λ _. pure v)) K) q r1 t.world m1
   unfolding opens
-  put_scalar ty d left rest heads f scope r s m K next scalar q base at v g t q1 m1 aft fit kept held rel base_rel moved stands = by_set (vm.is_set v) refl
+  put_on ty scalar d o e plus rest heads f g scope r r1 s t m m1 K q base at z v stands aft fit kept heldz inz heldv inv sets rel moved next = by_set (vm.is_set z) refl
     where
       from : ℕ
-      from = value_register L (suc d) ty
+      from = value_register L e ty
 
-      reg : ℕ
-      reg = value_register L d ty
-
-      by_set : (x : Bool) → vm.is_set v ≡ x → EndsSo c (finish (and_then (write_at c.structs ty at v t) (λ _. pure v)) K) q q1 t.world m1
-      by_set false e = meets_anything c.rooms c.functions (unset_write ty at v t K scalar e)
-      by_set true e =
-          bound c found (write_at c.structs ty at v t) (λ _. pure v) K q q1 t.world m1
-          ((writes_meet c found).scalars ty scalar (address_register L d) left from (move_code ty reg from rest) heads q base at v g scope q1 t m1 (λ _ u. K v u) stands fit held rel base_rel moved
-          (λ u n1 at1 aft1 fit1.
-          insn_on c found (n.Unary Move (register_type ty) reg from) (next_place q) q1 u.world n1 (q1 from ∷ []) at1.has.0 refl
-          (ap (λ z. writes z (outer_with_memory u.world.outer n1)) (moves g ty v (q1 from) scalar held rel e))
-          (next (next_place (next_place q)) v g u (set_register reg (q1 from) q1) n1 (at_plain c.code.blocks c.last c.end _ at1) (after_on aft aft1) (fits_temporary d (register_type ty) (q1 from) fit1)
-          (kept_temporary d (register_type ty) (q1 from) (omega arith) kept) held (is_at g ty v (q1 from) q1 reg (is_in g ty v (q1 from) rel)))))
+      by_set : (x : Bool) → vm.is_set z ≡ x → EndsSo c (finish (and_then (write_at c.structs ty at z t) (λ _. pure v)) K) q r1 t.world m1
+      by_set false none = meets_anything c.rooms c.functions (unset_write ty at z v t K scalar none)
+      by_set true set =
+          bound c found (write_at c.structs ty at z t) (λ _. pure v) K q r1 t.world m1
+          ((writes_meet c found).scalars ty scalar (address_register L d) plus (value_register L o ty) (move_code ty (value_register L d ty) from rest) heads q base at z g scope r1 t m1 (λ _ u1. K v u1) stands fit
+          heldz (scalar_in g ty z (r1 (value_register L o ty)) scalar inz) rel moved
+          (λ u1 n1 at1 aft1 fit1.
+          insn_on c found (n.Unary Move (register_type ty) (value_register L d ty) from) (next_place q) r1 u1.world n1 (r1 from ∷ []) at1.has.0 refl
+          (ap (λ x. writes x (outer_with_memory u1.world.outer n1)) (moves g ty v (r1 from) scalar heldv (scalar_in g ty v (r1 from) scalar inv) (sets set)))
+          (next (next_place (next_place q)) v g u1 (set_register (value_register L d ty) (r1 from) r1) n1 (at_plain c.code.blocks c.last c.end _ at1) (after_on aft aft1) (fits_temporary d (register_type ty) (r1 from) fit1)
+          (kept_temporary d (register_type ty) (r1 from) (omega arith) kept) heldv (is_at g ty v (r1 from) r1 (value_register L d ty) inv))))
 
   -- the code, and the value, of an assignment of a scalar to memory
   scalar_code : (ty right : PlainType) (d left : ℕ) (place : List CodeItem → List CodeItem) (value : ℕ → List CodeItem → List CodeItem) (rest : List CodeItem) → IsScalarType ty
@@ -153,5 +152,5 @@ module _ (c : Setting) (found : slice_get c.functions c.number ≡ Some c.code) 
         let base_rel : IsValueOf h base (q3 (address_register L d)) = subst (λ z. IsValueOf h base z) (sym same_base) (values_stay g h base (q1 (address_register L d)) aft2.names stands) in
         let moved = moved_stays g h t.world.outer.memory m1 u.world.outer.memory m2 t.world.meter.turns u.world.meter.turns base place left aft2 (is_base place (inl (refl, refl))) in
         meets_same c.rooms c.functions (ap (λ z. finish (and_then (write_at c.structs ty place v u) (λ _. pure z)) K) (put_value ty place v scalar))
-        (put_scalar ty d left rest heads f scope r s m K next scalar q2 base place v h u q3 m2 (after_on aft aft2) fit2 (kept_on (omega arith) kept kept2) held3 (scalar_in h ty v (q3 (value_register L (suc d) ty)) scalar stands3) base_rel moved at2)))));
+        (put_on ty scalar d (suc d) (suc d) left rest heads f h scope r q3 s u m m2 K q2 base place v v at2 (after_on aft aft2) fit2 (kept_on (omega arith) kept kept2) held3 stands3 held3 stands3 (λ is. is) base_rel moved next)))));
   }

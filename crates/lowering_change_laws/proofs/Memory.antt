@@ -3,7 +3,7 @@
 use Rattle.std.proofs.Common.{◌≡◌, ℕ, suc, ◌<◌, List, [], ◌∷◌, Bool, true, false, Some, None, refl, sym, ap, ◌∙◌, subst, arith, inl, inr}
 use Rattle.std.specs.Prelude.{slice_get}
 use Rattle.mem_model.specs.declared.value.Value.{Value}
-use Rattle.mem_model.specs.declared.value.Value.TheVariants.{Word, Address, Unset}
+use Rattle.mem_model.specs.declared.value.Value.TheVariants.{Word}
 use Rattle.mem_model.specs.Memory.{Memory}
 use Rattle.mem_model.specs.World.{outer_with_memory}
 use Rattle.mem_model.specs.Related.{Names, IsValueOf}
@@ -13,7 +13,6 @@ use Rattle.c_tree.specs.declared.expressions.UnaryOp.TheVariants as u
 use Rattle.c_tree.specs.declared.expressions.StepOp.{StepOp}
 use Rattle.c_tree.specs.declared.expressions.StepOp.TheVariants as step
 use Rattle.c_tree.specs.declared.expressions.BinaryOp.{BinaryOp}
-use Rattle.c_typed_tree.specs.declared.types.StructDef.{StructDef}
 use Rattle.c_typed_tree.specs.Types.{PlainType}
 use Rattle.c_typed_tree.specs.Expressions.{Expr, Assign, Unary, Postfix, type_of}
 use Rattle.c_semantics.specs.Runs.{CallState, Run, and_then, pure}
@@ -31,9 +30,9 @@ use Rattle.lowering_code.specs.declared.item.CodeItem.{CodeItem}
 use Rattle.lowering_code.specs.Registers.{register_type, value_register, address_register}
 use Rattle.lowering_code.specs.Expressions.{load_from, store_code, move_code, combine_code, combine_memory_code, stepped_code, step_register_code, step_memory_code, change_code, register_of, assign_code, expr_code, place_code}
 use Rattle.lowering_states.specs.Places.{CodePlace, next_place}
-use Rattle.lowering_states.specs.Runs.{opens, CodeObservation, NotDefined, finish}
+use Rattle.lowering_states.specs.Runs.{opens, CodeObservation, finish}
 use Rattle.lowering_states.specs.States.{IsHeld, IsIn, KeepsLower}
-use Rattle.lowering_states.proofs.Steps.{meets_anything, meets_same}
+use Rattle.lowering_states.proofs.Steps.{meets_same}
 use Rattle.lowering_states.proofs.States.{set_same, set_other, other_depth, kept_all, kept_on, kept_temporary, kept_reads, is_in, is_at, after_on, fits_temporary}
 use Rattle.lowering_values.specs.Laws.{IsMoved}
 use Rattle.lowering_expression_places.proofs.Behind.{at_plain}
@@ -43,19 +42,10 @@ use Rattle.lowering_expression_laws.proofs.Forms.{held_word, insn_on, bound}
 use Rattle.lowering_place_laws.specs.Places.{left_of, PlaceMeets}
 use Rattle.lowering_place_laws.proofs.Accesses.{loads_lead, pointers_lead}
 use Rattle.lowering_access_laws.proofs.Changes.{moved_stays}
-use Rattle.lowering_access_laws.proofs.Writes.{writes_meet}
 use Rattle.lowering_assignment_laws.proofs.Locals.{moves}
-use Rattle.lowering_assignment_laws.proofs.Assignments.{scalar_in}
+use Rattle.lowering_assignment_laws.proofs.Assignments.{put_on}
 use Rattle.lowering_change_laws.proofs.Combine.{kept_but, kept_set}
 use Rattle.lowering_change_laws.proofs.Leads.{Leads, CombinesLead, StepsLead}
-
--- a value that is not set ends the run
-unset_write : (ds : List StructDef) (ty : PlainType) (at z v : Value) (t : CallState) (K : Value → CallState → CodeObservation) → IsScalarType ty → vm.is_set z ≡ false → finish (and_then (write_at ds ty at z t) (λ _. pure v)) K ≡ NotDefined
-unfolding opens
-unset_write ds ty at (Word k) v t K scalar e = absurd (cc)
-unset_write ds ty at (Address k) v t K scalar e = absurd (cc)
-unset_write ds ty at Unset v t K (inl x) e = ap (λ z. finish (and_then (write_at ds z at Unset t) (λ _. pure v)) K) x.1
-unset_write ds ty at Unset v t K (inr x) e = ap (λ z. finish (and_then (write_at ds z at Unset t) (λ _. pure v)) K) x.1
 
 module _ (c : Setting) (found : slice_get c.functions c.number ≡ Some c.code) (ty : PlainType) (scalar : IsScalarType ty) where
   abbrev L : ℕ
@@ -76,30 +66,6 @@ module _ (c : Setting) (found : slice_get c.functions c.number ≡ Some c.code) 
           subst (λ z. Stands c heads q (load_from z to pointer left rest) → ((v w : Value) → IsHeld z v → vm.is_set v ≡ true → IsValueOf g v w → Stands c heads (next_place q) rest → EndsSo c (K v t) (next_place q) (set_register to w q1) t.world m1)
           → EndsSo c (finish (read_at z at t) K) q q1 t.world m1) (sym p.1)
           (λ stands1 next1. pointers_lead c found p.0 to pointer left rest heads g scope t m1 K q q1 base at fit rel moved stands1 next1) stands next
-
-  -- a value that stands at one depth is stored, and one at another one is moved to the depth of the place
-  put_on : (d o e plus : ℕ) (rest : List CodeItem) (heads : List ℕ) (f g : Names) (scope : Scope) (r r1 : Registers) (s t : CallState) (m m1 : Memory) (K : Value → CallState → CodeObservation) (q : CodePlace) (base at z v : Value)
-      → Stands c heads q (store_code ty (address_register L d) plus (value_register L o ty) (move_code ty (value_register L d ty) (value_register L e ty) rest))
-      → Aft c f s m g t m1 → Fit c g scope r1 t m1 → KeepsLower L d r r1 → IsHeld ty z → IsIn g ty z (r1 (value_register L o ty)) → IsHeld ty v → IsIn g ty v (r1 (value_register L e ty)) → (vm.is_set z ≡ true → vm.is_set v ≡ true)
-      → IsValueOf g base (r1 (address_register L d)) → IsMoved t.world.outer.memory base plus at → Follows c d ty heads rest f scope r s m K
-      → EndsSo c (finish (and_then (write_at c.structs ty at z t) (λ _. pure v)) K) q r1 t.world m1
-  unfolding opens
-  put_on d o e plus rest heads f g scope r r1 s t m m1 K q base at z v stands aft fit kept heldz inz heldv inv sets rel moved next = by_set (vm.is_set z) refl
-    where
-      from : ℕ
-      from = value_register L e ty
-
-      by_set : (x : Bool) → vm.is_set z ≡ x → EndsSo c (finish (and_then (write_at c.structs ty at z t) (λ _. pure v)) K) q r1 t.world m1
-      by_set false none = meets_anything c.rooms c.functions (unset_write c.structs ty at z v t K scalar none)
-      by_set true set =
-          bound c found (write_at c.structs ty at z t) (λ _. pure v) K q r1 t.world m1
-          ((writes_meet c found).scalars ty scalar (address_register L d) plus (value_register L o ty) (move_code ty (value_register L d ty) from rest) heads q base at z g scope r1 t m1 (λ _ u1. K v u1) stands fit
-          heldz (scalar_in g ty z (r1 (value_register L o ty)) scalar inz) rel moved
-          (λ u1 n1 at1 aft1 fit1.
-          insn_on c found (n.Unary Move (register_type ty) (value_register L d ty) from) (next_place q) r1 u1.world n1 (r1 from ∷ []) at1.has.0 refl
-          (ap (λ x. writes x (outer_with_memory u1.world.outer n1)) (moves g ty v (r1 from) scalar heldv (scalar_in g ty v (r1 from) scalar inv) (sets set)))
-          (next (next_place (next_place q)) v g u1 (set_register (value_register L d ty) (r1 from) r1) n1 (at_plain c.code.blocks c.last c.end _ at1) (after_on aft aft1) (fits_temporary d (register_type ty) (r1 from) fit1)
-          (kept_temporary d (register_type ty) (r1 from) (omega arith) kept) heldv (is_at g ty v (r1 from) r1 (value_register L d ty) inv))))
 
   -- the new value is the value: the old one is loaded to a depth above the place
   changed_on : (d o plus : ℕ) → d < o → (rest : List CodeItem) (heads : List ℕ) (f g : Names) (scope : Scope) (r r1 : Registers) (s t : CallState) (m m1 : Memory) (K : Value → CallState → CodeObservation) (q : CodePlace) (base at : Value) (change : Value → Run Value) (code : List CodeItem → List CodeItem)
@@ -122,7 +88,7 @@ module _ (c : Setting) (found : slice_get c.functions c.number ≡ Some c.code) 
       (lead tail (λ w1 u1. finish (put w1 u1) K) (next_place q) r2 old at2 (fits_temporary o (register_type ty) w fit) (kept_set (register_type ty) w kept_but) held (is_at g ty old w r1 reg (is_in g ty old w relw))
       (λ q3 z r3 at3 fit3 kept3 heldz inz.
       let same_base : r3 (address_register L d) ≡ r1 (address_register L d) = kept_reads {e = suc d} d P64 (omega arith) kept3 ∙ low in
-      put_on d o o plus rest heads f g scope r r3 s t m m1 K q3 base at z z at3 aft fit3 (kept_on (omega arith) (kept_temporary o (register_type ty) w (omega (arith, above)) kept) kept3) heldz inz heldz inz (λ is. is)
+      put_on c found ty scalar d o o plus rest heads f g scope r r3 s t m m1 K q3 base at z z at3 aft fit3 (kept_on (omega arith) (kept_temporary o (register_type ty) w (omega (arith, above)) kept) kept3) heldz inz heldz inz (λ is. is)
       (subst (λ x. IsValueOf g base x) (sym same_base) rel) moved next))))
 
   -- the old value is the value
@@ -157,7 +123,7 @@ module _ (c : Setting) (found : slice_get c.functions c.number ≡ Some c.code) 
       let kept5 : KeepsLower L (suc (suc d)) r2 r4 = kept_on (omega arith) kept2 kept4 in
       let same_base : r4 (address_register L d) ≡ r1 (address_register L d) = kept_reads {e = suc (suc d)} d P64 (omega arith) kept5 ∙ kept_reads {e = suc d} d P64 (omega arith) kept1 in
       let stays : r4 reg ≡ w = kept_reads {e = suc (suc d)} (suc d) (register_type ty) (omega arith) kept5 ∙ there in
-      put_on d o e plus rest heads f g scope r r4 s t m m1 K q4 base at z old at4 aft fit4 (kept_on (omega arith) (kept_on (omega arith) kept kept1) kept5) heldz inz held
+      put_on c found ty scalar d o e plus rest heads f g scope r r4 s t m m1 K q4 base at z old at4 aft fit4 (kept_on (omega arith) (kept_on (omega arith) kept kept1) kept5) heldz inz held
       (subst (λ x. IsIn g ty old x) (sym stays) (is_in g ty old w relw)) (λ _. set) (subst (λ x. IsValueOf g base x) (sym same_base) rel) moved next)))))
 
   -- ---- forms
