@@ -49,8 +49,8 @@ use std::alloc::Global;
 use std::env;
 use std::time::Instant;
 use suifvm_ir::function::Func;
-use suifvm_ir::insn::{BinaryOp, BranchOp, Callee, VmInsn};
-use suifvm_ir::operands::Operands;
+use suifvm_ir::insn::{VmBinaryOp, VmBranchOp, VmCallee, VmInsn};
+use suifvm_ir::operands::ArgumentRegisters;
 use suifvm_ir::program::VmProgram;
 use suifvm_ir::types::{Alignment, VmType};
 use vm_checks::program::program_of;
@@ -60,7 +60,7 @@ use vm_checks::size::is_small;
 fn insn_of(kind: &str) -> Result<VmInsn> {
     match kind {
         "sums" => Ok(VmInsn::Binary {
-            op: BinaryOp::Add,
+            op: VmBinaryOp::Add,
             ty: VmType::S64,
             destination: 2,
             left: 0,
@@ -78,7 +78,7 @@ fn insn_of(kind: &str) -> Result<VmInsn> {
             align: Alignment::Eight,
         }),
         _ => Ok(VmInsn::Branch {
-            op: BranchOp::IfTrue,
+            op: VmBranchOp::IfTrue,
             ty: VmType::S32,
             source: 0,
             block: 1,
@@ -94,8 +94,8 @@ fn call(alloc: Global) -> Result<VmInsn> {
     }
     Ok(VmInsn::Call {
         destination: Some(2),
-        callee: Callee::Function(0),
-        arguments: Operands::from_slice(alloc, arguments.as_slice())?,
+        callee: VmCallee::Function(0),
+        arguments: ArgumentRegisters::from_slice(alloc, arguments.as_slice())?,
     })
 }
 /// How much one instruction of a kind counts, with a block where it has one of its own.
@@ -143,7 +143,7 @@ fn branches(alloc: Global, count: u32) -> Result<Vec<Seq<VmInsn>>> {
     for number in 0..count {
         let mut block = Seq::new(alloc);
         block.push(VmInsn::Branch {
-            op: BranchOp::IfTrue,
+            op: VmBranchOp::IfTrue,
             ty: VmType::S32,
             source: 0,
             block: number.wrapping_add(1),

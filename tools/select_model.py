@@ -137,13 +137,31 @@ def code_of(names, text):
     return []
 
 
+def known_behind(known, text):
+    """What an instruction says of registers: ("zero", Z), or ("truth", T, D, A) where D says whether A is no zero."""
+    op, *words = text.replace(",", "").split(" ")
+    if op.startswith("ldc.") and words[1] == "0":
+        return ("zero", words[0])
+    if op.startswith("sne.") and known == ("zero", words[2]) and words[0] != words[1]:
+        return ("truth", op[4:], words[0], words[1])
+    return None
+
+
+def with_test(known, text):
+    """A branch on such a truth tests the value."""
+    op, _, rest = text.partition(" ")
+    if known and known[0] == "truth" and op in ("btrue.s32", "bfalse.s32") and rest.startswith(known[2] + ","):
+        return f"{op.split('.')[0]}.{known[1]} {known[3]}{rest[len(known[2]):]}"
+    return text
+
+
 def parameter(k):
     return f"bis $31, ${16 + k}, t{k + 4}" if k < 6 else f"ldq t{k + 4}, in{k - 6}"
 
 
 def selected(given):
     names = [line.split(" ")[1] for line in given if line.startswith("func ")]
-    shown, params, number = [], 0, 0
+    shown, params, number, known = [], 0, 0, None
     for line in given:
         word, _, rest = line.partition(" ")
         code = []
@@ -154,8 +172,10 @@ def selected(given):
         elif re.fullmatch(r"B\d+:", line):
             shown.append(line)
             code = [parameter(k) for k in range(params)] if line == "B0:" else []
+            known = None
         elif word.isdigit():
-            code = code_of(names, rest)
+            code = code_of(names, with_test(known, rest))
+            known = known_behind(known, rest)
         for text in code:
             shown.append(f"{number} {text}")
             number += 1

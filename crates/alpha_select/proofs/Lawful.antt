@@ -1,137 +1,71 @@
 -- The selected functions are as a program asks.
-use Rattle.std.proofs.Common.{◌≡◌, ℕ, zero, suc, ◌+◌, ◌*◌, ◌<◌, ◌≤◌, List, [], ◌∷◌, length, map, sum_by, true, Some, All, refl, sym, ap, ◌∙◌, subst, arith}
-use Rattle.std.specs.Prelude.{◌==◌, cond, slice_get, slice_index_or, IsTrue, codes, bytes_eq}
+use Rattle.std.proofs.Common.{◌≡◌, ◌+◌, ◌*◌, ◌≤◌, List, [], ◌∷◌, length, map, sum_by, All, refl, sym, ap, ◌∙◌, subst, arith}
+use Rattle.std.proofs.lemmas.List.{length-map}
 use Rattle.std.proofs.lemmas.List.Sums.{sum_by-cons}
-use Rattle.std.proofs.lemmas.Option.{slice_get_within, slice_get-get_or, get_or_from_slice_get}
 use Rattle.data_object.specs.declared.DataObject.{DataObject}
+use Rattle.suifvm_ir.specs.declared.program.VmProgram.{VmProgram}
 use Rattle.suifvm_ir.specs.Functions.{AllInsns, count_of}
 use Rattle.suifvm_ir.specs.Programs.{VmFunction, function_size, program_size}
 use Rattle.suifvm_ir.specs.Programs as vm
-use Rattle.suifvm_ir.specs.declared.insn.VmInsn.{VmInsn}
-use Rattle.temp_ir.specs.declared.insn.TempInsn.{TempInsn}
-use Rattle.temp_ir.specs.Fixed.{is_settled}
-use Rattle.temp_ir.specs.Programs.{TempFn, is_main, main_count, function_takes, names_what_is_there, goes_back_to_marks, IsLawfulTempFn}
-use Rattle.alloc_model.specs.Temporaries.{TemporaryCode, code_of}
-use Rattle.selection_code.specs.Functions.{function_blocks}
-use Rattle.selection_shapes.proofs.Lists.{all_nil, all_more, all_first, all_rest}
-use Rattle.selection_shapes.proofs.Marks.{marks_kept}
-use Rattle.selection_shapes.proofs.Named.{names_there}
-use Rattle.selection_shapes.proofs.Settled.{functions_settled}
-use Rattle.suifvm_ir.specs.declared.program.VmProgram.{VmProgram}
 use Rattle.temp_ir.specs.declared.program.TempProgram.{TempProgram}
+use Rattle.temp_ir.specs.Cost.{bulk_when_split}
+use Rattle.temp_ir.specs.Programs.{TempFn, main_count, IsLawfulTempFn}
+use Rattle.value_tests.proofs.Functions.{tested_function, cost_kept, size_kept}
+use Rattle.value_tests.proofs.Lawful.{mains_stay, names_stay}
+use Rattle.value_tests.proofs.Lawful as tests
 use Rattle.selection_code.specs.Fields.{HasFields}
-use Rattle.selection_laws.specs.Selected.{selected_code, IsSelected}
-use Rattle.selection_costs.proofs.Lengths.{code_short}
-use Rattle.selection_costs.proofs.Costs.{costs_little}
-use Rattle.alpha_select.specs.Selection.{IsSelectedFunction, AreSelected, CostLittle}
+use Rattle.selection_laws.specs.Selected.{IsSelected}
+use Rattle.selection_laws.proofs.Plain.{selected_plain}
+use Rattle.alpha_select.specs.Selection.{AreSelected, CostLittle}
+use Rattle.alpha_select.specs.model.Limits.{IsWithinLimits}
+use Rattle.alpha_select.proofs.Plain.{ArePlain, same_code, same_names}
+use Rattle.alpha_select.proofs.Plain as plain
 
--- ---- lists
+-- they have the code of functions whose branches test values
+are_plain : (fs : List VmFunction) (gs : List TempFn) → AreSelected fs gs → ArePlain (map tested_function fs) gs
+are_plain [] [] h = tt
+are_plain [] (g ∷ gs) h = absurd h
+are_plain (f ∷ fs) [] h = absurd h
+are_plain (f ∷ fs) (g ∷ gs) h =
+    (record { name = h.0.name; params = h.0.params; temps = h.0.temps; objects = h.0.objects; blocks = h.0.blocks }, are_plain fs gs h.1)
+
+pub within_limits : (f : VmFunction) → IsWithinLimits f → IsWithinLimits (tested_function f)
+within_limits f h = record { params = h.params; temps = h.temps; size = omega (arith, size_kept f, h.size) }
+
+sizes_stay : (fs : List VmFunction) → program_size (map tested_function fs) ≡ program_size fs
+sizes_stay [] = refl
+sizes_stay (f ∷ fs) =
+    omega (arith, size_kept f, sizes_stay fs, sum_by-cons function_size (tested_function f) (map tested_function fs), sum_by-cons function_size f fs)
+
+costs_stay : (fs : List VmFunction) (gs : List TempFn) → CostLittle (map tested_function fs) gs → CostLittle fs gs
+costs_stay [] [] h = tt
+costs_stay [] (g ∷ gs) h = absurd h
+costs_stay (f ∷ fs) [] h = absurd h
+costs_stay (f ∷ fs) (g ∷ gs) h = (subst (λ n. bulk_when_split g ≤ n) (cost_kept f) h.0, costs_stay fs gs h.1)
 
 pub same_length : (fs : List VmFunction) (gs : List TempFn) → AreSelected fs gs → length gs ≡ length fs
-same_length [] [] h = refl
-same_length [] (g ∷ gs) h = absurd h
-same_length (f ∷ fs) [] h = absurd h
-same_length (f ∷ fs) (g ∷ gs) h = ap suc (same_length fs gs h.1)
-
-with_parts : List ℕ → List (List TempInsn) → TemporaryCode
-with_parts sizes blocks = record { sizes = sizes; blocks = blocks }
-
-one_code : (f : VmFunction) (g : TempFn) → IsSelectedFunction f g → code_of g ≡ selected_code f
-unfolding with_parts
-one_code f g s = ap (λ os. with_parts (map (λ o. o.size) os) g.blocks) s.objects ∙ ap (with_parts (map (λ o. o.size) f.objects)) s.blocks
-
-pub same_code : (fs : List VmFunction) (gs : List TempFn) → AreSelected fs gs → map code_of gs ≡ map selected_code fs
-same_code [] [] h = refl
-same_code [] (g ∷ gs) h = absurd h
-same_code (f ∷ fs) [] h = absurd h
-same_code (f ∷ fs) (g ∷ gs) h = ap (λ c. c ∷ map code_of gs) (one_code f g h.0) ∙ ap (λ l. selected_code f ∷ l) (same_code fs gs h.1)
-
-pub same_names : (fs : List VmFunction) (gs : List TempFn) → AreSelected fs gs → map (λ (g : TempFn). g.name) gs ≡ map (λ (f : VmFunction). f.name) fs
-same_names [] [] h = refl
-same_names [] (g ∷ gs) h = absurd h
-same_names (f ∷ fs) [] h = absurd h
-same_names (f ∷ fs) (g ∷ gs) h = ap (λ c. c ∷ map (λ (t : TempFn). t.name) gs) h.0.name ∙ ap (λ l. f.name ∷ l) (same_names fs gs h.1)
-
-same_main : (f : VmFunction) (g : TempFn) → IsSelectedFunction f g → is_main g ≡ vm.is_main f
-same_main f g s = ap (λ n. bytes_eq n (codes "main")) s.name
+same_length fs gs h = plain.same_length (map tested_function fs) gs (are_plain fs gs h) ∙ length-map fs tested_function
 
 pub same_mains : (fs : List VmFunction) (gs : List TempFn) → AreSelected fs gs → main_count gs ≡ vm.main_count fs
-same_mains [] [] h = refl
-same_mains [] (g ∷ gs) h = absurd h
-same_mains (f ∷ fs) [] h = absurd h
-same_mains (f ∷ fs) (g ∷ gs) h =
-    sum_by-cons (λ t. cond (is_main t) 1 0) g gs ∙ ap (λ b. cond b 1 0 + main_count gs) (same_main f g h.0)
-    ∙ ap (λ n. cond (vm.is_main f) 1 0 + n) (same_mains fs gs h.1) ∙ sym (sum_by-cons (λ t. cond (vm.is_main t) 1 0) f fs)
+same_mains fs gs h = plain.same_mains (map tested_function fs) gs (are_plain fs gs h) ∙ mains_stay fs
 
-pub same_takes : (fs : List VmFunction) (gs : List TempFn) → AreSelected fs gs → (k count : ℕ) → vm.function_takes count (slice_get fs k) ≡ true → function_takes count (slice_get gs k) ≡ true
-same_takes [] [] h k count e = absurd (cc)
-same_takes [] (g ∷ gs) h k count e = absurd h
-same_takes (f ∷ fs) [] h k count e = absurd h
-same_takes (f ∷ fs) (g ∷ gs) h zero count e = ap (λ n. n == count) h.0.params ∙ e
-same_takes (f ∷ fs) (g ∷ gs) h (suc k) count e = same_takes fs gs h.1 k count e
-
--- ---- one function
-
-module _ (fs : List VmFunction) (gs : List TempFn) (globals : List DataObject) (all : AreSelected fs gs) where
-  marks_of : (f : VmFunction) → vm.IsLawfulFunction fs globals f → (b : ℕ) (insns : List VmInsn) → slice_get f.blocks b ≡ Some insns → All (λ y. IsTrue (vm.goes_back_to_marks f.blocks b y)) insns
-  marks_of f law b insns there =
-      subst (λ l. All (λ y. IsTrue (vm.goes_back_to_marks f.blocks b y)) l) (get_or_from_slice_get f.blocks b insns [] there)
-      (law.marks b (slice_get_within f.blocks b insns there))
-
-  marks_are : (f : VmFunction) → vm.IsLawfulFunction fs globals f → (bs : List (List TempInsn)) → bs ≡ function_blocks f.params f.blocks →
-      (b : ℕ) → b < length bs → All (λ z. IsTrue (goes_back_to_marks bs b z)) (slice_index_or bs b [])
-  marks_are f law bs is b lt =
-      subst (λ l. All (λ z. IsTrue (goes_back_to_marks l b z)) (slice_index_or bs b [])) (sym is)
-      (marks_kept f (marks_of f law) b (slice_index_or bs b []) (ap (λ l. slice_get l b) (sym is) ∙ slice_get-get_or bs b [] lt))
-
-  lawful : (f : VmFunction) (g : TempFn) → IsSelectedFunction f g → vm.IsLawfulFunction fs globals f → IsLawfulTempFn gs globals g
-  lawful f g s law = record {
-    main = λ e. s.params ∙ law.main (sym (same_main f g s) ∙ e);
-    names = subst (λ bs. AllInsns (λ i. IsTrue (names_what_is_there gs globals g.objects i)) bs) (sym s.blocks)
-        (subst (λ os. AllInsns (λ i. IsTrue (names_what_is_there gs globals os i)) (function_blocks f.params f.blocks)) (sym s.objects)
-        (names_there fs gs globals f (same_takes fs gs all) law.names));
-    marks = marks_are f law g.blocks s.blocks;
-    settled = subst (λ bs. IsTrue (is_settled g.params bs)) (sym s.blocks)
-        (subst (λ p. IsTrue (is_settled p (function_blocks f.params f.blocks))) (sym s.params) (functions_settled f));
-  }
-
-  each_lawful : (xs : List VmFunction) (ys : List TempFn) → AreSelected xs ys → All (vm.IsLawfulFunction fs globals) xs → All (IsLawfulTempFn gs globals) ys
-  each_lawful [] [] h law = all_nil (IsLawfulTempFn gs globals)
-  each_lawful [] (g ∷ ys) h law = absurd h
-  each_lawful (f ∷ xs) [] h law = absurd h
-  each_lawful (f ∷ xs) (g ∷ ys) h law =
-      all_more (IsLawfulTempFn gs globals) g ys (lawful f g h.0 (all_first (vm.IsLawfulFunction fs globals) f xs law))
-      (each_lawful xs ys h.1 (all_rest (vm.IsLawfulFunction fs globals) f xs law))
-
-  pub all_lawful : All (vm.IsLawfulFunction fs globals) fs → All (IsLawfulTempFn gs globals) gs
-  all_lawful law = each_lawful fs gs all law
-
--- ---- their size
-
-one_short : (f : VmFunction) (g : TempFn) → IsSelectedFunction f g → 5 * length g.blocks + count_of g.blocks ≤ 13 * function_size f
-one_short f g s = subst (λ bs. 5 * length bs + count_of bs ≤ 13 * function_size f) (sym s.blocks) (code_short f).count
+pub all_lawful : (fs : List VmFunction) (gs : List TempFn) (globals : List DataObject) → AreSelected fs gs → All (vm.IsLawfulFunction fs globals) fs → All (IsLawfulTempFn gs globals) gs
+all_lawful fs gs globals h law = plain.all_lawful (map tested_function fs) gs globals (are_plain fs gs h) (tests.all_lawful fs globals law)
 
 pub all_short : (fs : List VmFunction) (gs : List TempFn) → AreSelected fs gs → sum_by (λ (g : TempFn). 5 * length g.blocks + count_of g.blocks) gs ≤ 13 * program_size fs
-all_short [] [] h = omega arith
-all_short [] (g ∷ gs) h = absurd h
-all_short (f ∷ fs) [] h = absurd h
-all_short (f ∷ fs) (g ∷ gs) h =
-    omega (arith, one_short f g h.0, all_short fs gs h.1, sum_by-cons (λ (t : TempFn). 5 * length t.blocks + count_of t.blocks) g gs, sum_by-cons function_size f fs)
-
--- ---- their cost
+all_short fs gs h = omega (arith, plain.all_short (map tested_function fs) gs (are_plain fs gs h), sizes_stay fs)
 
 pub all_cost : (fs : List VmFunction) (gs : List TempFn) → AreSelected fs gs → CostLittle fs gs
-all_cost [] [] h = tt
-all_cost [] (g ∷ gs) h = absurd h
-all_cost (f ∷ fs) [] h = absurd h
-all_cost (f ∷ fs) (g ∷ gs) h = (costs_little f g h.0.blocks, all_cost fs gs h.1)
+all_cost fs gs h = costs_stay fs gs (plain.all_cost (map tested_function fs) gs (are_plain fs gs h))
 
 -- ---- the program
 
 pub selected_is : (program : VmProgram) (selected : TempProgram) → AreSelected program.functions selected.functions → selected.globals ≡ program.globals → All (λ (f : VmFunction). AllInsns HasFields f.blocks) program.functions → IsSelected program selected
-selected_is program selected all same fields = record {
-  code = same_code program.functions selected.functions all;
-  names = same_names program.functions selected.functions all;
-  globals = same;
-  fields = fields;
-}
+selected_is program selected all same fields =
+    let h = are_plain program.functions selected.functions all in
+    record {
+      code = same_code (map tested_function program.functions) selected.functions h ∙ selected_plain program.functions;
+      names = same_names (map tested_function program.functions) selected.functions h ∙ names_stay program.functions;
+      globals = same;
+      fields = fields;
+    }

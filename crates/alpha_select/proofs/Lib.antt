@@ -1,3 +1,4 @@
 mod Lists
 mod Bounds
+mod Plain
 mod Lawful

@@ -1,19 +1,20 @@
 -- What `select` gives.
-use Rattle.std.specs.Prelude.{◌≡◌, ◌+◌, ◌≤◌, List, [], ◌∷◌}
+use Rattle.std.specs.Prelude.{◌≡◌, ◌+◌, ◌≤◌, List, [], ◌∷◌, map}
 use Rattle.suifvm_ir.specs.Programs.{VmFunction}
 use Rattle.suifvm_ir.specs.Cost.{cost}
 use Rattle.temp_ir.specs.Programs.{TempFn}
 use Rattle.temp_ir.specs.Cost.{bulk_when_split}
+use Rattle.value_tests.specs.Tests.{tested}
 use Rattle.selection_code.specs.Functions.{function_blocks}
 
--- the selected one of a function: its name, number of parameters and objects stay, and it has four temporaries more
--- than the function has registers
+-- the selected one of a function: its name, number of parameters and objects stay, it has four temporaries more than
+-- the function has registers, and its code is that of the blocks in which branches test values
 pub record IsSelectedFunction (f : VmFunction) (g : TempFn) : Type 0 where
   pub name : g.name ≡ f.name
   pub params : g.params ≡ f.params
   pub temps : g.temps ≡ f.temps + 4
   pub objects : g.objects ≡ f.objects
-  pub blocks : g.blocks ≡ function_blocks f.params f.blocks
+  pub blocks : g.blocks ≡ function_blocks f.params (map tested f.blocks)
 
 abbrev pub AreSelected : List VmFunction → List TempFn → Type 0
 AreSelected [] [] = Unit {0}

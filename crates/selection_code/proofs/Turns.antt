@@ -1,5 +1,5 @@
 -- Turns of the loops that put code: what was put, with the code of what is left behind it, is the whole.
-use Rattle.std.proofs.Common.{◌≡◌, ℕ, zero, suc, ◌+◌, ◌-◌, ◌<◌, ◌≤◌, List, [], ◌∷◌, ◌++◌, length, drop, get_or, All, refl, sym, ap, ◌∙◌, subst, arith}
+use Rattle.std.proofs.Common.{◌≡◌, ℕ, zero, suc, ◌+◌, ◌-◌, ◌^◌, ◌<◌, ◌≤◌, List, [], ◌∷◌, ◌++◌, length, drop, get_or, All, refl, sym, ap, ◌∙◌, subst, arith}
 use Rattle.std.proofs.lemmas.List.{append_assoc}
 use Rattle.bk_ilist.specs.Listing.{items}
 use Rattle.suifvm_ir.specs.declared.insn.VmInsn.{VmInsn}
@@ -7,6 +7,10 @@ use Rattle.temp_ir.specs.declared.insn.TempInsn.{TempInsn}
 use Rattle.selection_code.specs.Instructions.{temp_of, pass_item, pass_items, take_item, take_items, insn_items}
 use Rattle.selection_code.specs.Functions.{insns_items}
 use Rattle.selection_code.specs.Fields.{HasFields, HasNumbers}
+use Rattle.value_tests.specs.declared.known.Known.{Known}
+use Rattle.value_tests.specs.Tests.{after, seen, tested_from}
+use Rattle.value_tests.specs.model.Registers.{KnownIsBelow}
+use Rattle.value_tests.proofs.Functions.{after_below}
 
 append_nil : (xs : List TempInsn) → xs ++ [] ≡ xs
 append_nil [] = refl
@@ -70,12 +74,16 @@ all_more P x xs p h zero d lt = p
 all_more P x xs p h (suc k) d lt = h k d (omega (arith, lt))
 
 module _ (all : List (ℕ × VmInsn)) (id : ℕ) (y : VmInsn) (rest : List (ℕ × VmInsn)) (is : all ≡ (id, y) ∷ rest) where
-  pub insn_turn : (xs ys whole : List TempInsn) → ys ≡ xs ++ insn_items y → xs ++ insns_items (items all) ≡ whole → ys ++ insns_items (items rest) ≡ whole
-  insn_turn xs ys whole put e =
-      ap (λ l. l ++ insns_items (items rest)) put ∙ append_assoc xs (insn_items y) (insns_items (items rest)) ∙ ap (λ l. xs ++ insns_items (items l)) (sym is) ∙ e
+  pub insn_turn : (k next : Known) → next ≡ after k y → (xs ys whole : List TempInsn) → ys ≡ xs ++ insn_items (seen k y) → xs ++ insns_items (tested_from k (items all)) ≡ whole → ys ++ insns_items (tested_from next (items rest)) ≡ whole
+  insn_turn k next behind xs ys whole put e =
+      ap (λ j. ys ++ insns_items (tested_from j (items rest))) behind ∙ ap (λ l. l ++ insns_items (tested_from (after k y) (items rest))) put
+      ∙ append_assoc xs (insn_items (seen k y)) (insns_items (tested_from (after k y) (items rest))) ∙ ap (λ l. xs ++ insns_items (tested_from k (items l))) (sym is) ∙ e
 
   pub numbers_here : All HasNumbers (items all) → HasNumbers y
   numbers_here h = all_first HasNumbers y (items rest) (subst (λ l. All HasNumbers (items l)) is h)
+
+  pub known_turn : (k next : Known) → next ≡ after k y → All HasNumbers (items all) → KnownIsBelow (2 ^ 32 - 4) next
+  known_turn k next behind h = let here = numbers_here h in subst (KnownIsBelow (2 ^ 32 - 4)) (sym behind) (after_below (2 ^ 32 - 4) k y (here.reads, here.writes))
 
   pub numbers_left : All HasNumbers (items all) → All HasNumbers (items rest)
   numbers_left h = all_rest HasNumbers y (items rest) (subst (λ l. All HasNumbers (items l)) is h)

@@ -1,9 +1,10 @@
 //! The code of blocks and functions.
 
-ghost use Rattle.std.specs.Prelude.{◌≡◌, ◌-◌, ◌^◌, ◌<◌, All, ◌++◌, OnOk, IfOk};
+ghost use Rattle.std.specs.Prelude.{◌≡◌, ◌-◌, ◌^◌, ◌<◌, All, ◌++◌, map, OnOk, IfOk};
 ghost use Rattle.suifvm_ir.specs.Functions.{AllInsns};
 ghost use Rattle.selection_code.specs.Functions as functions;
 ghost use Rattle.selection_code.specs.Fields.{HasFields, HasNumbers};
+ghost use Rattle.value_tests.specs.Tests.{tested};
 
 use crate::calls::put_parameters;
 use crate::instructions::put_insn;
@@ -12,17 +13,20 @@ use std::alloc::{AllocError, Global};
 use suifvm_ir::block::Block;
 use suifvm_ir::insn::VmInsn;
 use temp_ir::insn::TempInsn;
+use value_tests::Known;
 
-/// Puts the code of the instructions of a block.
+/// Puts the code of the instructions of a block. A branch on what a comparison with zero found tests the value.
 #[tactic(auto, using(crate::proofs::Turns::insn_turn, crate::proofs::Turns::numbers_here, crate::proofs::Turns::numbers_left, crate::proofs::Turns::fields_turn))]
 fn put_insns(out: &mut Block<TempInsn>, block: &Block<VmInsn>) -> Result<(), AllocError>
     requires { All HasNumbers block.now }
-    ensures put { OnOk result (out.new ≡ out.old ++ functions.insns_items block.now) }
+    ensures put { OnOk result (out.new ≡ out.old ++ functions.insns_items (tested block.now)) }
     ensures fields { OnOk result (All HasFields block.now) }
 {
+    let mut known = Known::Nothing;
     for line in block.insns.iter() {
         let (_id, insn) = line;
-        put_insn(out, insn)?;
+        put_insn(out, known, insn)?;
+        known = known.after(insn);
     }
     Ok(())
 }
@@ -35,7 +39,7 @@ fn block_code(
 ) -> Result<Block<TempInsn>, AllocError>
     requires few { params < 2 ^ 32 - 4 }
     requires numbers { All HasNumbers block.now }
-    ensures put { IfOk result (λ code. code ≡ functions.parameter_items params ++ functions.insns_items block.now) }
+    ensures put { IfOk result (λ code. code ≡ functions.parameter_items params ++ functions.insns_items (tested block.now)) }
     ensures fields { OnOk result (All HasFields block.now) }
 {
     let mut code = Block::new(alloc);
@@ -52,7 +56,7 @@ pub fn function_blocks(
 ) -> Result<Seq<Block<TempInsn>>, AllocError>
     requires few { params < 2 ^ 32 - 4 }
     requires numbers { AllInsns HasNumbers blocks.now }
-    ensures put { IfOk result (λ codes. codes ≡ functions.function_blocks params blocks.now) }
+    ensures put { IfOk result (λ codes. codes ≡ functions.function_blocks params (map tested blocks.now)) }
     ensures fields { OnOk result (AllInsns HasFields blocks.now) }
 {
     let mut codes = Seq::new(alloc);

@@ -1,8 +1,10 @@
 //! The code of instructions.
 
-ghost use Rattle.std.specs.Prelude.{◌≡◌, ◌++◌, OnOk};
+ghost use Rattle.std.specs.Prelude.{◌≡◌, ◌++◌, ◌-◌, ◌^◌, OnOk};
 ghost use Rattle.selection_code.specs.Instructions as code;
 ghost use Rattle.selection_code.specs.Fields.{HasFields, HasNumbers};
+ghost use Rattle.value_tests.specs.Tests.{seen};
+ghost use Rattle.value_tests.specs.model.Registers.{KnownIsBelow};
 
 use crate::calls::{put_call, put_return};
 use crate::temporaries::temp_of;
@@ -16,11 +18,18 @@ use std::alloc::AllocError;
 use suifvm_ir::block::Block;
 use suifvm_ir::insn::VmInsn;
 use temp_ir::insn::TempInsn;
+use value_tests::Known;
 
-/// Puts the code of an instruction. Where memory is short a part of it may have been put.
-pub fn put_insn(out: &mut Block<TempInsn>, insn: &VmInsn) -> Result<(), AllocError>
-    requires { HasNumbers insn.now }
-    ensures put { OnOk result (out.new ≡ out.old ++ code.insn_items insn.now) }
+/// Puts the code of an instruction, where this is known of registers. Where memory is short a part of it may have been
+/// put.
+pub(crate) fn put_insn(
+    out: &mut Block<TempInsn>,
+    known: Known,
+    insn: &VmInsn,
+) -> Result<(), AllocError>
+    requires numbers { HasNumbers insn.now }
+    requires known { KnownIsBelow (2 ^ 32 - 4) known }
+    ensures put { OnOk result (out.new ≡ out.old ++ code.insn_items (seen known insn.now)) }
     ensures fields { OnOk result (HasFields insn.now) }
 {
     match insn {
@@ -112,12 +121,12 @@ pub fn put_insn(out: &mut Block<TempInsn>, insn: &VmInsn) -> Result<(), AllocErr
         ),
         VmInsn::Branch {
             op,
-            ty: _,
+            ty,
             source,
             block,
         } => out.push(TempInsn::Branch {
             op: branch_op(*op),
-            source: temp_of(*source),
+            source: temp_of(known.register(*ty, *source)),
             block: *block,
         }),
         VmInsn::Jump { block } => out.push(TempInsn::Jump { block: *block }),

@@ -38,7 +38,7 @@ use Rattle.alpha_forms.proofs.Done.{conversions_done}
 use Rattle.alpha_forms.proofs.Others.{branches_taken}
 use Rattle.selection_code.specs.Instructions.{temp_of, result_items, byte_items}
 use Rattle.selection_code.specs.Functions.{insns_items, function_blocks}
-use Rattle.selection_laws.specs.Selected.{selected_code}
+use Rattle.selection_laws.proofs.Plain.{plain_code}
 use Rattle.selection_laws.specs.Laws.{IsDefined}
 use Rattle.selection_laws.proofs.Machines.{Placed, next_place, Standing, next_standing}
 use Rattle.selection_laws.proofs.Steps.{of_register, IsOrdinary, vm_conf, temp_conf, Here, Waits, Simulates, Reaches, NextReaches, never_undefined, same_ending, enter_block, put_tail, result_tail, vm_acts, turn_step, last_step}
@@ -116,7 +116,7 @@ module _ (rooms : Rooms) (fs : List VmFunction) (n : ℕ) (ih : Simulates rooms 
       z = i.Branch (branch_op op) (temp_of a) (suc block)
 
       goes : (taken : Bool) (there : ℕ) → Standing (function_blocks f.params f.blocks) b there (z ∷ insns_items left) → Rest y w.meter (if taken then Jumps 0 w.outer else Writes [] w.outer) →
-          NextReaches rooms fs (act_on Content Temps rooms (temp_code (map selected_code fs)) (temp_conf rooms fs g b there own s ts w) w.meter (temp_site (widest_call (function_blocks f.params f.blocks)) z) (temps.branches (Some taken) w.outer)) e
+          NextReaches rooms fs (act_on Content Temps rooms (temp_code (map plain_code fs)) (temp_conf rooms fs g b there own s ts w) w.meter (temp_site (widest_call (function_blocks f.params f.blocks)) z) (temps.branches (Some taken) w.outer)) e
       goes true there st q = enter_block rooms fs n ih g block own r (without (is_emptied z) s) f vs ts w e h.number h.holds h.held ordinary waits defined q
       goes false there st q =
           ih g b (suc at) (suc there) own r (without (is_emptied z) s) f left vs ts w e
@@ -129,21 +129,21 @@ module _ (rooms : Rooms) (fs : List VmFunction) (n : ℕ) (ih : Simulates rooms 
           }) ordinary waits defined q
 
       by_test : (o : Option Bool) → value_holds w.outer.memory ty (r a) ≡ o → (there : ℕ) → Standing (function_blocks f.params f.blocks) b there (z ∷ insns_items left) →
-          NextReaches rooms fs (act_on Content Temps rooms (temp_code (map selected_code fs)) (temp_conf rooms fs g b there own s ts w) w.meter (temp_site (widest_call (function_blocks f.params f.blocks)) z)
+          NextReaches rooms fs (act_on Content Temps rooms (temp_code (map plain_code fs)) (temp_conf rooms fs g b there own s ts w) w.meter (temp_site (widest_call (function_blocks f.params f.blocks)) z)
           (temps.does (widest_call (function_blocks f.params f.blocks)) z own (map s (holders_read z)) w.outer)) e
       by_test None test there st =
           absurd (never_undefined w _ e (vm_acts rooms fs n ih g b at place own r s f y left vs ts w e h ordinary waits defined is (Stops HasNoMeaning w.outer) refl (ap (λ o. branches op o w.outer) test)) defined)
       by_test (Some c) test there st =
           let act : temps.does (widest_call (function_blocks f.params f.blocks)) z own (map s (holders_read z)) w.outer ≡ temps.branches (Some (is_taken op c)) w.outer =
           ap (λ v. temps.branches (test_of (branch_op op) w.outer.memory v) w.outer) (h.holds a) ∙ ap (λ o. temps.branches o w.outer) (branches_taken op ty w.outer.memory (r a) c test) in
-          subst (λ v. NextReaches rooms fs (act_on Content Temps rooms (temp_code (map selected_code fs)) (temp_conf rooms fs g b there own s ts w) w.meter (temp_site (widest_call (function_blocks f.params f.blocks)) z) v) e) (sym act)
+          subst (λ v. NextReaches rooms fs (act_on Content Temps rooms (temp_code (map plain_code fs)) (temp_conf rooms fs g b there own s ts w) w.meter (temp_site (widest_call (function_blocks f.params f.blocks)) z) v) e) (sym act)
           (goes (is_taken op c) there st
           (vm_acts rooms fs n ih g b at place own r s f y left vs ts w e h ordinary waits defined is (if is_taken op c then Jumps 0 w.outer else Writes [] w.outer) refl (ap (λ o. branches op o w.outer) test)))
 
   -- ---- calls of built-in functions: where an argument is unset, the call has no meaning
 
   abbrev Now : TempInsn → (t : Temps) → Meter → (there : ℕ) → Type 0
-  Now z t m there = NextReaches rooms fs (act_on Content Temps rooms (temp_code (map selected_code fs)) (temp_conf rooms fs g b there own t ts w) m (temp_site (widest_call (function_blocks f.params f.blocks)) z)
+  Now z t m there = NextReaches rooms fs (act_on Content Temps rooms (temp_code (map plain_code fs)) (temp_conf rooms fs g b there own t ts w) m (temp_site (widest_call (function_blocks f.params f.blocks)) z)
       (temps.does (widest_call (function_blocks f.params f.blocks)) z own (map t (holders_read z)) w.outer)) e
 
   -- what stands for the values that were set
@@ -188,7 +188,7 @@ module _ (rooms : Rooms) (fs : List VmFunction) (n : ℕ) (ih : Simulates rooms 
       by_value (Word k) is m there st q =
           let act : temps.does (widest_call (function_blocks f.params f.blocks)) (i.Serve service.PutByte) own (map t (holders_read (i.Serve service.PutByte))) w.outer ≡ Writes [] (put_byte w.outer (k % 256)) =
           ap (λ c. temps.put_act c w.outer) (h.holds a ∙ ap Plain is) in
-          subst (λ v. NextReaches rooms fs (act_on Content Temps rooms (temp_code (map selected_code fs)) (temp_conf rooms fs g b there own t ts w) m (temp_site (widest_call (function_blocks f.params f.blocks)) (i.Serve service.PutByte)) v) e) (sym act)
+          subst (λ v. NextReaches rooms fs (act_on Content Temps rooms (temp_code (map plain_code fs)) (temp_conf rooms fs g b there own t ts w) m (temp_site (widest_call (function_blocks f.params f.blocks)) (i.Serve service.PutByte)) v) e) (sym act)
           (byte_tail d a k (suc there) (without (is_emptied (i.Serve service.PutByte)) t) (world_of (put_byte w.outer (k % 256)) m) is (next_place f.blocks b at y left h.placed)
           (next_standing (function_blocks f.params f.blocks) b there (i.Serve service.PutByte) (byte_items d a ++ insns_items left) refl st) h.number h.holds h.held (record { memory = ordinary.memory; input = ordinary.input }) q)
 
@@ -246,5 +246,5 @@ module _ (rooms : Rooms) (fs : List VmFunction) (n : ℕ) (ih : Simulates rooms 
       by_value (Word k) is m there q =
           let act : temps.does (widest_call (function_blocks f.params f.blocks)) (i.Serve service.End) own (map t (holders_read (i.Serve service.End))) w.outer ≡ Stops (Exits (k % 256)) w.outer =
           ap (λ c. temps.end_act c w.outer) (h.holds a ∙ ap Plain is) in
-          subst (λ v. NextReaches rooms fs (act_on Content Temps rooms (temp_code (map selected_code fs)) (temp_conf rooms fs g b there own t ts w) m (temp_site (widest_call (function_blocks f.params f.blocks)) (i.Serve service.End)) v) e) (sym act)
+          subst (λ v. NextReaches rooms fs (act_on Content Temps rooms (temp_code (map plain_code fs)) (temp_conf rooms fs g b there own t ts w) m (temp_site (widest_call (function_blocks f.params f.blocks)) (i.Serve service.End)) v) e) (sym act)
           (same_ending rooms fs (Done (world_of w.outer m) (k % 256)) e q)

@@ -31,7 +31,7 @@ use Rattle.alpha_forms.specs.Straight.{After, runs}
 use Rattle.alpha_forms.specs.Registers.{IsHeld}
 use Rattle.selection_code.specs.Instructions.{temp_of, pass_items, take_items, result_items}
 use Rattle.selection_code.specs.Functions.{insns_items, parameter_items, function_blocks}
-use Rattle.selection_laws.specs.Selected.{selected_code}
+use Rattle.selection_laws.proofs.Plain.{plain_code}
 use Rattle.selection_laws.specs.Laws.{IsDefined}
 use Rattle.selection_laws.proofs.Memories.{bytes_begins, bytes_ends}
 use Rattle.selection_laws.proofs.Machines.{next_place, Standing, next_standing, site_there, comes_then, Came, straight}
@@ -76,7 +76,7 @@ registers_held r (a ∷ xs) h zero = h a
 registers_held r (a ∷ xs) h (suc k) = registers_held r xs h k
 
 module _ (rooms : Rooms) (fs : List VmFunction) where
-  pub same_sizes : (g : ℕ) (f : VmFunction) → slice_get fs g ≡ Some f → sizes_in (slice_get (map code_of fs) g) ≡ alloc.sizes_in (slice_get (map selected_code fs) g)
+  pub same_sizes : (g : ℕ) (f : VmFunction) → slice_get fs g ≡ Some f → sizes_in (slice_get (map code_of fs) g) ≡ alloc.sizes_in (slice_get (map plain_code fs) g)
   same_sizes g f number = ap sizes_in (vm_number rooms fs g f number) ∙ sym (ap alloc.sizes_in (temp_number rooms fs g f number))
 
   -- ---- a function is entered
@@ -102,9 +102,9 @@ module _ (rooms : Rooms) (fs : List VmFunction) where
           let ran : runs widest (parameter_items f.params) own start w.outer ≡ After entered.after w.outer =
           ap (λ k. runs widest (take_items 0 k) own start w.outer) (sym count)
           ∙ ap (λ xs. runs widest xs own start w.outer) (sym (append_nil (take_items 0 (length us)))) ∙ entered.ran [] in
-          let c = subst (Came rooms (map selected_code fs) g 0 own ts w.meter (selected_code f) (temp_number rooms fs g f number) 0 start w.outer (insns_items insns)) ran
-          (straight rooms (map selected_code fs) g 0 own ts w.meter (selected_code f) (temp_number rooms fs g f number) (parameter_items f.params) (insns_items insns) 0 start w.outer standing) in
-          comes_then rooms (map selected_code fs) (temp_conf rooms fs g 0 0 own start ts w) (temp_conf rooms fs g 0 c.place own entered.after ts w) (Over e) c.comes
+          let c = subst (Came rooms (map plain_code fs) g 0 own ts w.meter (plain_code f) (temp_number rooms fs g f number) 0 start w.outer (insns_items insns)) ran
+          (straight rooms (map plain_code fs) g 0 own ts w.meter (plain_code f) (temp_number rooms fs g f number) (parameter_items f.params) (insns_items insns) 0 start w.outer standing) in
+          comes_then rooms (map plain_code fs) (temp_conf rooms fs g 0 0 own start ts w) (temp_conf rooms fs g 0 c.place own entered.after ts w) (Over e) c.comes
           (ih g 0 0 c.place own (registers_of us) entered.after f insns vs ts w e
           (record {
             number = number;
@@ -160,12 +160,12 @@ module _ (rooms : Rooms) (fs : List VmFunction) where
 
         by_set : (c : Bool) → list_all is_set (map r arguments) ≡ c → (m : Meter) (there : ℕ) → Standing (function_blocks f.params f.blocks) b there (z ∷ (result_items d ++ insns_items left)) →
             go_on (act_on Value Registers rooms (vm_code (map code_of fs)) (vm_conf rooms fs g b at own r vs w) m (insn_site y) (if c then Calls k (map r arguments) w.outer else fails w.outer)) (exec Value Registers rooms (vm_code (map code_of fs)) n) ≡ Over e →
-            NextReaches rooms fs (act_on Content Temps rooms (temp_code (map selected_code fs)) (temp_conf rooms fs g b there own p.after ts w) m (temp_site (widest_call (function_blocks f.params f.blocks)) z) (Calls k (map p.after (holders_read z)) w.outer)) e
+            NextReaches rooms fs (act_on Content Temps rooms (temp_code (map plain_code fs)) (temp_conf rooms fs g b there own p.after ts w) m (temp_site (widest_call (function_blocks f.params f.blocks)) z) (Calls k (map p.after (holders_read z)) w.outer)) e
         by_set false c m there st q = absurd (never_undefined (world_of w.outer m) _ e q defined)
         by_set true c m there st q =
             let frame : Frame Temps = record { point = record { function = g; block = b; at = there }; own = own; store = p.after } in
             let u : World = world_of (begin_locals w.outer (sizes_in (slice_get (map code_of fs) k))) (enter_call rooms k m) in
-            subst (λ cs. NextReaches rooms fs (act_on Content Temps rooms (temp_code (map selected_code fs)) (temp_conf rooms fs g b there own p.after ts w) m (temp_site (widest_call (function_blocks f.params f.blocks)) z) (Calls k cs w.outer)) e) (sym read)
+            subst (λ cs. NextReaches rooms fs (act_on Content Temps rooms (temp_code (map plain_code fs)) (temp_conf rooms fs g b there own p.after ts w) m (temp_site (widest_call (function_blocks f.params f.blocks)) z) (Calls k cs w.outer)) e) (sym read)
             (subst (λ sizes. Reaches rooms fs (temp_conf rooms fs k 0 0 (length w.outer.memory) (put_all holder_eq (entry_holders (length (map Plain (map r arguments)))) (map Plain (map r arguments)) empty) (frame ∷ ts) (world_of (begin_locals w.outer sizes) (enter_call rooms k m))) e)
             (same_sizes k f2 number2)
             (enter_function n ih k (length w.outer.memory) (map r arguments) f2 (record { point = record { function = g; block = b; at = at }; own = own; store = r } ∷ vs) (frame ∷ ts) u e number2 (length-map arguments r ∙ sym count)
@@ -177,9 +177,9 @@ module _ (rooms : Rooms) (fs : List VmFunction) where
     -- to the caller, or with the status of the run
     returned : (us : List Value) (there : ℕ) (number : ℕ) → IsHeld (first_or_unset us) → slice_get fs g ≡ Some f → (vs : List (Frame Registers)) (ts : List (Frame Temps)) → Waits rooms fs vs ts →
         go_on (return_to Value Registers rooms (vm_code (map code_of fs)) number us (world_of (end_locals w.outer own (length (sizes_in (slice_get (map code_of fs) g)))) (leave_call rooms g w.meter)) vs) (exec Value Registers rooms (vm_code (map code_of fs)) n) ≡ Over e →
-        (at2 : ℕ) → NextReaches rooms fs (return_to Content Temps rooms (temp_code (map selected_code fs)) at2 (map Plain us) (world_of (end_locals w.outer own (length (alloc.sizes_in (slice_get (map selected_code fs) g)))) (leave_call rooms g w.meter)) ts) e
+        (at2 : ℕ) → NextReaches rooms fs (return_to Content Temps rooms (temp_code (map plain_code fs)) at2 (map Plain us) (world_of (end_locals w.outer own (length (alloc.sizes_in (slice_get (map plain_code fs) g)))) (leave_call rooms g w.meter)) ts) e
     returned us there number held is vs ts wait q at2 =
-        subst (λ sizes. NextReaches rooms fs (return_to Content Temps rooms (temp_code (map selected_code fs)) at2 (map Plain us) (world_of (end_locals w.outer own (length sizes)) (leave_call rooms g w.meter)) ts) e) (same_sizes g f is)
+        subst (λ sizes. NextReaches rooms fs (return_to Content Temps rooms (temp_code (map plain_code fs)) at2 (map Plain us) (world_of (end_locals w.outer own (length sizes)) (leave_call rooms g w.meter)) ts) e) (same_sizes g f is)
         (by_waits vs ts wait q)
       where
         u : World
@@ -189,7 +189,7 @@ module _ (rooms : Rooms) (fs : List VmFunction) where
         good = record { memory = bytes_ends (length (sizes_in (slice_get (map code_of fs) g))) w.outer.memory own ordinary.memory; input = ordinary.input }
 
         by_status : (v : Value) → is_over (status_ending Value Registers rooms (vm_code (map code_of fs)) number u (value_status v)) ≡ is_over e →
-            status_ending Content Temps rooms (temp_code (map selected_code fs)) at2 u (alloc.content_status (Plain v)) ≡ e
+            status_ending Content Temps rooms (temp_code (map plain_code fs)) at2 u (alloc.content_status (Plain v)) ≡ e
         by_status (Word k) z = same_ending rooms fs (Done u (k % 256)) e z
         by_status (Address p) z = absurd (never_undefined u number e z defined)
         by_status Unset z = absurd (never_undefined u number e z defined)
@@ -200,17 +200,17 @@ module _ (rooms : Rooms) (fs : List VmFunction) where
 
         by_waits : (vs : List (Frame Registers)) (ts : List (Frame Temps)) → Waits rooms fs vs ts →
             go_on (return_to Value Registers rooms (vm_code (map code_of fs)) number us u vs) (exec Value Registers rooms (vm_code (map code_of fs)) n) ≡ Over e →
-            NextReaches rooms fs (return_to Content Temps rooms (temp_code (map selected_code fs)) at2 (map Plain us) u ts) e
+            NextReaches rooms fs (return_to Content Temps rooms (temp_code (map plain_code fs)) at2 (map Plain us) u ts) e
         by_waits [] [] none z =
-            ap (λ c. status_ending Content Temps rooms (temp_code (map selected_code fs)) at2 u (alloc.content_status c)) (first_plain us) ∙ by_status (first_or_unset us) z
+            ap (λ c. status_ending Content Temps rooms (temp_code (map plain_code fs)) at2 u (alloc.content_status c)) (first_plain us) ∙ by_status (first_or_unset us) z
         by_waits [] (c ∷ ts) wait z = elim wait [ ]
         by_waits (a ∷ vs) [] wait z = elim wait [ ]
         by_waits (a ∷ vs) (c ∷ ts) (more g2 b2 place2 there2 own2 r2 s2 f2 d k arguments left2 us2 cs2 number2 placed2 standing2 holds2 held2 waits2) z =
             let y : VmInsn = x.Call d (callee.Function k) arguments in
             let call : TempInsn = i.Call k (length arguments) in
             let back = ap (λ o. go_on (resume Value Registers rooms (vm_code (map code_of fs)) a vs u us o) (exec Value Registers rooms (vm_code (map code_of fs)) n)) (vm_site rooms fs g2 b2 place2 f2 y left2 number2 placed2) in
-            subst (λ o. NextReaches rooms fs (resume Content Temps rooms (temp_code (map selected_code fs)) c ts u (map Plain us) o) e)
-            (sym (site_there (map selected_code fs) g2 b2 (selected_code f2) (temp_number rooms fs g2 f2 number2) there2 call (result_items d ++ insns_items left2) standing2))
+            subst (λ o. NextReaches rooms fs (resume Content Temps rooms (temp_code (map plain_code fs)) c ts u (map Plain us) o) e)
+            (sym (site_there (map plain_code fs) g2 b2 (plain_code f2) (temp_number rooms fs g2 f2 number2) there2 call (result_items d ++ insns_items left2) standing2))
             (result_tail rooms fs n ih g2 b2 (suc place2) (suc there2) own2 r2 (put holder_eq (Fixed 0) (stores.first_or_unset (map Plain us)) (without (is_emptied call) s2)) f2 left2 vs ts u e d us number2
             (next_place f2.blocks b2 place2 y left2 placed2) (next_standing (function_blocks f2.params f2.blocks) b2 there2 call (result_items d ++ insns_items left2) refl standing2) holds2 held2 good waits2 defined (first_plain us) held
             (sym back ∙ z))
@@ -230,8 +230,8 @@ module _ (rooms : Rooms) (fs : List VmFunction) where
 
         by_type : (c : Bool) (there : ℕ) →
             go_on (act_on Value Registers rooms (vm_code (map code_of fs)) (vm_conf rooms fs g b at own r vs w) w.meter (insn_site (x.Return (Some value))) (if c then Returns (r value.register ∷ []) w.outer else fails w.outer)) (exec Value Registers rooms (vm_code (map code_of fs)) n) ≡ Over e →
-            NextReaches rooms fs (act_on Content Temps rooms (temp_code (map selected_code fs)) (temp_conf rooms fs g b there own t ts w) w.meter (temp_site (widest_call (function_blocks f.params f.blocks)) (i.Return true)) (Returns (map t (holders_read (i.Return true))) w.outer)) e
+            NextReaches rooms fs (act_on Content Temps rooms (temp_code (map plain_code fs)) (temp_conf rooms fs g b there own t ts w) w.meter (temp_site (widest_call (function_blocks f.params f.blocks)) (i.Return true)) (Returns (map t (holders_read (i.Return true))) w.outer)) e
         by_type false there q = absurd (never_undefined w _ e q defined)
         by_type true there q =
-            subst (λ c. NextReaches rooms fs (act_on Content Temps rooms (temp_code (map selected_code fs)) (temp_conf rooms fs g b there own t ts w) w.meter (temp_site (widest_call (function_blocks f.params f.blocks)) (i.Return true)) (Returns (c ∷ []) w.outer)) e) (sym (h.holds value.register))
+            subst (λ c. NextReaches rooms fs (act_on Content Temps rooms (temp_code (map plain_code fs)) (temp_conf rooms fs g b there own t ts w) w.meter (temp_site (widest_call (function_blocks f.params f.blocks)) (i.Return true)) (Returns (c ∷ []) w.outer)) e) (sym (h.holds value.register))
             (returned (r value.register ∷ []) there _ (h.held value.register) h.number vs ts waits q _)

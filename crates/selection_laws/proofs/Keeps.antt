@@ -28,7 +28,10 @@ use Rattle.alloc_model.specs.Contents.{Content}
 use Rattle.alloc_model.specs.Temporaries.{Temps, TempsEnd, temp_run}
 use Rattle.alloc_model.specs.Temporaries as alloc
 use Rattle.selection_code.specs.Fields.{HasFields}
-use Rattle.selection_laws.specs.Selected.{selected_code}
+use Rattle.value_tests.proofs.Lockstep.{tests_keep}
+use Rattle.value_tests.proofs.Functions.{tested_function, all_mapped, insns_kept}
+use Rattle.value_tests.proofs.Lawful.{all_lawful, codes_same, names_stay, mains_stay}
+use Rattle.selection_laws.proofs.Plain.{plain_code, selected_plain, fields_kept, has_meaning}
 use Rattle.selection_laws.specs.Laws.{IsDefined, SelectedPrograms}
 use Rattle.selection_laws.proofs.Memories.{bytes_begins, start_has_bytes}
 use Rattle.selection_laws.proofs.Machines.{all_get, read_behind, Placed}
@@ -116,13 +119,13 @@ module _ (rooms : Rooms) (fs : List VmFunction) (globals : List DataObject) (law
 
   -- from the start of a function without parameters
   pub run_ends : (main : ℕ) (w : World) (steps : ℕ) (e : Ending) → ((f : VmFunction) → slice_get fs main ≡ Some f → f.params ≡ 0) → IsOrdinary w.outer → IsDefined e → vm_run rooms (map code_of fs) main w steps ≡ Over e →
-      (n : ℕ) × (temp_run rooms (map selected_code fs) main w n ≡ Over e)
+      (n : ℕ) × (temp_run rooms (map plain_code fs) main w n ≡ Over e)
   run_ends main w steps e none_ ordinary defined is = by_function (slice_get fs main) refl
     where
       u : World
       u = world_of (begin_locals w.outer (sizes_in (slice_get (map code_of fs) main))) (enter_call rooms main w.meter)
 
-      by_function : (o : Option VmFunction) → slice_get fs main ≡ o → (n : ℕ) × (temp_run rooms (map selected_code fs) main w n ≡ Over e)
+      by_function : (o : Option VmFunction) → slice_get fs main ≡ o → (n : ℕ) × (temp_run rooms (map plain_code fs) main w n ≡ Over e)
       by_function None there =
           absurd (lost rooms fs steps (vm_conf rooms fs main 0 0 (length w.outer.memory) (registers_of []) [] u) e
           (ap (site_in_function 0 0) (slice_get-map code_of fs main ∙ ap (option_map code_of) there)) defined is)
@@ -130,7 +133,7 @@ module _ (rooms : Rooms) (fs : List VmFunction) (globals : List DataObject) (law
           let good : IsOrdinary u.outer = record { memory = bytes_begins (sizes_in (slice_get (map code_of fs) main)) w.outer.memory ordinary.memory; input = ordinary.input } in
           let run = enter_function rooms fs steps (simulates steps) main (length w.outer.memory) [] f [] [] u e there (sym (none_ f there)) tt (λ k. tt) good none defined is in
           let same = same_sizes rooms fs main f there in
-          (run.steps, ap (λ sizes. exec Content Temps rooms (alloc.temp_code (map selected_code fs)) run.steps (temp_conf rooms fs main 0 0 (length w.outer.memory) (put_all holder_eq (entry_holders 0) [] empty) [] (world_of (begin_locals w.outer sizes) (enter_call rooms main w.meter)))) (sym same) ∙ run.run)
+          (run.steps, ap (λ sizes. exec Content Temps rooms (alloc.temp_code (map plain_code fs)) run.steps (temp_conf rooms fs main 0 0 (length w.outer.memory) (put_all holder_eq (entry_holders 0) [] empty) [] (world_of (begin_locals w.outer sizes) (enter_call rooms main w.meter)))) (sym same) ∙ run.run)
 
 -- ---- where a program begins
 
@@ -180,20 +183,28 @@ temp_main fs =
 
 pub selected_programs : SelectedPrograms
 selected_programs program selected is rooms input turns e bytes run defined =
-    let fs = program.functions in
-    let main = main_of fs in
+    let fs : List VmFunction = map tested_function program.functions in
+    let main = main_of program.functions in
     let w : World = start_world program.globals input turns in
+    let one : main_count fs ≡ 1 = mains_stay program.functions ∙ program.one_main in
+    let main_there : main ≡ main_of fs = vm_main program.functions ∙ ap main_by (sym (names_stay program.functions)) ∙ sym (vm_main fs) in
+    let lawful : All (IsLawfulFunction fs program.globals) fs = all_lawful program.functions program.globals program.functions_lawful in
+    let fields : All (λ (f : VmFunction). AllInsns HasFields f.blocks) fs =
+    all_mapped tested_function (λ (f : VmFunction). AllInsns HasFields f.blocks) (λ (f : VmFunction). AllInsns HasFields f.blocks)
+    (λ f. insns_kept HasFields HasFields fields_kept f.blocks) program.functions is.fields in
     let without_parameters : (f : VmFunction) → slice_get fs main ≡ Some f → f.params ≡ 0 = λ f there.
-    (all_get (IsLawfulFunction fs program.globals) fs main f program.functions_lawful there).main ((main_found fs (omega (arith, program.one_main))).1 f (sym (ap (slice_get fs) (main_is fs program.one_main)) ∙ there)) in
+    (all_get (IsLawfulFunction fs program.globals) fs main f lawful there).main ((main_found fs (omega (arith, one))).1 f (sym (ap (slice_get fs) (main_there ∙ main_is fs one)) ∙ there)) in
     let good : IsOrdinary w.outer = record { memory = start_has_bytes program.globals program.globals_lawful; input = bytes } in
-    let found = run_ends rooms fs program.globals program.functions_lawful is.fields main w run.steps e without_parameters good defined run.over in
-    let same_main : main ≡ alloc.main_of selected.functions = vm_main fs ∙ ap main_by (sym is.names) ∙ sym (temp_main selected.functions) in
+    let over : vm_run rooms (map code_of fs) main w run.steps ≡ Over e =
+    ap (λ code. vm_run rooms code main w run.steps) (codes_same program.functions) ∙ tests_keep rooms (map code_of program.functions) main w run.steps e (has_meaning e defined) run.over in
+    let found = run_ends rooms fs program.globals lawful fields main w run.steps e without_parameters good defined over in
+    let same_main : main ≡ alloc.main_of selected.functions = vm_main program.functions ∙ ap main_by (sym is.names) ∙ sym (temp_main selected.functions) in
     let ends : TempsEnd rooms selected input turns e = record {
       steps = found.0;
       over =
-          ap (λ code. temp_run rooms code (alloc.main_of selected.functions) (alloc.start_world selected.globals input turns) found.0) is.code
-          ∙ ap (λ k. temp_run rooms (map selected_code fs) k (alloc.start_world selected.globals input turns) found.0) (sym same_main)
-          ∙ ap (λ globals. temp_run rooms (map selected_code fs) main (alloc.start_world globals input turns) found.0) is.globals
+          ap (λ code. temp_run rooms code (alloc.main_of selected.functions) (alloc.start_world selected.globals input turns) found.0) (is.code ∙ sym (selected_plain program.functions))
+          ∙ ap (λ k. temp_run rooms (map plain_code fs) k (alloc.start_world selected.globals input turns) found.0) (sym same_main)
+          ∙ ap (λ globals. temp_run rooms (map plain_code fs) main (alloc.start_world globals input turns) found.0) is.globals
           ∙ found.1;
     } in
     record {

@@ -1,4 +1,5 @@
 pub mod Values
+pub mod Plain
 pub mod Memories
 pub mod Machines
 pub mod Arguments

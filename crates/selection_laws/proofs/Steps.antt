@@ -32,7 +32,7 @@ use Rattle.alpha_forms.proofs.Runs.{put_here, put_beside}
 use Rattle.alpha_forms.specs.Registers.{IsOfRegister, IsHeld, HasBytes, PutsValue, ComesTo, ComesToMemory}
 use Rattle.selection_code.specs.Instructions.{temp_of, insn_items, result_items}
 use Rattle.selection_code.specs.Functions.{insns_items, parameter_items, function_blocks}
-use Rattle.selection_laws.specs.Selected.{selected_code}
+use Rattle.selection_laws.proofs.Plain.{plain_code}
 use Rattle.selection_laws.specs.Laws.{IsDefined}
 use Rattle.selection_laws.proofs.Values.{AnswerIsHeld}
 use Rattle.selection_laws.proofs.Memories.{MemoryHasBytes}
@@ -82,7 +82,7 @@ module _ (rooms : Rooms) (fs : List VmFunction) where
   temp_conf g b at own s ts w = record { here = record { point = record { function = g; block = b; at = at }; own = own; store = s }; callers = ts; world = w }
 
   abbrev pub Reaches : Config Temps → Ending → Type 0
-  Reaches l e = Comes rooms (map selected_code fs) l (Over e)
+  Reaches l e = Comes rooms (map plain_code fs) l (Over e)
 
   -- both stand in a function at the same instructions, and registers are held
   pub record Here (g b at place : ℕ) (r : Registers) (s : Temps) (f : VmFunction) (left : List VmInsn) : Type 0 where
@@ -113,8 +113,8 @@ module _ (rooms : Rooms) (fs : List VmFunction) where
   pub vm_number : (g : ℕ) (f : VmFunction) → slice_get fs g ≡ Some f → slice_get (map code_of fs) g ≡ Some (code_of f)
   vm_number g f e = slice_get-map code_of fs g ∙ ap (option_map code_of) e
 
-  pub temp_number : (g : ℕ) (f : VmFunction) → slice_get fs g ≡ Some f → slice_get (map selected_code fs) g ≡ Some (selected_code f)
-  temp_number g f e = slice_get-map selected_code fs g ∙ ap (option_map selected_code) e
+  pub temp_number : (g : ℕ) (f : VmFunction) → slice_get fs g ≡ Some f → slice_get (map plain_code fs) g ≡ Some (plain_code f)
+  temp_number g f e = slice_get-map plain_code fs g ∙ ap (option_map plain_code) e
 
   pub vm_site : (g b at : ℕ) (f : VmFunction) (y : VmInsn) (left : List VmInsn) → slice_get fs g ≡ Some f → Placed f.blocks b at (y ∷ left) →
       (vm_code (map code_of fs)).site (record { function = g; block = b; at = at }) ≡ Some (insn_site y)
@@ -144,11 +144,11 @@ module _ (rooms : Rooms) (fs : List VmFunction) where
 
   pub temp_steps : (g b place own : ℕ) (s : Temps) (f : VmFunction) (y : TempInsn) (left : List TempInsn) (ts : List (Frame Temps)) (w : World) → slice_get fs g ≡ Some f
       → Standing (function_blocks f.params f.blocks) b place (y ∷ left) →
-      step Content Temps rooms (temp_code (map selected_code fs)) (temp_conf g b place own s ts w)
-      ≡ step_with Content Temps rooms (temp_code (map selected_code fs)) (temp_conf g b place own s ts w) (temp_site (widest_call (function_blocks f.params f.blocks)) y) (turn_if (temps.takes_turn y) w.meter)
+      step Content Temps rooms (temp_code (map plain_code fs)) (temp_conf g b place own s ts w)
+      ≡ step_with Content Temps rooms (temp_code (map plain_code fs)) (temp_conf g b place own s ts w) (temp_site (widest_call (function_blocks f.params f.blocks)) y) (turn_if (temps.takes_turn y) w.meter)
   temp_steps g b place own s f y left ts w number h =
-      ap (step_at Content Temps rooms (temp_code (map selected_code fs)) (temp_conf g b place own s ts w))
-      (site_there (map selected_code fs) g b (selected_code f) (temp_number g f number) place y left h)
+      ap (step_at Content Temps rooms (temp_code (map plain_code fs)) (temp_conf g b place own s ts w))
+      (site_there (map plain_code fs) g b (plain_code f) (temp_number g f number) place y left h)
 
   -- ---- a block is entered from its start
 
@@ -178,9 +178,9 @@ module _ (rooms : Rooms) (fs : List VmFunction) where
       Reaches (temp_conf g b place own s ts w) e
   behind_block n ih g b at place own r s f vs ts w e h ordinary waits defined is =
       let v = ap (λ o. go_on (step_at Value Registers rooms (vm_code (map code_of fs)) (vm_conf g b at own r vs w) o) (exec Value Registers rooms (vm_code (map code_of fs)) n)) (vm_behind g b at f h.number h.placed) in
-      comes_then rooms (map selected_code fs) (temp_conf g b place own s ts w) (temp_conf g (suc b) 0 own s ts w) (Over e)
-      (comes_by rooms (map selected_code fs) (temp_conf g b place own s ts w) (Goes (temp_conf g (suc b) 0 own s ts w))
-      (ap (step_at Content Temps rooms (temp_code (map selected_code fs)) (temp_conf g b place own s ts w)) (site_behind (map selected_code fs) g b (selected_code f) (temp_number g f h.number) place h.standing)))
+      comes_then rooms (map plain_code fs) (temp_conf g b place own s ts w) (temp_conf g (suc b) 0 own s ts w) (Over e)
+      (comes_by rooms (map plain_code fs) (temp_conf g b place own s ts w) (Goes (temp_conf g (suc b) 0 own s ts w))
+      (ap (step_at Content Temps rooms (temp_code (map plain_code fs)) (temp_conf g b place own s ts w)) (site_behind (map plain_code fs) g b (plain_code f) (temp_number g f h.number) place h.standing)))
       (enter_block n ih g b own r s f vs ts w e h.number h.holds h.held ordinary waits defined (sym v ∙ is))
 
   -- ---- instructions that put a value
@@ -213,9 +213,9 @@ module _ (rooms : Rooms) (fs : List VmFunction) where
       → exec Value Registers rooms (vm_code (map code_of fs)) n (vm_conf g b at own (set_register d v r) vs w) ≡ Over e →
       Reaches (temp_conf g b place own s ts w) e
   put_tail n ih g b at place own r s f left vs ts w e xs d v number placed standing holds held ordinary waits defined comes new is =
-      let c = subst (Came rooms (map selected_code fs) g b own ts w.meter (selected_code f) (temp_number g f number) place s w.outer (insns_items left)) comes.goes_on
-      (straight rooms (map selected_code fs) g b own ts w.meter (selected_code f) (temp_number g f number) xs (insns_items left) place s w.outer standing) in
-      comes_then rooms (map selected_code fs) (temp_conf g b place own s ts w) (temp_conf g b c.place own comes.after ts w) (Over e) c.comes
+      let c = subst (Came rooms (map plain_code fs) g b own ts w.meter (plain_code f) (temp_number g f number) place s w.outer (insns_items left)) comes.goes_on
+      (straight rooms (map plain_code fs) g b own ts w.meter (plain_code f) (temp_number g f number) xs (insns_items left) place s w.outer standing) in
+      comes_then rooms (map plain_code fs) (temp_conf g b place own s ts w) (temp_conf g b c.place own comes.after ts w) (Over e) c.comes
       (ih g b at c.place own (set_register d v r) comes.after f left vs ts w e
       (record {
         number = number;
@@ -250,9 +250,9 @@ module _ (rooms : Rooms) (fs : List VmFunction) where
   NextReaches (Goes l) e = Reaches l e
   NextReaches (Over z) e = z ≡ e
 
-  pub by_next : (l : Config Temps) (q : Next Temps) (e : Ending) → step Content Temps rooms (temp_code (map selected_code fs)) l ≡ q → NextReaches q e → Reaches l e
-  by_next l (Goes k) e is h = comes_then rooms (map selected_code fs) l k (Over e) (comes_by rooms (map selected_code fs) l (Goes k) is) h
-  by_next l (Over z) e is h = comes_by rooms (map selected_code fs) l (Over e) (is ∙ ap (λ q. Over q) h)
+  pub by_next : (l : Config Temps) (q : Next Temps) (e : Ending) → step Content Temps rooms (temp_code (map plain_code fs)) l ≡ q → NextReaches q e → Reaches l e
+  by_next l (Goes k) e is h = comes_then rooms (map plain_code fs) l k (Over e) (comes_by rooms (map plain_code fs) l (Goes k) is) h
+  by_next l (Over z) e is h = comes_by rooms (map plain_code fs) l (Over e) (is ∙ ap (λ q. Over q) h)
 
   pub same_ending : (z e : Ending) → is_over z ≡ is_over e → z ≡ e
   same_ending z e q = cc
@@ -270,10 +270,10 @@ module _ (rooms : Rooms) (fs : List VmFunction) where
         ∙ is
 
     came : (ran : Ran) → runs (widest_call (function_blocks f.params f.blocks)) (insn_items y) own s w.outer ≡ ran →
-        Came rooms (map selected_code fs) g b own ts w.meter (selected_code f) (temp_number g f h.number) place s w.outer (insns_items left) ran
+        Came rooms (map plain_code fs) g b own ts w.meter (plain_code f) (temp_number g f h.number) place s w.outer (insns_items left) ran
     came ran e2 =
-        subst (Came rooms (map selected_code fs) g b own ts w.meter (selected_code f) (temp_number g f h.number) place s w.outer (insns_items left)) e2
-        (straight rooms (map selected_code fs) g b own ts w.meter (selected_code f) (temp_number g f h.number) (insn_items y) (insns_items left) place s w.outer h.standing)
+        subst (Came rooms (map plain_code fs) g b own ts w.meter (plain_code f) (temp_number g f h.number) place s w.outer (insns_items left)) e2
+        (straight rooms (map plain_code fs) g b own ts w.meter (plain_code f) (temp_number g f h.number) (insn_items y) (insns_items left) place s w.outer h.standing)
 
     pub value_step : (d : ℕ) (a : Answer) → takes_turn y ≡ false → writes_of y ≡ d ∷ [] → does y own (map r (reads_of y)) w.outer ≡ writes a w.outer →
         ComesTo s w.outer (temp_of d) a (runs (widest_call (function_blocks f.params f.blocks)) (insn_items y) own s w.outer) → AnswerIsHeld a → Reaches (temp_conf g b place own s ts w) e
@@ -295,7 +295,7 @@ module _ (rooms : Rooms) (fs : List VmFunction) where
         let u : World = record { outer = outer_with_memory w.outer m; meter = w.meter } in
         let c = came (After comes.after (outer_with_memory w.outer m)) comes.goes_on in
         let registers : set_registers (writes_of y) [] r ≡ r = ap (λ l. set_registers l [] r) none_ in
-        comes_then rooms (map selected_code fs) (temp_conf g b place own s ts w) (temp_conf g b c.place own comes.after ts u) (Over e) c.comes
+        comes_then rooms (map plain_code fs) (temp_conf g b place own s ts w) (temp_conf g b c.place own comes.after ts u) (Over e) c.comes
         (ih g b (suc at) c.place own r comes.after f left vs ts u e
         (record {
           number = h.number;
@@ -310,46 +310,46 @@ module _ (rooms : Rooms) (fs : List VmFunction) where
     -- ---- instructions whose code has one that takes a turn, or is no straight one, behind straight code
 
     before_last : (xs : List TempInsn) (z : TempInsn) (rest : List TempInsn) (t : Temps) → insns_items (y ∷ left) ≡ xs ++ z ∷ rest → runs (widest_call (function_blocks f.params f.blocks)) xs own s w.outer ≡ After t w.outer →
-        CameBehind rooms (map selected_code fs) g b own ts w.meter (selected_code f) (temp_number g f h.number) place s w.outer (z ∷ rest) t w.outer
+        CameBehind rooms (map plain_code fs) g b own ts w.meter (plain_code f) (temp_number g f h.number) place s w.outer (z ∷ rest) t w.outer
     before_last xs z rest t parts ran =
-        subst (Came rooms (map selected_code fs) g b own ts w.meter (selected_code f) (temp_number g f h.number) place s w.outer (z ∷ rest)) ran
-        (straight rooms (map selected_code fs) g b own ts w.meter (selected_code f) (temp_number g f h.number) xs (z ∷ rest) place s w.outer
+        subst (Came rooms (map plain_code fs) g b own ts w.meter (plain_code f) (temp_number g f h.number) place s w.outer (z ∷ rest)) ran
+        (straight rooms (map plain_code fs) g b own ts w.meter (plain_code f) (temp_number g f h.number) xs (z ∷ rest) place s w.outer
         (subst (Standing (function_blocks f.params f.blocks) b place) parts h.standing))
 
     pub turn_step : (xs : List TempInsn) (z : TempInsn) (rest : List TempInsn) (t : Temps) → insns_items (y ∷ left) ≡ xs ++ z ∷ rest → takes_turn y ≡ true → temps.takes_turn z ≡ true
         → runs (widest_call (function_blocks f.params f.blocks)) xs own s w.outer ≡ After t w.outer
         → ((m : Meter) (there : ℕ) → Standing (function_blocks f.params f.blocks) b there (z ∷ rest) →
         go_on (act_on Value Registers rooms (vm_code (map code_of fs)) (vm_conf g b at own r vs w) m (insn_site y) (does y own (map r (reads_of y)) w.outer)) (exec Value Registers rooms (vm_code (map code_of fs)) n) ≡ Over e →
-        NextReaches (act_on Content Temps rooms (temp_code (map selected_code fs)) (temp_conf g b there own t ts w) m (temp_site (widest_call (function_blocks f.params f.blocks)) z)
+        NextReaches (act_on Content Temps rooms (temp_code (map plain_code fs)) (temp_conf g b there own t ts w) m (temp_site (widest_call (function_blocks f.params f.blocks)) z)
         (temps.does (widest_call (function_blocks f.params f.blocks)) z own (map t (holders_read z)) w.outer)) e) →
         Reaches (temp_conf g b place own s ts w) e
     turn_step xs z rest t parts turn turn2 ran go =
         let c = before_last xs z rest t parts ran in
         let l = temp_conf g b c.place own t ts w in
         let stepped = temp_steps g b c.place own t f z rest ts w h.number c.standing
-        ∙ ap (λ u. step_with Content Temps rooms (temp_code (map selected_code fs)) l (temp_site (widest_call (function_blocks f.params f.blocks)) z) (turn_if u w.meter)) turn2 in
+        ∙ ap (λ u. step_with Content Temps rooms (temp_code (map plain_code fs)) l (temp_site (widest_call (function_blocks f.params f.blocks)) z) (turn_if u w.meter)) turn2 in
         let gone = sym (vm_steps n g b at own r f y left vs w h.number h.placed
         ∙ ap (λ u. go_on (step_with Value Registers rooms (vm_code (map code_of fs)) (vm_conf g b at own r vs w) (insn_site y) (turn_if u w.meter)) (exec Value Registers rooms (vm_code (map code_of fs)) n)) turn) ∙ is in
-        comes_then rooms (map selected_code fs) (temp_conf g b place own s ts w) l (Over e) c.comes
-        (by_next l (step_with Content Temps rooms (temp_code (map selected_code fs)) l (temp_site (widest_call (function_blocks f.params f.blocks)) z) (take_turn w.meter)) e stepped
+        comes_then rooms (map plain_code fs) (temp_conf g b place own s ts w) l (Over e) c.comes
+        (by_next l (step_with Content Temps rooms (temp_code (map plain_code fs)) l (temp_site (widest_call (function_blocks f.params f.blocks)) z) (take_turn w.meter)) e stepped
         (by_turn (take_turn w.meter) c.place c.standing gone))
       where
         by_turn : (m : Option Meter) (there : ℕ) → Standing (function_blocks f.params f.blocks) b there (z ∷ rest) →
             go_on (step_with Value Registers rooms (vm_code (map code_of fs)) (vm_conf g b at own r vs w) (insn_site y) m) (exec Value Registers rooms (vm_code (map code_of fs)) n) ≡ Over e →
-            NextReaches (step_with Content Temps rooms (temp_code (map selected_code fs)) (temp_conf g b there own t ts w) (temp_site (widest_call (function_blocks f.params f.blocks)) z) m) e
+            NextReaches (step_with Content Temps rooms (temp_code (map plain_code fs)) (temp_conf g b there own t ts w) (temp_site (widest_call (function_blocks f.params f.blocks)) z) m) e
         by_turn None there st q = same_ending (More w) e q
         by_turn (Some m) there st q = go m there st q
 
     pub last_step : (xs : List TempInsn) (z : TempInsn) (rest : List TempInsn) (t : Temps) → insns_items (y ∷ left) ≡ xs ++ z ∷ rest → temps.takes_turn z ≡ false
         → runs (widest_call (function_blocks f.params f.blocks)) xs own s w.outer ≡ After t w.outer
         → ((there : ℕ) → Standing (function_blocks f.params f.blocks) b there (z ∷ rest) →
-        NextReaches (act_on Content Temps rooms (temp_code (map selected_code fs)) (temp_conf g b there own t ts w) w.meter (temp_site (widest_call (function_blocks f.params f.blocks)) z)
+        NextReaches (act_on Content Temps rooms (temp_code (map plain_code fs)) (temp_conf g b there own t ts w) w.meter (temp_site (widest_call (function_blocks f.params f.blocks)) z)
         (temps.does (widest_call (function_blocks f.params f.blocks)) z own (map t (holders_read z)) w.outer)) e) →
         Reaches (temp_conf g b place own s ts w) e
     last_step xs z rest t parts turn ran go =
         let c = before_last xs z rest t parts ran in
         let l = temp_conf g b c.place own t ts w in
         let stepped = temp_steps g b c.place own t f z rest ts w h.number c.standing
-        ∙ ap (λ u. step_with Content Temps rooms (temp_code (map selected_code fs)) l (temp_site (widest_call (function_blocks f.params f.blocks)) z) (turn_if u w.meter)) turn in
-        comes_then rooms (map selected_code fs) (temp_conf g b place own s ts w) l (Over e) c.comes
+        ∙ ap (λ u. step_with Content Temps rooms (temp_code (map plain_code fs)) l (temp_site (widest_call (function_blocks f.params f.blocks)) z) (turn_if u w.meter)) turn in
+        comes_then rooms (map plain_code fs) (temp_conf g b place own s ts w) l (Over e) c.comes
         (by_next l _ e stepped (go c.place c.standing))

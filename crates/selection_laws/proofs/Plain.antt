@@ -1,0 +1,46 @@
+-- The code of functions as they stand, which is the selected code of those whose branches do not test values yet.
+use Rattle.std.proofs.Common.{◌≡◌, List, [], ◌∷◌, map, refl, ap}
+use Rattle.mem_model.specs.Ending.{Ending, Done, Trap, Undefined, More}
+use Rattle.suifvm_ir.specs.Programs.{VmFunction}
+use Rattle.suifvm_ir.specs.declared.insn.VmInsn.{VmInsn}
+use Rattle.suifvm_ir.specs.declared.insn.VmInsn.TheVariants as x
+use Rattle.alloc_model.specs.Temporaries.{TemporaryCode}
+use Rattle.value_tests.specs.declared.known.Known.{Known}
+use Rattle.value_tests.specs.Tests.{seen, HasMeaning}
+use Rattle.value_tests.proofs.Functions.{tested_function}
+use Rattle.selection_code.specs.Fields.{HasFields}
+use Rattle.selection_code.specs.Functions.{function_blocks}
+use Rattle.selection_laws.specs.Selected.{selected_code}
+use Rattle.selection_laws.specs.Laws.{IsDefined}
+
+abbrev pub plain_code : VmFunction → TemporaryCode
+plain_code f = record { sizes = map (λ o. o.size) f.objects; blocks = function_blocks f.params f.blocks }
+
+pub selected_plain : (fs : List VmFunction) → map plain_code (map tested_function fs) ≡ map selected_code fs
+selected_plain [] = refl
+selected_plain (f ∷ fs) = ap (λ l. selected_code f ∷ l) (selected_plain fs)
+
+-- the numbers in an instruction stay
+pub fields_kept : (k : Known) (i : VmInsn) → HasFields i → HasFields (seen k i)
+fields_kept k (x.LoadConstant ty d word) h = h
+fields_kept k (x.LoadAddress d place plus) h = h
+fields_kept k (x.Load ty d p plus) h = h
+fields_kept k (x.Store ty p plus b) h = h
+fields_kept k (x.Copy to from size align) h = h
+fields_kept k (x.Unary op ty d b) h = h
+fields_kept k (x.Binary op ty d b c) h = h
+fields_kept k (x.Shift op ty d b c) h = h
+fields_kept k (x.Convert from to d b) h = h
+fields_kept k (x.Compare op ty d b c) h = h
+fields_kept k (x.Branch op ty a block) h = tt
+fields_kept k (x.Jump block) h = h
+fields_kept k (x.Call d c arguments) h = h
+fields_kept k (x.Return value) h = h
+fields_kept k x.Mark h = h
+fields_kept k x.Nop h = h
+
+pub has_meaning : (e : Ending) → IsDefined e → HasMeaning e
+has_meaning (Done w status) h = tt
+has_meaning (Trap w code) h = tt
+has_meaning (Undefined w at) h = h
+has_meaning (More w) h = tt
