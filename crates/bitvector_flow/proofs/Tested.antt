@@ -119,10 +119,14 @@ least_by_tests makes stops nexts bound size count made stopped shown outs ins si
     finds ms ss f = record {
       outs_bounded = f.outs_bounded;
       ins_bounded = f.ins_bounded;
-      flows_out = λ block k within. (λ h. there makes stops nexts bound made stopped ms ss k within block ((f.flows_out block k).0 h),
-          λ flow. (f.flows_out block k).1 (back makes stops nexts bound made stopped ms ss k within block flow));
-      flows_in = λ block k within. (λ h. let i = (f.flows_in block k).0 h in record { next = i.next; is_next = i.is_next; flows = there makes stops nexts bound made stopped ms ss k within i.next i.flows },
-          λ i. (f.flows_in block k).1 (record { next = i.next; is_next = i.is_next; flows = back makes stops nexts bound made stopped ms ss k within i.next i.flows }));
+      flows_out = λ block k within. (
+        λ h. there makes stops nexts bound made stopped ms ss k within block ((f.flows_out block k).0 h),
+        λ flow. (f.flows_out block k).1 (back makes stops nexts bound made stopped ms ss k within block flow),
+      );
+      flows_in = λ block k within. (
+        λ h. let i = (f.flows_in block k).0 h in record { next = i.next; is_next = i.is_next; flows = there makes stops nexts bound made stopped ms ss k within i.next i.flows },
+        λ i. (f.flows_in block k).1 (record { next = i.next; is_next = i.is_next; flows = back makes stops nexts bound made stopped ms ss k within i.next i.flows }),
+      );
     }
 
 pub if_true : (b : Bool) (A B : Type 0) → b ≡ true → A → MatchBool b A B

@@ -125,7 +125,14 @@ fn solve_along<P: Problem>(
 {
     let makes = made_sets(alloc, problem, nexts.len())?;
     let stops = stopped_sets(alloc, problem, nexts.len())?;
-    solve_sets(alloc, nexts, makes, stops.as_slice(), problem.size(), problem.backward())
+    solve_sets(
+        alloc,
+        nexts,
+        makes,
+        stops.as_slice(),
+        problem.size(),
+        problem.backward(),
+    )
 }
 
 /// The least sets that solve a problem over a flow graph: what flows out of each block, and what flows into it. Where
