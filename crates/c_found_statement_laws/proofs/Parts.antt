@@ -1,6 +1,5 @@
 -- The parts of statements are found, or something is noted.
-use Rattle.std.proofs.Common.{◌≡◌, ◌==◌, ◌+◌, ◌*◌, ℕ, Bool, true, false, IsTrue, List, [], ◌∷◌, ◌++◌, length, Option, Some, None, Ok, Err, refl, if◌then◌else◌}
-use Rattle.std.specs.Option.{option_map}
+use Rattle.std.proofs.Common.{ℕ, Bool, true, false, List, [], ◌∷◌, ◌++◌, length, Option, Some, None, Ok, Err, refl, if◌then◌else◌}
 use Rattle.c_arithmetic.specs.declared.integer_type.IntegerType.{IntegerType}
 use Rattle.c_tree.specs.declared.expressions.Expr.{Expr}
 use Rattle.c_tree.specs.declared.types.TypeNode.{TypeNode}
@@ -20,22 +19,20 @@ use Rattle.c_typed_tree.specs.declared.types.CType.{CType}
 use Rattle.c_typed_tree.specs.declared.expressions.TExpr.{TExpr}
 use Rattle.c_typed_tree.specs.declared.statements.TStmt.{TStmt}
 use Rattle.c_typed_tree.specs.declared.statements.TStmt as s
-use Rattle.c_typed_tree.specs.declared.statements.TLocal.{TLocal}
 use Rattle.c_typed_tree.specs.declared.statements.TLabel.{TLabel}
 use Rattle.c_typed_tree.specs.declared.statements.TLabel.TheVariants.{Case, Default}
-use Rattle.c_typed_tree.specs.Typing.{is_array, is_scalar, is_void}
+use Rattle.c_typed_tree.specs.Typing.{is_array, is_void}
 use Rattle.c_typed_tree.specs.View.{type_view}
 use Rattle.c_constant_rules.specs.Values.{label}
 use Rattle.c_operators.specs.Null.{take_value}
-use Rattle.c_primary_rules.specs.declared.switches.SwitchValue.{SwitchValue}
 use Rattle.c_checks.specs.declared.env.Env.{Env}
 use Rattle.c_checks.specs.declared.meanings.NameMeaning.TheVariants as m
 use Rattle.c_checks.specs.declared.notes.Notes.{Notes}
-use Rattle.c_checks.specs.Checks.{and_then, each, both, walk, append_part, note_fault, fault, pure}
+use Rattle.c_checks.specs.Checks.{and_then, each, both, walk, append_part, note_fault, pure}
 use Rattle.c_checks.specs.Notes.{with_fault}
 use Rattle.c_checks.specs.Scopes.{with_name, stands_here}
 use Rattle.c_judgements.specs.Leaves.{leaf}
-use Rattle.c_judgements.specs.Types.{State, within, parameter_type}
+use Rattle.c_judgements.specs.Types.{State, parameter_type}
 use Rattle.c_expressions.specs.Expressions.{judge, derive}
 use Rattle.c_tag_bodies.specs.Members.{is_member}
 use Rattle.c_statement_rules.specs.declared.jumps.Jumps.{Jumps}
@@ -44,9 +41,8 @@ use Rattle.c_statement_rules.specs.declared.locals.NewLocal.{NewLocal}
 use Rattle.c_statement_rules.specs.Objects.{no_object, object_type}
 use Rattle.c_statement_rules.specs.Values.{condition, switch_operand, full_expression, return_of, bad_return, return_value, return_nothing}
 use Rattle.c_statement_rules.specs.Jumps.{bad_jump, break_statement, continue_statement}
-use Rattle.c_statement_rules.specs.Labels.{has_word, with_words, with_default, LabelState, beside_labels, bad_label, new_case, operand_type, case_value, case_label, default_label}
+use Rattle.c_statement_rules.specs.Labels.{has_word, with_words, with_default, LabelState, beside_labels, bad_label, operand_type, case_value, case_label, default_label}
 use Rattle.c_statement_rules.specs.Locals.{BodyState, with_notes, local_of_type, local_named, no_name, parameter_named, parameter_declared, no_initialiser, initialiser, with_initialiser, local_with_value, without_initialiser}
-use Rattle.c_statement_rules.specs.Forms.{there, first_value, first_locals}
 use Rattle.c_statements.specs.Parts.{condition_of, value_of, operand_of, optional_condition, optional_value, return_statement, type_of, initialiser_of, local_of, first_of, label_of}
 use Rattle.c_found_laws.specs.Laws.{Tells, IsFound, Finds}
 use Rattle.c_found_laws.proofs.Forms.{no_true, tells_none, tells_fault, tells_as, tells_then, tells_both, tells_never, tells_named, ruled, map_found, each_tells, both_tells, each_under, append_found, parameter_type_tells, leaf_tells}

@@ -1,6 +1,6 @@
 //! Whole units.
 
-ghost use Rattle.std.specs.Prelude.{◌≡◌, IfOk, IfErr, IfSome, Some, None, [], replicate, slice_set};
+ghost use Rattle.std.specs.Prelude.{◌≡◌, IsTrue, is_some, IfOk, IfErr, IfSome, Some, None, [], replicate, slice_set};
 ghost use Rattle.c_typed_tree.specs.Lawful.{IsLawful};
 ghost use Rattle.c_types.specs.Units as spec;
 
@@ -84,7 +84,7 @@ fn lawful_unit(alloc: Global, unit: TypedUnit) -> Result<Option<TypedUnit>, Allo
     Ok(None)
 }
 
-/// The typed unit, if each function has its tree and the unit is lawful.
+/// The typed unit, if it is lawful. Each function has its tree.
 fn whole_unit(
     alloc: Global,
     structs: Seq<StructDef>,
@@ -93,11 +93,12 @@ fn whole_unit(
     count: u32,
     functions: Seq<UnitFunction>,
 ) -> Result<Option<TypedUnit>, AllocError>
+    requires trees { IsTrue (is_some (spec.append_functions (Some []) (spec.functions_in count functions))) }
     ensures unit { IfOk result (λ r. IfSome r (λ u. spec.unit_with structs objects texts count functions ≡ Some u)) }
     ensures lawful { IfOk result (λ r. IfSome r IsLawful) }
 {
     match functions_in(alloc, count, functions)? {
-        None => Ok(None),
+        None => unreachable!(),
         Some(functions) => {
             let globals = lay_out_globals(alloc, structs.as_slice(), objects, texts.as_slice())?;
             lawful_unit(
@@ -112,8 +113,7 @@ fn whole_unit(
     }
 }
 
-/// The typed unit. One that has a function without a tree, or is not lawful, is refused as want of memory: a unit
-/// without a fault is none of these.
+/// The typed unit. One that is not lawful is refused as want of memory: a unit without a fault is none.
 fn make_unit(
     alloc: Global,
     structs: Seq<StructDef>,
@@ -122,6 +122,7 @@ fn make_unit(
     count: u32,
     functions: Seq<UnitFunction>,
 ) -> Result<TypedUnit, AllocError>
+    requires trees { IsTrue (is_some (spec.append_functions (Some []) (spec.functions_in count functions))) }
     ensures unit { IfOk result (λ r. spec.unit_with structs objects texts count functions ≡ Some r) }
     ensures lawful { IfOk result IsLawful }
 {
