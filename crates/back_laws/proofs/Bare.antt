@@ -14,7 +14,7 @@ use Rattle.cfg.specs.Walks.{bare}
 abbrev pub bare_of : TempInsn → TempInsn
 bare_of z = bare targets_of with_block z
 
-bare_calls : (z : TempInsn) → is_call (bare_of z) ≡ is_call z
+pub bare_calls : (z : TempInsn) → is_call (bare_of z) ≡ is_call z
 bare_calls (i.Address op d base plus) = refl
 bare_calls (i.ObjectAddress d place plus) = refl
 bare_calls (i.Load op d p plus) = refl

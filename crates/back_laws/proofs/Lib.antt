@@ -1,5 +1,6 @@
 mod Bare
 mod Splits
+mod Removals
 mod Forms
 mod Settled
 mod Names

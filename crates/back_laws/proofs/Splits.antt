@@ -17,7 +17,7 @@ abbrev edges_of : List (List TempInsn) → ℕ
 edges_of blocks = functions.edge_count targets_of flows_on_of blocks
 
 -- both ways to count the edges
-same_count : (n : ℕ) (blocks : List (List TempInsn)) → edge_count (successors_from targets_of flows_on_of n blocks) ≡ edges_of blocks
+pub same_count : (n : ℕ) (blocks : List (List TempInsn)) → edge_count (successors_from targets_of flows_on_of n blocks) ≡ edges_of blocks
 same_count n [] = refl
 same_count n (block ∷ blocks) =
     omega (

@@ -2,7 +2,7 @@
 //! as `remove_unreachable` (`cfg`) and `split_edges` (`cfg_edges`) give them.
 
 ghost use Rattle.back_laws.specs.Kept.{SettledIsKept, NamesAreKept, MarksAreKept};
-ghost use Rattle.back_laws.specs.Bulks.{SplitsKeepBulk};
+ghost use Rattle.back_laws.specs.Bulks.{SplitsKeepBulk, RemovalKeepsBulk, RemovalKeepsCost};
 
 /// Each fixed register that is read was written as fixed before, where it was so in the blocks before.
 pub fn settled_is_kept()
@@ -22,4 +22,14 @@ pub fn marks_are_kept()
 /// A function whose edges were split is no larger than was counted for it before.
 pub fn splits_keep_the_bulk()
     ensures { SplitsKeepBulk }
+{}
+
+/// A function without some of its blocks is no larger than before.
+pub fn removal_keeps_the_bulk()
+    ensures { RemovalKeepsBulk }
+{}
+
+/// A function over virtual registers without some of its blocks costs no more than before.
+pub fn removal_keeps_the_cost()
+    ensures { RemovalKeepsCost }
 {}
