@@ -1,0 +1,3 @@
+pub mod Names
+pub mod Declarations
+pub mod Units

@@ -1,0 +1,4 @@
+//! The structs of a unit are lawful.
+#![tactic(auto)]
+
+pub mod laws;
