@@ -1,0 +1,61 @@
+//! The numbers in instructions have their ranges, as their types say. Clauses know it of what is read.
+
+ghost use Rattle.std.specs.Prelude.{All};
+ghost use Rattle.alpha_isa.specs.Lawful.{IsDisplacement};
+ghost use Rattle.suifvm_ir.specs.Functions.{AllInsns};
+ghost use Rattle.instruction_items.specs.Laws.{IsSmallOperand};
+ghost use Rattle.frame_ranges.specs.Ranges.{IsSmall};
+
+use alloc_model::allocation::Allocation;
+use suifvm_ir::block::Block;
+use temp_ir::insn::{SecondOperand, TempInsn};
+
+/// A displacement has 16 bits.
+fn read_displacement(plus: &i16)
+    ensures { IsDisplacement plus.now }
+{
+    let _plus = *plus;
+}
+
+/// A literal has 8 bits.
+fn read_operand(operand: &SecondOperand)
+    ensures { IsSmallOperand operand.now }
+{
+    if let SecondOperand::Literal(number) = operand {
+        let _number = *number;
+    }
+}
+
+fn read_insn(insn: &TempInsn)
+    ensures { IsSmall insn.now }
+{
+    match insn {
+        TempInsn::Address { plus, .. } => read_displacement(plus),
+        TempInsn::Load { plus, .. } => read_displacement(plus),
+        TempInsn::Store { plus, .. } => read_displacement(plus),
+        TempInsn::Operate { right, .. } => read_operand(right),
+        TempInsn::Extend { source, .. } => read_operand(source),
+        TempInsn::SetFixed { number, .. } => read_displacement(number),
+        _ => {}
+    }
+}
+
+#[tactic(auto, using(function_checks::proofs::Alls::all_left))]
+fn read_block(block: &Block<TempInsn>)
+    ensures { All IsSmall block.now }
+{
+    for line in block.insns.iter() {
+        let (_id, insn) = line;
+        read_insn(insn);
+    }
+}
+
+/// The numbers in the instructions of a function.
+#[tactic(auto, using(function_checks::proofs::Alls::all_more, function_checks::proofs::Alls::all_done))]
+pub(crate) fn read_numbers(a: &Allocation)
+    ensures { AllInsns IsSmall a.now.func.blocks }
+{
+    for block in a.func.blocks.as_slice() {
+        read_block(block);
+    }
+}
