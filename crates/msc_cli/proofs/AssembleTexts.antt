@@ -14,12 +14,12 @@ use Rattle.alpha_text.proofs.Again.{fault_again}
 use Rattle.alpha_asm.specs.Fault.{IsFaultOf}
 use Rattle.alpha_asm.specs.declared.assemble.AsmFault.{AsmFault}
 use Rattle.alpha_asm.specs.declared.assemble.AsmFault.TheVariants as asm
-use Rattle.msc_cli.specs.declared.outcome.Outcome.{Outcome}
-use Rattle.msc_cli.specs.declared.outcome.Outcome.TheVariants.{Built, FileFault, InputFault, WriteFault, Limit, BadAsm, NoMemory}
-use Rattle.msc_cli.specs.declared.outcome.Which.TheVariants.{Text}
-use Rattle.msc_cli.specs.model.FileFront.{IsFront}
+use Rattle.call_outcomes.specs.declared.outcome.Outcome.{Outcome}
+use Rattle.call_outcomes.specs.declared.outcome.Outcome.TheVariants.{Built, FileFault, InputFault, WriteFault, Limit, BadAsm, NoMemory}
+use Rattle.call_outcomes.specs.declared.outcome.Which.TheVariants.{Text}
+use Rattle.call_outcomes.specs.FromFile.{IsFront}
 use Rattle.msc_cli.specs.model.Causes.{outcome_of_text_fault, outcome_of_asm_fault}
-use Rattle.msc_cli.specs.FromFile.{IsCause, text_of}
+use Rattle.call_outcomes.specs.FromFile.{IsCause, text_of}
 use Rattle.msc_cli.specs.AssembleText.{IsAssembled, SpellsNoImage, RefusesAssembly, Assembles}
 
 -- a text within the limit has neither too many bytes of data nor too many words

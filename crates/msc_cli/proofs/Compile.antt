@@ -7,19 +7,17 @@ use Rattle.c_mean.specs.Small.{Expression, SmallUnit, IsSmall, ArePuts, written_
 use Rattle.alpha_isa.specs.Program.{Program}
 use Rattle.msc_cli.specs.SmallImage.{small_program}
 use Rattle.msc_cli.specs.Same.{Same}
-use Rattle.bk_io.specs.Shelf.{Shelf, file_of, HasCause as HasFileCause}
-use Rattle.bk_io.specs.declared.outside.FileFault.{FileFault as Fault}
-use Rattle.bk_io.specs.declared.outside.FileFault.TheVariants as file
-use Rattle.msc_cli.specs.declared.outcome.Outcome.{Outcome}
-use Rattle.msc_cli.specs.declared.outcome.Outcome.TheVariants.{FileFault, NoMemory}
+use Rattle.bk_io.specs.Shelf.{Shelf, file_of}
+use Rattle.call_outcomes.specs.declared.outcome.Outcome.{Outcome}
+use Rattle.call_outcomes.specs.declared.outcome.Outcome.TheVariants.{FileFault, NoMemory}
 use Rattle.msc_cli.specs.declared.read_small.ReadFault.{ReadFault}
 use Rattle.msc_cli.specs.declared.read_small.ReadFault.TheVariants as read
-use Rattle.msc_cli.specs.model.Causes.{outcome_of_read_fault, outcome_of_file_fault}
-use Rattle.msc_cli.specs.model.FileFront.{IsFront}
+use Rattle.msc_cli.specs.model.Causes.{outcome_of_read_fault}
+use Rattle.call_outcomes.specs.FromFile.{IsFront}
 use Rattle.msc_cli.specs.ReadSmall.{HasCause}
-use Rattle.msc_cli.specs.FromFile.{text_of, IsCause}
+use Rattle.call_outcomes.specs.FromFile.{text_of, IsCause}
 use Rattle.msc_cli.specs.BuildImage.{IsCompiled, IsRefused, RefusesText, Compiles}
-use Rattle.msc_cli.specs.Output.{file_faults_after}
+use Rattle.call_outcomes.specs.Output.{file_faults_after}
 use Rattle.msc_cli.proofs.SmallSame.{same}
 
 -- a program puts no more bytes than its text has
@@ -77,15 +75,3 @@ no_file_fault read.NoMemory e = cc
 pub same_count : (f : ReadFault) (n : ℕ) → file_faults_after (outcome_of_read_fault f) n ≡ n
 same_count read.Form n = refl
 same_count read.NoMemory n = refl
-
--- a cause that is none of what the file holds is one whatever is refused
-pub any_cause : (refuses : Outcome → Type 0) (o : Outcome) → IsCause (λ _. ⊥) o → IsCause refuses o
-any_cause refuses FileFault h = tt
-any_cause refuses NoMemory (inl short) = inl short
-any_cause refuses NoMemory (inr none) = absurd none
-any_cause refuses _ h = absurd h
-
--- why a file is not read
-pub file_cause : (f : Fault) → HasFileCause f → IsCause (λ _. ⊥) (outcome_of_file_fault f)
-file_cause file.Failed cause = tt
-file_cause file.NoMemory cause = inl cause

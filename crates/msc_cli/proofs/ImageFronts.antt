@@ -12,10 +12,10 @@ use Rattle.alpha_image.proofs.ImageFronts.{front_fault}
 use Rattle.alpha_image.proofs.ImageLaws.{longest}
 use Rattle.msc_cli.specs.model.Causes.{outcome_of_image_fault}
 use Rattle.msc_cli.specs.RunImage.{RefusesBytes, Holds}
-use Rattle.msc_cli.specs.model.FileFront.{IsFront, image_limit}
-use Rattle.msc_cli.specs.FromFile.{IsCause, text_of}
-use Rattle.msc_cli.specs.Output.{file_faults_after}
-use Rattle.msc_cli.specs.declared.outcome.Outcome.TheVariants.{FileFault}
+use Rattle.msc_cli.specs.model.ImageLimit.{image_limit}
+use Rattle.call_outcomes.specs.FromFile.{IsCause, IsFront, text_of}
+use Rattle.call_outcomes.specs.Output.{file_faults_after}
+use Rattle.call_outcomes.specs.declared.outcome.Outcome.TheVariants.{FileFault}
 
 fault_is : (file bytes : List ℕ) (at : ℕ) → IsFront image_limit file bytes → image_fault bytes ≡ Some at → image_fault file ≡ Some at
 fault_is file bytes at front e = elim front [

@@ -1,10 +1,8 @@
 pub mod Compile
-pub mod Fronts
 pub mod ImageFronts
 pub mod MigrateImages
 pub mod Numbers
 pub mod RunImages
-pub mod PrintTrees
 pub mod AssembleTexts
 pub mod SmallRun
 pub mod SmallSame

@@ -4,9 +4,9 @@ use Rattle.alpha_isa.specs.Program.{Program}
 use Rattle.alpha_isa.specs.ImageFormat.{IsImage}
 use Rattle.alpha_image.specs.ImageFault.{image_fault}
 use Rattle.alpha_image.proofs.ImageLaws.{no_fault}
-use Rattle.msc_cli.specs.declared.outcome.Outcome.{Outcome}
-use Rattle.msc_cli.specs.declared.outcome.Outcome.TheVariants.{Built, FileFault, WriteFault, BadImage, NoMemory}
-use Rattle.msc_cli.specs.FromFile.{IsCause}
+use Rattle.call_outcomes.specs.declared.outcome.Outcome.{Outcome}
+use Rattle.call_outcomes.specs.declared.outcome.Outcome.TheVariants.{Built, FileFault, WriteFault, BadImage, NoMemory}
+use Rattle.call_outcomes.specs.FromFile.{IsCause}
 use Rattle.msc_cli.specs.RunImage.{RefusesBytes}
 use Rattle.msc_cli.specs.MigrateImage.{Migrates}
 

@@ -3,9 +3,9 @@ use Rattle.std.proofs.Common.{◌≡◌, ℕ, refl}
 use Rattle.alpha_run.specs.declared.ending.Ending.{Ending}
 use Rattle.alpha_run.specs.declared.ending.Ending.TheVariants as ending
 use Rattle.alpha_run.specs.Run as run
-use Rattle.msc_cli.specs.declared.outcome.Outcome.TheVariants.{FileFault}
+use Rattle.call_outcomes.specs.declared.outcome.Outcome.TheVariants.{FileFault}
 use Rattle.msc_cli.specs.RunImage.{outcome_of_ending}
-use Rattle.msc_cli.specs.Output.{input_faults_after, output_faults_after}
+use Rattle.call_outcomes.specs.Output.{input_faults_after, output_faults_after}
 
 pub no_file : (e : Ending) → outcome_of_ending e ≡ FileFault → ⊥
 no_file (ending.Done status) h = cc

@@ -11,10 +11,10 @@ use Rattle.alpha_run.specs.declared.ending.Ending.{Ending}
 use Rattle.alpha_run.specs.declared.ending.Ending.TheVariants as ending
 use Rattle.alpha_run.specs.Services.{asks}
 use Rattle.alpha_run.specs.Run.{Traffic, MachineBehaves}
-use Rattle.msc_cli.specs.declared.outcome.Outcome.{Outcome}
-use Rattle.msc_cli.specs.declared.outcome.Outcome.TheVariants.{FileFault, Refused, NoMemory}
-use Rattle.msc_cli.specs.declared.outcome.SourceFault.TheVariants.{Form}
-use Rattle.msc_cli.specs.FromFile.{IsCause}
+use Rattle.call_outcomes.specs.declared.outcome.Outcome.{Outcome}
+use Rattle.call_outcomes.specs.declared.outcome.Outcome.TheVariants.{FileFault, Refused, NoMemory}
+use Rattle.call_outcomes.specs.declared.outcome.SourceFault.TheVariants.{Form}
+use Rattle.call_outcomes.specs.FromFile.{IsCause}
 use Rattle.msc_cli.specs.BuildImage.{IsCompiled, RefusesText}
 use Rattle.msc_cli.specs.RunImage.{outcome_of_ending, Runs, EndsWithStatus}
 use Rattle.msc_cli.specs.Limits.{default_stack, default_budget}

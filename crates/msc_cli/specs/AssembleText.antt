@@ -5,10 +5,10 @@ use Rattle.alpha_items.specs.Assembly.{Assembly, IsWhole}
 use Rattle.alpha_items.specs.Words.{Words}
 use Rattle.alpha_text.specs.Texts.{Texts}
 use Rattle.alpha_text.specs.Wrong.{FirstWrong}
-use Rattle.msc_cli.specs.declared.outcome.Outcome.{Outcome}
-use Rattle.msc_cli.specs.declared.outcome.Outcome.TheVariants.{Limit, BadAsm}
-use Rattle.msc_cli.specs.declared.outcome.Which.TheVariants.{Text}
-use Rattle.msc_cli.specs.FromFile.{Does}
+use Rattle.call_outcomes.specs.declared.outcome.Outcome.{Outcome}
+use Rattle.call_outcomes.specs.declared.outcome.Outcome.TheVariants.{Limit, BadAsm}
+use Rattle.call_outcomes.specs.declared.outcome.Which.TheVariants.{Text}
+use Rattle.call_outcomes.specs.FromFile.{Does}
 use Rattle.msc_cli.specs.BuildImage.{WritesImage}
 use Rattle.msc_cli.specs.Limits.{most_assembly, assembly_limit}
 

@@ -1,17 +1,16 @@
 -- What `build` answers, and what it writes.
 use Rattle.std.specs.Prelude.{◌≡◌, ℕ, ◌⊎◌, List, Option, IfSome}
 use Rattle.bk_memory.specs.Shortage.{MemoryIsShort}
-use Rattle.bk_io.specs.Outside.{taken_with}
 use Rattle.c_mean.specs.Behaviour.{Done}
 use Rattle.c_mean.specs.Small.{SmallUnit, IsSmall, written_by, status_of, behave_c, meaning}
 use Rattle.alpha_isa.specs.Program.{Program, IsLawful}
 use Rattle.alpha_isa.specs.Behave.{IsStack}
 use Rattle.alpha_isa.specs.ImageFormat.{image_spelling}
-use Rattle.msc_cli.specs.declared.outcome.Outcome.{Outcome}
-use Rattle.msc_cli.specs.declared.outcome.Outcome.TheVariants.{Built, WriteFault, Refused, NoMemory}
-use Rattle.msc_cli.specs.declared.outcome.SourceFault.TheVariants.{Form}
-use Rattle.msc_cli.specs.FromFile.{Does}
-use Rattle.msc_cli.specs.Output.{TookFront}
+use Rattle.call_outcomes.specs.declared.outcome.Outcome.{Outcome}
+use Rattle.call_outcomes.specs.declared.outcome.Outcome.TheVariants.{Built, Refused, NoMemory}
+use Rattle.call_outcomes.specs.declared.outcome.SourceFault.TheVariants.{Form}
+use Rattle.call_outcomes.specs.FromFile.{Does}
+use Rattle.call_outcomes.specs.Output.{PutsBytes}
 use Rattle.msc_cli.specs.SmallImage.{small_program}
 use Rattle.msc_cli.specs.Same.{Same}
 
@@ -39,12 +38,6 @@ RefusesText text _ = ⊥
 -- an image is made of the text, where it is told
 abbrev pub Compiles : Option (List ℕ) → Program → Type 0
 Compiles text p = IfSome text (λ t. IsCompiled t p)
-
--- What is answered where bytes are put, and what the output took: all of them, or a front of them before a put that
--- failed.
-abbrev pub PutsBytes : Outcome → List ℕ → Outcome → Option (List ℕ) → Option (List ℕ) → Type 0
-PutsBytes done bytes answer old new =
-    ((answer ≡ done) × (new ≡ taken_with bytes old)) ⊎ ((answer ≡ WriteFault) × TookFront bytes old new)
 
 -- the bytes of an image are put, or memory is short
 abbrev pub WritesImage : Program → Outcome → Option (List ℕ) → Option (List ℕ) → Type 0

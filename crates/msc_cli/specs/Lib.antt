@@ -1,15 +1,11 @@
 pub mod Limits
 pub mod Same
 pub mod SmallImage
-pub mod Output
-pub mod Outcome
 pub mod Request
 pub mod ReadSmall
-pub mod FromFile
 pub mod BuildImage
 pub mod RunImage
 pub mod MigrateImage
 pub mod AssembleText
-pub mod PrintTree
 pub mod Call
 pub mod model

@@ -8,10 +8,6 @@ default_stack = 8388608
 abbrev pub default_budget : ℕ
 default_budget = 1000000000
 
--- how many bytes are read of a C file: one more than a text may have
-abbrev pub source_limit : ℕ
-source_limit = 4194305
-
 -- how many bytes an assembly text may have, and how many are read of one: one more
 abbrev pub most_assembly : ℕ
 most_assembly = 67108864

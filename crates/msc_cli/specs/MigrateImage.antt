@@ -2,8 +2,8 @@
 use Rattle.std.specs.Prelude.{◌≡◌, ℕ, List, Option}
 use Rattle.alpha_isa.specs.Program.{Program, HasZerosCut}
 use Rattle.alpha_isa.specs.Behave.{behave_a}
-use Rattle.msc_cli.specs.declared.outcome.Outcome.{Outcome}
-use Rattle.msc_cli.specs.FromFile.{Does}
+use Rattle.call_outcomes.specs.declared.outcome.Outcome.{Outcome}
+use Rattle.call_outcomes.specs.FromFile.{Does}
 use Rattle.msc_cli.specs.BuildImage.{WritesImage}
 use Rattle.msc_cli.specs.RunImage.{RefusesBytes, Holds}
 

@@ -1,23 +1,34 @@
 -- The words of a call: what they ask for.
 use Rattle.std.specs.Prelude.{ℕ, Bool, false, ◌==◌, ◌&&◌, List, [], ◌∷◌, Option, Some, None, if◌then◌else◌, option_map, codes, bytes_eq}
+use Rattle.pass_calls.specs.declared.print.PassName.{PassName}
+use Rattle.pass_calls.specs.declared.print.PassName.TheVariants as pass
 use Rattle.msc_cli.specs.declared.request.Command.{Command}
-use Rattle.msc_cli.specs.declared.request.Command.TheVariants.{Build, Run, Exec, Migrate, Assemble, Print}
+use Rattle.msc_cli.specs.declared.request.Command.TheVariants.{Build, Run, Vm, Exec, Migrate, Assemble, Print}
 
 -- the command of a word
 abbrev pub command_at : List ℕ → Option Command
 command_at word =
     if bytes_eq word (codes "build") then Some Build
     else if bytes_eq word (codes "run") then Some Run
+    else if bytes_eq word (codes "vm") then Some Vm
     else if bytes_eq word (codes "exec") then Some Exec
     else if bytes_eq word (codes "migrate") then Some Migrate
     else if bytes_eq word (codes "assemble") then Some Assemble
     else None
 
+-- the pass of a word
+abbrev pub pass_at : List ℕ → Option PassName
+pass_at word =
+    if bytes_eq word (codes "tree") then Some pass.Tree
+    else if bytes_eq word (codes "vm") then Some pass.Vm
+    else if bytes_eq word (codes "graph") then Some pass.Graph
+    else None
+
 -- the command of a word with an option and its value
 abbrev pub command_with : List ℕ → List ℕ → List ℕ → Option Command
-command_with word option pass =
-    if bytes_eq word (codes "print") && (bytes_eq option (codes "--pass") && bytes_eq pass (codes "tree"))
-    then Some Print else None
+command_with word option value =
+    if bytes_eq word (codes "print") && bytes_eq option (codes "--pass") then option_map Print (pass_at value)
+    else None
 
 -- the word begins with `-`
 abbrev pub is_option : List ℕ → Bool

@@ -6,9 +6,9 @@ use Rattle.alpha_isa.specs.ImageFormat.{IsImage}
 use Rattle.alpha_run.specs.declared.ending.Ending.{Ending}
 use Rattle.alpha_run.specs.declared.ending.Ending.TheVariants as ending
 use Rattle.alpha_run.specs.Run.{Traffic, MachineBehaves}
-use Rattle.msc_cli.specs.declared.outcome.Outcome.{Outcome}
-use Rattle.msc_cli.specs.declared.outcome.Outcome.TheVariants.{Ran, Trapped, Stuck, Budget, InputFault, WriteFault, BadImage, NoMemory}
-use Rattle.msc_cli.specs.FromFile.{Does}
+use Rattle.call_outcomes.specs.declared.outcome.Outcome.{Outcome}
+use Rattle.call_outcomes.specs.declared.outcome.Outcome.TheVariants.{Ran, Trapped, Stuck, Budget, InputFault, WriteFault, BadImage, NoMemory}
+use Rattle.call_outcomes.specs.FromFile.{Does}
 use Rattle.alpha_image.specs.ImageFault.{image_fault}
 use Rattle.msc_cli.specs.BuildImage.{RefusesText, Compiles}
 use Rattle.msc_cli.specs.Limits.{default_stack, default_budget}

@@ -1,3 +1,3 @@
 pub mod AnswersScan
-pub mod FileFront
+pub mod ImageLimit
 pub mod Causes

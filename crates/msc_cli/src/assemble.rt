@@ -2,20 +2,20 @@
 
 ghost use Rattle.std.specs.Prelude.{◌≡◌, ◌≢◌, ◌↔◌, ◌≤◌, ◌<◌, length, IfSome, IfErr, IfOk, Some, IsTrue, option_map};
 ghost use Rattle.bk_io.specs.Shelf.{is_due, after_call};
-ghost use Rattle.msc_cli.specs.FromFile.{IsCause, text_of};
+ghost use Rattle.call_outcomes.specs.FromFile.{IsCause, text_of};
 ghost use Rattle.msc_cli.specs.Limits.{most_assembly, assembly_limit};
 ghost use Rattle.msc_cli.specs.model.Causes as spec;
 ghost use Rattle.msc_cli.specs.AssembleText.{IsAssembled, RefusesAssembly, Assembles};
-ghost use Rattle.msc_cli.specs.Output.{file_faults_after, output_faults_after};
+ghost use Rattle.call_outcomes.specs.Output.{file_faults_after, output_faults_after};
 
 use crate::build::write_image;
-use crate::from_file::read_file;
-use crate::outcome::{Outcome, Which};
 use alpha_asm::assemble::{AsmFault, assemble as image_of};
 use alpha_isa::image::Image;
 use alpha_text::fault::TextFault;
 use alpha_text::read::read_asm;
 use bk_io::outside::{Files, Sink};
+use call_outcomes::files::read_file;
+use call_outcomes::outcome::{Outcome, Which};
 use std::alloc::Global;
 
 /// How many bytes of an assembly text are read: one more than it may have.

@@ -1,16 +1,17 @@
 //! The command `build`: a C file in, the bytes of its image out.
 
-ghost use Rattle.std.specs.Prelude.{◌≡◌, ◌≢◌, ◌↔◌, ◌⊎◌, IfSome, IsTrue, option_map};
+ghost use Rattle.std.specs.Prelude.{◌≡◌, ◌≢◌, ◌↔◌, IfSome, IsTrue, option_map};
 ghost use Rattle.bk_io.specs.Shelf.{is_due, after_call};
-ghost use Rattle.msc_cli.specs.FromFile.{text_of};
-ghost use Rattle.msc_cli.specs.BuildImage.{Builds, WritesImage, PutsBytes};
-ghost use Rattle.msc_cli.specs.Output.{file_faults_after, output_faults_after};
+ghost use Rattle.call_outcomes.specs.FromFile.{text_of};
+ghost use Rattle.msc_cli.specs.BuildImage.{Builds, WritesImage};
+ghost use Rattle.call_outcomes.specs.Output.{file_faults_after, output_faults_after};
 
 use crate::from_file::compile_file;
-use crate::outcome::Outcome;
 use alpha_image::image_bytes;
 use alpha_isa::image::Image;
 use bk_io::outside::{Files, Sink};
+use call_outcomes::outcome::Outcome;
+use call_outcomes::output::write_bytes;
 use std::alloc::Global;
 
 /// Compiles a C file and writes the bytes of its image.
@@ -38,17 +39,5 @@ pub(crate) fn write_image<O: Sink>(alloc: Global, image: &Image, out: &mut O) ->
     match image_bytes(alloc, image) {
         Ok(bytes) => write_bytes(out, bytes.as_slice(), Outcome::Built),
         Err(error) => Outcome::from(error),
-    }
-}
-
-/// Writes bytes. The outcome is this one, if they were written.
-pub(crate) fn write_bytes<O: Sink>(out: &mut O, bytes: &[u8], done: Outcome) -> Outcome
-    ensures answer { PutsBytes done bytes.now result (O.taken out.old) (O.taken out.new) }
-    ensures count { done ≢ Outcome.WriteFault → O.faults out.new ≡ output_faults_after result (O.faults out.old) }
-    ensures either { done ≢ Outcome.WriteFault → (result ≡ done) ⊎ (result ≡ Outcome.WriteFault) }
-{
-    match out.put_slice(bytes) {
-        Ok(()) => done,
-        Err(_) => Outcome::WriteFault,
     }
 }

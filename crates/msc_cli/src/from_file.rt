@@ -1,21 +1,21 @@
-//! What the commands share: a file is read, and an image is made of what it holds.
+//! What commands share: an image is made of what a file holds.
 
 ghost use Rattle.std.specs.Prelude.{◌≡◌, ◌↔◌, IfOk, IfErr, IfSome, IsErrOf, IsTrue, option_map};
-ghost use Rattle.bk_io.specs.Shelf.{is_due, file_of, after_call};
+ghost use Rattle.bk_io.specs.Shelf.{is_due, after_call};
 ghost use Rattle.msc_cli.specs.model.Causes as spec;
-ghost use Rattle.msc_cli.specs.model.FileFront.{IsFront};
 ghost use Rattle.msc_cli.specs.ReadSmall.{HasCause};
-ghost use Rattle.msc_cli.specs.FromFile.{text_of, IsCause};
+ghost use Rattle.call_outcomes.specs.FromFile.{text_of, IsCause};
 ghost use Rattle.msc_cli.specs.BuildImage.{IsCompiled, IsRefused, RefusesText, Compiles};
 ghost use Rattle.msc_cli.specs.RunImage.{RefusesBytes, Holds};
-ghost use Rattle.msc_cli.specs.model.Causes.{file_faults_unless};
+ghost use Rattle.call_outcomes.specs.Output.{file_faults_unless};
 
-use crate::outcome::{Outcome, SourceFault};
 use crate::read_small::{ReadFault, read_small};
 use crate::small_image::small_image;
 use alpha_image::{ImageFault, read_image};
 use alpha_isa::image::Image;
-use bk_io::outside::{FileFault, Files};
+use bk_io::outside::Files;
+use call_outcomes::files::read_file;
+use call_outcomes::outcome::{Outcome, SourceFault};
 use std::alloc::Global;
 
 /// How many bytes of a C file of the small form are read: one more than it may have.
@@ -23,16 +23,6 @@ const SMALL_LIMIT: u64 = 4_097;
 
 /// How many bytes of an image are read: one more than the longest image has.
 const IMAGE_LIMIT: u64 = 1_140_850_713;
-
-/// The outcome where a file is not read.
-fn outcome_of_file_fault(fault: FileFault) -> Outcome
-    ensures { result ≡ spec.outcome_of_file_fault fault }
-{
-    match fault {
-        FileFault::Failed => Outcome::FileFault,
-        FileFault::NoMemory => Outcome::NoMemory,
-    }
-}
 
 /// The outcome where a text is not compiled.
 fn outcome_of_read_fault(fault: ReadFault) -> Outcome
@@ -51,29 +41,6 @@ fn outcome_of_image_fault(fault: ImageFault) -> Outcome
     match fault {
         ImageFault::BadImage { at } => Outcome::BadImage { at },
         ImageFault::NoMemory => Outcome::NoMemory,
-    }
-}
-
-/// Reads at most `limit` bytes of a file.
-#[tactic(auto, using(crate::proofs::Compile::file_cause))]
-pub(crate) fn read_file<F: Files>(
-    alloc: Global,
-    files: &mut F,
-    name: &str,
-    limit: u64,
-) -> Result<Vec<u8>, Outcome>
-    ensures text { IfOk result
-        (λ text. IfSome (F.told files.old) (λ shelf. IsFront limit (file_of shelf name.now) text.items)) }
-    ensures cause { IfErr result (IsCause (λ _. ⊥)) }
-    ensures due { IfSome (F.told files.old)
-        (λ shelf. IsErrOf result Outcome.FileFault ↔ IsTrue (is_due shelf name.now)) }
-    ensures told { F.told files.new ≡ option_map after_call (F.told files.old) }
-    ensures count { F.faults files.new ≡ file_faults_unless result (F.faults files.old) }
-{
-    let mut text = Vec::new(alloc);
-    match files.read(name, &mut text, limit) {
-        Ok(_) => Ok(text),
-        Err(fault) => Err(outcome_of_file_fault(fault)),
     }
 }
 

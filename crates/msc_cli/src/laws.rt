@@ -1,8 +1,7 @@
-//! Laws of runs and of trees.
+//! Laws of runs and of images.
 
 ghost use Rattle.std.specs.Prelude.{◌≡◌, ◌≢◌, ◌⊎◌, ◌≤◌, List, length, ℕ, Option, Some};
 ghost use Rattle.bk_io.specs.Outside.{taken_with};
-ghost use Rattle.c_tree.specs.declared.declarations.TranslationUnit.{TranslationUnit};
 ghost use Rattle.alpha_isa.specs.Program.{Program};
 ghost use Rattle.alpha_run.specs.Run.{Traffic};
 ghost use Rattle.alpha_isa.specs.ImageFormat.{IsImage};
@@ -12,10 +11,9 @@ ghost use Rattle.alpha_items.specs.Assembly.{Assembly, IsWhole};
 ghost use Rattle.alpha_text.specs.Texts.{Texts, HasText};
 ghost use Rattle.msc_cli.specs.Limits.{most_assembly};
 ghost use Rattle.msc_cli.specs.AssembleText.{Assembles};
-ghost use Rattle.msc_cli.specs.PrintTree.{Spells, SpellsNone};
-ghost use Rattle.msc_cli.specs.declared.outcome.Outcome.{Outcome as Answer};
+ghost use Rattle.call_outcomes.specs.declared.outcome.Outcome.{Outcome as Answer};
 ghost use Rattle.msc_cli.specs.BuildImage.{IsCompiled, DoesAlike};
-ghost use Rattle.msc_cli.specs.declared.outcome.Outcome.TheVariants.{Built, FileFault, WriteFault, NoMemory};
+ghost use Rattle.call_outcomes.specs.declared.outcome.Outcome.TheVariants.{Built, FileFault, WriteFault, NoMemory};
 ghost use Rattle.c_mean.specs.Small.{SmallUnit, IsSmall, status_of};
 ghost use Rattle.alpha_run.specs.declared.ending.Ending.TheVariants.{Done};
 
@@ -47,10 +45,4 @@ pub fn an_assembly_is_assembled()
         length text ≤ most_assembly → IsWhole a → HasText a → Texts text a → Assembles (Some text) answer old new →
         answer ≢ FileFault → answer ≢ WriteFault →
         (answer ≡ Built) ⊎ (answer ≡ NoMemory) }
-{}
-
-/// A text that spells a tree is refused by `print` for no cause.
-pub fn a_tree_is_not_refused()
-    ensures { (text : List ℕ) (tree : TranslationUnit) (answer : Answer) → Spells text tree → SpellsNone text answer →
-        ⊥ }
 {}

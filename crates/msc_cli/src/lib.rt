@@ -1,4 +1,4 @@
-//! The top call of the compiler: its words, its outcomes, and what each command writes.
+//! The top call of the compiler: its words, and what each command writes.
 #![tactic(auto)]
 
 pub mod assemble;
@@ -8,11 +8,10 @@ mod expression;
 mod from_file;
 pub mod laws;
 pub mod migrate;
-pub mod outcome;
-pub mod output;
-pub mod print;
 pub mod read_small;
 pub mod request;
 pub mod run;
 pub mod small_image;
 pub mod top;
+
+pub use call_outcomes::outcome;

@@ -2,15 +2,15 @@
 
 ghost use Rattle.std.specs.Prelude.{◌≡◌, ◌≢◌, ◌↔◌, IfSome, IsTrue, option_map};
 ghost use Rattle.bk_io.specs.Shelf.{is_due, after_call};
-ghost use Rattle.msc_cli.specs.FromFile.{text_of};
+ghost use Rattle.call_outcomes.specs.FromFile.{text_of};
 ghost use Rattle.msc_cli.specs.MigrateImage.{Migrates, WritesMigrated};
-ghost use Rattle.msc_cli.specs.Output.{file_faults_after, output_faults_after};
+ghost use Rattle.call_outcomes.specs.Output.{file_faults_after, output_faults_after};
 
 use crate::build::write_image;
 use crate::from_file::image_in_file;
-use crate::outcome::Outcome;
 use alpha_isa::image::Image;
 use bk_io::outside::{Files, Sink};
+use call_outcomes::outcome::Outcome;
 use std::alloc::Global;
 
 /// Reads an image of either version and writes it in version 2, with the zeros at the end of its data

@@ -2,16 +2,16 @@
 
 ghost use Rattle.std.specs.Prelude.{◌≡◌, ◌≢◌, ◌↔◌, IfSome, IsTrue, option_map};
 ghost use Rattle.bk_io.specs.Shelf.{is_due, after_call};
-ghost use Rattle.msc_cli.specs.FromFile.{text_of};
+ghost use Rattle.call_outcomes.specs.FromFile.{text_of};
 ghost use Rattle.msc_cli.specs.RunImage.{outcome_of_ending, RunsImage, Runs, Executes};
-ghost use Rattle.msc_cli.specs.Output.{file_faults_after, input_faults_after, output_faults_after};
+ghost use Rattle.call_outcomes.specs.Output.{file_faults_after, input_faults_after, output_faults_after};
 
 use crate::from_file::{compile_file, image_in_file};
-use crate::outcome::Outcome;
 use alpha_isa::image::Image;
 use alpha_run::ending::Ending;
 use alpha_run::machine::Machine;
 use bk_io::outside::{Files, Sink, Source};
+use call_outcomes::outcome::Outcome;
 use std::alloc::Global;
 
 /// The size of a run's stack, in bytes.

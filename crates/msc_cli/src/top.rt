@@ -1,24 +1,25 @@
 //! The top call.
 
 ghost use Rattle.std.specs.Prelude.{◌≡◌, ◌↔◌, None, map, string_bytes};
-ghost use Rattle.msc_cli.specs.Outcome.{line_of};
-ghost use Rattle.msc_cli.specs.Output.{TookUnlessFault, file_faults_after, input_faults_after, output_faults_after};
+ghost use Rattle.call_outcomes.specs.Outcome.{line_of};
+ghost use Rattle.call_outcomes.specs.Output.{TookUnlessFault, file_faults_after, input_faults_after, output_faults_after};
 ghost use Rattle.msc_cli.specs.Request.{request_of};
 ghost use Rattle.msc_cli.specs.Call.{AnswersCall, FailsWhereDue, told_after};
 
 use crate::assemble::assemble;
 use crate::build::build;
 use crate::migrate::migrate;
-use crate::outcome::{Outcome, put_line};
-use crate::print::print;
 use crate::request::{Command, read_words};
 use crate::run::{exec, run};
 use bk_io::outside::{Files, Sink, Source};
+use call_outcomes::outcome::{Outcome, put_line};
+use pass_calls::print::print;
+use pass_calls::vm::vm;
 use std::alloc::Global;
 
-/// Does what the words ask for, `build FILE`, `run FILE`, `exec FILE`, `migrate FILE`, `assemble FILE` or
-/// `print FILE --pass tree`, and writes the outcome's line to `err`. `words[0]` is the program's name. The
-/// file that is named is read once, and no other. A failed write to `err` changes no outcome.
+/// Does what the words ask for, `build FILE`, `run FILE`, `vm FILE`, `exec FILE`, `migrate FILE`, `assemble FILE` or
+/// `print FILE --pass PASS` with the pass `tree`, `vm` or `graph`, and writes the outcome's line to `err`. `words[0]` is
+/// the program's name. The file that is named is read once, and no other. A failed write to `err` changes no outcome.
 pub fn msc_main<F: Files, I: Source, O: Sink, E: Sink>(
     alloc: Global,
     words: &[String],
@@ -75,9 +76,10 @@ fn perform<F: Files, I: Source, O: Sink>(
     match request.command {
         Command::Build => build(alloc, request.file, files, out),
         Command::Run => run(alloc, request.file, files, input, out),
+        Command::Vm => vm(alloc, request.file, files, input, out),
         Command::Exec => exec(alloc, request.file, files, input, out),
         Command::Migrate => migrate(alloc, request.file, files, out),
         Command::Assemble => assemble(alloc, request.file, files, out),
-        Command::Print => print(alloc, request.file, files, out),
+        Command::Print(pass) => print(alloc, pass, request.file, files, out),
     }
 }

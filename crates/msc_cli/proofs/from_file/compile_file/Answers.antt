@@ -1,5 +1,5 @@
 use Rattle.std.proofs.Common.{Err, subst, sym, ap}
-use Rattle.msc_cli.specs.FromFile.{IsCause, text_of}
+use Rattle.call_outcomes.specs.FromFile.{IsCause, text_of}
 use Rattle.msc_cli.specs.BuildImage.{IsCompiled, IsRefused, RefusesText}
 use Rattle.msc_cli.proofs.Compile.{compiled_told, text_cause}
 use Rattle.msc_cli.proofs.from_file.compile_file.Goals as goal

@@ -1,7 +1,7 @@
 use Rattle.std.proofs.Common.{subst, sym}
 use Rattle.alpha_isa.specs.ImageFormat.{IsImage}
 use Rattle.alpha_image.specs.ReadImage.{IsFault}
-use Rattle.msc_cli.specs.FromFile.{IsCause, text_of}
+use Rattle.call_outcomes.specs.FromFile.{IsCause, text_of}
 use Rattle.msc_cli.specs.RunImage.{RefusesBytes}
 use Rattle.msc_cli.proofs.ImageFronts.{image_told, bytes_cause}
 use Rattle.msc_cli.proofs.from_file.image_in_file.Goals as goal

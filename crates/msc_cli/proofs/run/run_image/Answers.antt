@@ -1,6 +1,6 @@
 use Rattle.std.proofs.Common.{inr, sym, ap, ◌∙◌}
 use Rattle.msc_cli.specs.Limits.{default_stack}
-use Rattle.msc_cli.specs.Output.{input_faults_after, output_faults_after}
+use Rattle.call_outcomes.specs.Output.{input_faults_after, output_faults_after}
 use Rattle.msc_cli.proofs.RunImages.{no_file, input_count, output_count}
 use Rattle.msc_cli.proofs.run.run_image.Goals as goal
 

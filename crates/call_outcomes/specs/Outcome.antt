@@ -1,0 +1,98 @@
+-- The line that is written for an outcome, and the status of the process.
+use Rattle.std.specs.Prelude.{ℕ, List, [], ◌∷◌, ◌++◌, Option, Some, None, codes, decimal}
+use Rattle.c_type_faults.specs.declared.faults.Kind.{Kind}
+use Rattle.c_type_faults.specs.declared.faults.Kind.TheVariants as k
+use Rattle.call_outcomes.specs.declared.outcome.Outcome.{Outcome}
+use Rattle.call_outcomes.specs.declared.outcome.Outcome.TheVariants.{Built, Printed, Ran, Trapped, Stuck, Budget, Usage, FileFault, InputFault, WriteFault, Refused, Limit, BadImage, BadAsm, NoMemory}
+use Rattle.call_outcomes.specs.declared.outcome.SourceFault.TheVariants.{Form, Lex, Syntax, Typing}
+use Rattle.call_outcomes.specs.declared.outcome.Which.TheVariants.{Text, Nesting, Weight, Data, Code}
+
+-- the name of a kind of typing fault
+abbrev pub kind_name : Kind → List ℕ
+kind_name k.MissingMain = codes "MissingMain"
+kind_name k.UnknownName = codes "UnknownName"
+kind_name k.Redeclared = codes "Redeclared"
+kind_name k.NotDefined = codes "NotDefined"
+kind_name k.BadType = codes "BadType"
+kind_name k.NotConstant = codes "NotConstant"
+kind_name k.BadOperand = codes "BadOperand"
+kind_name k.NotAssignable = codes "NotAssignable"
+kind_name k.BadConversion = codes "BadConversion"
+kind_name k.NotFunction = codes "NotFunction"
+kind_name k.BadCall = codes "BadCall"
+kind_name k.NoMember = codes "NoMember"
+kind_name k.BadLabel = codes "BadLabel"
+kind_name k.BadJump = codes "BadJump"
+kind_name k.BadReturn = codes "BadReturn"
+kind_name k.BadLiteral = codes "BadLiteral"
+kind_name k.BadInit = codes "BadInit"
+
+-- what is said of a typing fault, before its place
+abbrev pub typing_words : Kind → List ℕ
+typing_words kind = codes "msc: " ++ kind_name kind ++ codes " at "
+
+-- the whole line with its line feed, none where nothing is to be said, or what stands before a number
+abbrev pub words_of : Outcome → List ℕ
+words_of Built = []
+words_of Printed = []
+words_of (Ran status) = []
+words_of Usage = codes "msc: usage\n"
+words_of (Refused Form) = codes "msc: form\n"
+words_of (Refused (Lex at)) = codes "msc: lex at "
+words_of (Refused (Syntax at)) = codes "msc: syntax at "
+words_of (Refused (Typing at kind)) = typing_words kind
+words_of FileFault = codes "msc: file\n"
+words_of (Limit Text counted) = codes "msc: limit text "
+words_of (Limit Nesting counted) = codes "msc: limit nesting "
+words_of (Limit Weight counted) = codes "msc: limit weight "
+words_of (Limit Data counted) = codes "msc: limit data "
+words_of (Limit Code counted) = codes "msc: limit code "
+words_of NoMemory = codes "msc: memory\n"
+words_of WriteFault = codes "msc: write\n"
+words_of InputFault = codes "msc: input\n"
+words_of (Budget steps) = codes "msc: budget "
+words_of (BadImage at) = codes "msc: image at "
+words_of (BadAsm line) = codes "msc: assembly line "
+words_of (Trapped code) = codes "msc: trap "
+words_of (Stuck pc) = codes "msc: stuck at "
+
+-- the number at the end of the line
+abbrev pub number_of : Outcome → Option ℕ
+number_of (Budget steps) = Some steps
+number_of (BadImage at) = Some at
+number_of (BadAsm line) = Some line
+number_of (Limit which counted) = Some counted
+number_of (Refused (Lex at)) = Some at
+number_of (Refused (Syntax at)) = Some at
+number_of (Refused (Typing at kind)) = Some at
+number_of (Trapped code) = Some code
+number_of (Stuck pc) = Some pc
+number_of _ = None
+
+abbrev pub line_with : List ℕ → ℕ → List ℕ
+line_with words n = words ++ (decimal n ++ 10 ∷ [])
+
+abbrev pub with_number : List ℕ → Option ℕ → List ℕ
+with_number words None = words
+with_number words (Some n) = line_with words n
+
+-- the bytes of the line
+abbrev pub line_of : Outcome → List ℕ
+line_of outcome = with_number (words_of outcome) (number_of outcome)
+
+abbrev pub status_of : Outcome → ℕ
+status_of Built = 0
+status_of Printed = 0
+status_of (Ran status) = status
+status_of Usage = 64
+status_of (Refused fault) = 65
+status_of FileFault = 66
+status_of (Limit which counted) = 69
+status_of NoMemory = 71
+status_of WriteFault = 73
+status_of InputFault = 74
+status_of (Budget steps) = 75
+status_of (BadImage at) = 76
+status_of (BadAsm line) = 77
+status_of (Trapped code) = 134
+status_of (Stuck pc) = 139

@@ -1,9 +1,0 @@
-use Rattle.std.proofs.Common.{◌++◌}
-use Rattle.msc_cli.proofs.Fronts.{first_fails, then_second}
-use Rattle.msc_cli.proofs.output.put_three.Goals as goal
-
-pub returns-in-Err-clause-taken : goal.returns-in-Err-clause-taken
-returns-in-Err-clause-taken g c = first_fails c.args.first.now (c.args.second.now ++ c.args.third.now) _ _ c.in-Err.ensures.taken
-
-pub returns-in-Ok-clause-taken : goal.returns-in-Ok-clause-taken
-returns-in-Ok-clause-taken g c = then_second _ c.args.first.now (c.args.second.now ++ c.args.third.now) _ _ _ c.in-Ok.ensures.taken c.put_both.ensures.taken
