@@ -11,10 +11,11 @@ pub enum Kind {
     Outcomes,
     Programs,
     Calls,
+    Vm,
 }
 
 /// The kinds in the order in which they are checked.
-pub const KINDS: [Kind; 3] = [Kind::Outcomes, Kind::Programs, Kind::Calls];
+pub const KINDS: [Kind; 4] = [Kind::Outcomes, Kind::Programs, Kind::Calls, Kind::Vm];
 
 impl Table for Kind {
     fn file(&self) -> &'static str {
@@ -22,6 +23,7 @@ impl Table for Kind {
             Kind::Outcomes => "outcomes.rows",
             Kind::Programs => "programs.rows",
             Kind::Calls => "calls.rows",
+            Kind::Vm => "vm.rows",
         }
     }
 
@@ -29,7 +31,7 @@ impl Table for Kind {
         match self {
             Kind::Outcomes => outcomes::answer(alloc, given),
             Kind::Programs => calls::run(alloc, given),
-            Kind::Calls => calls::answer(alloc, given),
+            Kind::Calls | Kind::Vm => calls::answer(alloc, given),
         }
     }
 }

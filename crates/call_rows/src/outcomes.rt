@@ -3,6 +3,7 @@
 use crate::calls::push_part;
 use anyhow::{Result, bail};
 use bk_io::memory::MemSink;
+use c_type_faults::Kind;
 use msc_cli::outcome::{Outcome, SourceFault, Which, exit_code, put_line};
 use row_sheets::number::number;
 use std::alloc::Global;
@@ -18,11 +19,36 @@ fn refusal(name: &str, at: &str) -> Result<SourceFault> {
     })
 }
 
+/// The kind of typing fault with this name.
+fn kind(name: &str) -> Result<Kind> {
+    Ok(match name {
+        "MissingMain" => Kind::MissingMain,
+        "UnknownName" => Kind::UnknownName,
+        "Redeclared" => Kind::Redeclared,
+        "NotDefined" => Kind::NotDefined,
+        "BadType" => Kind::BadType,
+        "NotConstant" => Kind::NotConstant,
+        "BadOperand" => Kind::BadOperand,
+        "NotAssignable" => Kind::NotAssignable,
+        "BadConversion" => Kind::BadConversion,
+        "NotFunction" => Kind::NotFunction,
+        "BadCall" => Kind::BadCall,
+        "NoMember" => Kind::NoMember,
+        "BadLabel" => Kind::BadLabel,
+        "BadJump" => Kind::BadJump,
+        "BadReturn" => Kind::BadReturn,
+        "BadLiteral" => Kind::BadLiteral,
+        "BadInit" => Kind::BadInit,
+        _ => bail!("no kind: {name:?}"),
+    })
+}
+
 /// The limit with this name.
 fn limit(name: &str) -> Result<Which> {
     Ok(match name {
         "Text" => Which::Text,
         "Nesting" => Which::Nesting,
+        "Weight" => Which::Weight,
         "Data" => Which::Data,
         "Code" => Which::Code,
         _ => bail!("no limit: {name:?}"),
@@ -63,6 +89,13 @@ fn outcome(words: &[&str]) -> Result<Outcome> {
         [name] => plain_outcome(name),
         ["Refused", name] => Ok(Outcome::Refused(refusal(name, "0")?)),
         ["Refused", name, at] => Ok(Outcome::Refused(refusal(name, at)?)),
+        ["Refused", "Typing", at, name] => {
+            let at = u32::try_from(number(at)?)?;
+            Ok(Outcome::Refused(SourceFault::Typing {
+                at,
+                kind: kind(name)?,
+            }))
+        }
         ["Limit", name, n] => Ok(Outcome::Limit {
             which: limit(name)?,
             counted: number(n)?,
