@@ -24,6 +24,7 @@ use Rattle.call_outcomes.specs.declared.outcome.Outcome.{Outcome}
 use Rattle.call_outcomes.specs.declared.outcome.Outcome.TheVariants.{Refused, Limit}
 use Rattle.call_outcomes.specs.declared.outcome.SourceFault.TheVariants.{Lex, Syntax, Typing}
 use Rattle.call_outcomes.specs.declared.outcome.Which.TheVariants.{Text, Nesting, Weight, Data}
+use Rattle.pass_calls.specs.Limits.{most_weight, most_data}
 use Rattle.pass_calls.specs.Units.{IsUnitOf, HasTypingFault, HasNoUnit}
 use Rattle.pass_calls.specs.Programs.{IsProgramOf}
 use Rattle.pass_calls.specs.Laws.{IsSameFunction, AreSameFunctions, IsSameProgram}
@@ -47,19 +48,22 @@ well_typed text unit at k is fault =
     let trees : is.tree ≡ fault.tree = same_tree text unit fault.tree is fault.spells.1 in
     no_first fault.tree (record { at = at; kind = k }) (subst (λ t. head (faults_of t) ≡ None) trees is.typed.0) fault.first
 
+pub unit_not_refused : (text : List ℕ) (unit : TypedUnit) (answer : Outcome) → IsUnitOf text unit → unit_weight unit ≤ most_weight → data_size unit ≤ most_data → HasNoUnit text answer → ⊥
+unit_not_refused text unit (Refused (Typing at k)) is light small n = well_typed text unit at k is n
+unit_not_refused text unit (Limit Weight counted) is light small n =
+    let same : n.unit ≡ unit = one_unit text n.unit unit n.is_unit is in
+    omega (arith, ap unit_weight same, n.heavy, light)
+unit_not_refused text unit (Limit Data counted) is light small n =
+    let same : n.unit ≡ unit = one_unit text n.unit unit n.is_unit is in
+    omega (arith, ap data_size same, n.large, small)
+unit_not_refused text unit (Limit Text counted) is light small n = not_refused text is.tree (Limit Text counted) is.spells n
+unit_not_refused text unit (Limit Nesting counted) is light small n = not_refused text is.tree (Limit Nesting counted) is.spells n
+unit_not_refused text unit (Refused (Lex at)) is light small n = not_refused text is.tree (Refused (Lex at)) is.spells n
+unit_not_refused text unit (Refused (Syntax at)) is light small n = not_refused text is.tree (Refused (Syntax at)) is.spells n
+unit_not_refused text unit _ is light small n = n
+
 pub program_not_refused : (text : List ℕ) (program : VmProgram) (answer : Outcome) → IsProgramOf text program → HasNoUnit text answer → ⊥
-program_not_refused text program (Refused (Typing at k)) p n = well_typed text p.unit at k p.is_unit n
-program_not_refused text program (Limit Weight counted) p n =
-    let same : n.unit ≡ p.unit = one_unit text n.unit p.unit n.is_unit p.is_unit in
-    omega (arith, ap unit_weight same, n.heavy, p.light)
-program_not_refused text program (Limit Data counted) p n =
-    let same : n.unit ≡ p.unit = one_unit text n.unit p.unit n.is_unit p.is_unit in
-    omega (arith, ap data_size same, n.large, p.small)
-program_not_refused text program (Limit Text counted) p n = not_refused text p.is_unit.tree (Limit Text counted) p.is_unit.spells n
-program_not_refused text program (Limit Nesting counted) p n = not_refused text p.is_unit.tree (Limit Nesting counted) p.is_unit.spells n
-program_not_refused text program (Refused (Lex at)) p n = not_refused text p.is_unit.tree (Refused (Lex at)) p.is_unit.spells n
-program_not_refused text program (Refused (Syntax at)) p n = not_refused text p.is_unit.tree (Refused (Syntax at)) p.is_unit.spells n
-program_not_refused text program _ p n = n
+program_not_refused text program answer p n = unit_not_refused text p.unit answer p.is_unit p.light p.small n
 
 -- one function has one code
 one_code : (ds : List StructDef) (f : TypedFn) (g h : VmFunction) → IsLowered ds f g → IsLowered ds f h → IsSameFunction g h
