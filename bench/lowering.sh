@@ -21,7 +21,9 @@ measure() {
     python3 - "$work/text.c" "$3" "$work/$4" <<'PY'
 import sys
 text = open(sys.argv[1]).read().rstrip("\n")
-open(sys.argv[3], "w").write(text.replace("\\", "\\\\") + sys.argv[2].encode().decode("unicode_escape"))
+if sys.argv[3].endswith("measures.rows"):
+    text = text.replace("\\", "\\\\")
+open(sys.argv[3], "w").write(text + sys.argv[2].encode().decode("unicode_escape"))
 PY
     /usr/bin/time -f "$1: %e s, %M KiB" -o "$work/took" "$top/crates/$2/out/$2" "$work/$4" > "$work/out" 2>&1 || true
     tail -n 1 "$work/took"

@@ -9,7 +9,7 @@ without faults for the typing: `unit` (the ordinary functions and a main), `name
 `objects` (100,000 objects of file scope, each used), `scopes` (100,000 blocks with a local each), `members` (a struct of
 100,000 members, each used), `items` (an initialiser of a million items) and `cases` (a switch of 100,000 labels). Units
 within the limit of the weight for the lowering: `long` (4 MiB of ordinary C, most of it comments), `one` (one function
-with most of the weight that there may be), `labels` (a switch of 20,000 labels), `deep` (expressions in 240 brackets) and
+with most of the weight that there may be), `labels` (a switch of 20,000 labels), `deep` (expressions in 126 brackets, as deep as there may be) and
 `locals` (60,000 locals).
 """
 import itertools
@@ -82,9 +82,9 @@ def members():
 
 def long():
     draw = draws()
-    comment = "/* " + "a line of words that says what the next function does, and why " * 40 + "*/\n"
-    parts = (comment + function(number, draw) for number in range(900))
-    return '# 1 "made.c"\n', parts, "int main(void) { return f0(1, 2, 3); }\n"
+    comment = "/* " + "a line of words that says what the next function does, and why " * 72 + "*/\n"
+    parts = (comment + function(number, draw) for number in range(750))
+    return "", parts, "int main(void) { return f0(1, 2, 3); }\n"
 
 
 KINDS = {
@@ -109,7 +109,7 @@ KINDS = {
     ),
     "deep": lambda: (
         "int main(void) { int a; a = 1;",
-        itertools.repeat("a=" + "(1+" * 240 + "a" + ")" * 240 + ";", 80),
+        itertools.repeat("a=" + "(1+" * 126 + "a" + ")" * 126 + ";", 160),
         "return a; }\n",
     ),
     "locals": lambda: ("int main(void) {", ("int a%d;" % local for local in range(60000)), "return 0; }\n"),
