@@ -1,0 +1,7 @@
+mod Plain
+mod Widths
+mod Selected
+mod Forms
+mod Kept
+mod Tested
+mod Passed

@@ -1,0 +1,108 @@
+-- The widest call of lists of instructions, and what is within it.
+use Rattle.std.proofs.Common.{◌≡◌, ℕ, ◌+◌, ◌≤◌, List, [], ◌∷◌, ◌++◌, true, refl, arith}
+use Rattle.std.specs.Prelude.{All, max}
+use Rattle.std.proofs.lemmas.Bool.{false≢true, and_parts, lt-ltb, ltb-true}
+use Rattle.std.proofs.lemmas.List.Elements.{All-nil, All-cons}
+use Rattle.suifvm_ir.specs.Functions.{AllInsns}
+use Rattle.temp_ir.specs.declared.insn.TempInsn.{TempInsn}
+use Rattle.temp_ir.specs.declared.insn.TempInsn.TheVariants as i
+use Rattle.alloc_model.specs.Effect.{width_of, widest_in, widest_call}
+use Rattle.temp_walk_laws.specs.SameRuns.{IsWithin}
+use Rattle.selected_widths.specs.Widths.{IsWithinBlock, AreWithinBlocks, BlocksAreWithinFunctions}
+use Rattle.selected_widths.proofs.Plain.{is_plain, are_plain}
+use Rattle.selected_widths.proofs.Forms.{all_first, all_rest}
+
+pub widest_append : (xs ys : List TempInsn) → widest_in (xs ++ ys) ≡ max (widest_in xs) (widest_in ys)
+widest_append [] ys = omega arith
+widest_append (z ∷ xs) ys = omega (arith, widest_append xs ys)
+
+-- ---- plain instructions
+
+plain_width : (z : TempInsn) → is_plain z ≡ true → width_of z ≡ 0
+plain_width (i.WriteArgument number source) e = refl
+plain_width (i.Call function arguments) e = absurd (false≢true e)
+plain_width (i.ReadArgument destination number) e = refl
+plain_width (i.Address op d base plus) e = refl
+plain_width (i.ObjectAddress d place plus) e = refl
+plain_width (i.Load op d p plus) e = refl
+plain_width (i.Store op a p plus) e = refl
+plain_width (i.Operate op d a b) e = refl
+plain_width (i.Extend op d a) e = refl
+plain_width (i.ToFixed register a) e = refl
+plain_width (i.FromFixed d register) e = refl
+plain_width (i.SetFixed register number) e = refl
+plain_width (i.Branch op a block) e = refl
+plain_width (i.Jump block) e = refl
+plain_width (i.Divide routine) e = refl
+plain_width (i.Serve service) e = refl
+plain_width (i.Return with_value) e = refl
+plain_width i.Mark e = refl
+
+plain_within : (w : ℕ) (z : TempInsn) → is_plain z ≡ true → IsWithin w z
+plain_within w (i.WriteArgument number source) e = absurd (false≢true e)
+plain_within w (i.Call function arguments) e = tt
+plain_within w (i.ReadArgument destination number) e = tt
+plain_within w (i.Address op d base plus) e = tt
+plain_within w (i.ObjectAddress d place plus) e = tt
+plain_within w (i.Load op d p plus) e = tt
+plain_within w (i.Store op a p plus) e = tt
+plain_within w (i.Operate op d a b) e = tt
+plain_within w (i.Extend op d a) e = tt
+plain_within w (i.ToFixed register a) e = tt
+plain_within w (i.FromFixed d register) e = tt
+plain_within w (i.SetFixed register number) e = tt
+plain_within w (i.Branch op a block) e = tt
+plain_within w (i.Jump block) e = tt
+plain_within w (i.Divide routine) e = tt
+plain_within w (i.Serve service) e = tt
+plain_within w (i.Return with_value) e = tt
+plain_within w i.Mark e = tt
+
+pub plains_width : (xs : List TempInsn) → are_plain xs ≡ true → widest_in xs ≡ 0
+plains_width [] e = refl
+plains_width (z ∷ xs) e =
+    let p = and_parts (is_plain z) (are_plain xs) e in
+    omega (arith, plain_width z p.0, plains_width xs p.1)
+
+pub plains_within : (w : ℕ) (xs : List TempInsn) → are_plain xs ≡ true → All (IsWithin w) xs
+plains_within w [] e = All-nil (IsWithin w)
+plains_within w (z ∷ xs) e =
+    let p = and_parts (is_plain z) (are_plain xs) e in
+    All-cons (IsWithin w) z xs (plain_within w z p.0) (plains_within w xs p.1)
+
+-- ---- within a wider call
+
+wider : (w v : ℕ) (z : TempInsn) → w ≤ v → IsWithin w z → IsWithin v z
+wider w v (i.WriteArgument number source) le h = lt-ltb (number + 6) v (omega (arith, le, ltb-true (number + 6) w h))
+wider w v (i.Call function arguments) le h = tt
+wider w v (i.ReadArgument destination number) le h = tt
+wider w v (i.Address op d base plus) le h = tt
+wider w v (i.ObjectAddress d place plus) le h = tt
+wider w v (i.Load op d p plus) le h = tt
+wider w v (i.Store op a p plus) le h = tt
+wider w v (i.Operate op d a b) le h = tt
+wider w v (i.Extend op d a) le h = tt
+wider w v (i.ToFixed register a) le h = tt
+wider w v (i.FromFixed d register) le h = tt
+wider w v (i.SetFixed register number) le h = tt
+wider w v (i.Branch op a block) le h = tt
+wider w v (i.Jump block) le h = tt
+wider w v (i.Divide routine) le h = tt
+wider w v (i.Serve service) le h = tt
+wider w v (i.Return with_value) le h = tt
+wider w v i.Mark le h = tt
+
+widers : (w v : ℕ) (xs : List TempInsn) → w ≤ v → All (IsWithin w) xs → All (IsWithin v) xs
+widers w v [] le h = All-nil (IsWithin v)
+widers w v (z ∷ xs) le h =
+    All-cons (IsWithin v) z xs (wider w v z le (all_first (IsWithin w) z xs h)) (widers w v xs le (all_rest (IsWithin w) z xs h))
+
+blocks_within : (v : ℕ) (blocks : List (List TempInsn)) → widest_call blocks ≤ v → AreWithinBlocks blocks → AllInsns (IsWithin v) blocks
+blocks_within v [] le h = All-nil (All (IsWithin v))
+blocks_within v (block ∷ blocks) le h =
+    All-cons (All (IsWithin v)) block blocks
+    (widers (widest_in block) v block (omega (arith, le)) (all_first IsWithinBlock block blocks h))
+    (blocks_within v blocks (omega (arith, le)) (all_rest IsWithinBlock block blocks h))
+
+pub functions_within : BlocksAreWithinFunctions
+functions_within blocks h = blocks_within (widest_call blocks) blocks (omega arith) h
