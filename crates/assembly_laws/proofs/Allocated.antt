@@ -10,7 +10,7 @@ use Rattle.alloc_model.specs.Faithful.{Faithful}
 use Rattle.flat_frames.specs.Shapes.{frame_size}
 use Rattle.function_shapes.specs.Shapes.{shape_of}
 use Rattle.frame_bounds.proofs.Rooms.{is_few}
-use Rattle.program_images.specs.Programs.{plans_of}
+use Rattle.program_assembly.specs.Programs.{plans_of}
 use Rattle.program_assembly.specs.Layouts.{FitsProgram}
 use Rattle.assembly_laws.specs.Laws.{ProgramsAreAllocated}
 use Rattle.assembly_laws.proofs.Placed.{planned}

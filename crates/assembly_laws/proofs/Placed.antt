@@ -21,7 +21,7 @@ use Rattle.frame_emitter.specs.Settings.{near_plan, setting_of, place_in}
 use Rattle.frame_bounds.specs.Near.{IsNear}
 use Rattle.frame_bounds.proofs.Near.{plan_same}
 use Rattle.frame_bounds.proofs.Fronts.{function_front}
-use Rattle.program_images.specs.Programs.{HasItemsOf, plans_of, start_items}
+use Rattle.program_assembly.specs.Programs.{HasItemsOf, plans_of, start_items}
 use Rattle.program_assembly.specs.Assemblies.{final_items, main_of, gathered}
 use Rattle.program_assembly.specs.Layouts.{first_label, label_count, FunctionIsLaidOut, FollowFrom}
 use Rattle.assembly_laws.specs.Laws.{no_plan, setting_at, placing_of, AssembliesHavePrograms}

@@ -25,7 +25,7 @@ use Rattle.instruction_items.specs.Items.{ItemSetting}
 use Rattle.frame_bounds.specs.Near.{IsNear}
 use Rattle.frame_emitter.specs.Settings.{setting_of}
 use Rattle.frame_ranges.specs.Ranges.{IsSmall}
-use Rattle.program_images.specs.Programs.{Placing, HasItemsOf, IsAllocated, plans_of, start_items}
+use Rattle.program_assembly.specs.Programs.{Placing, HasItemsOf, IsAllocated, plans_of, start_items}
 use Rattle.program_assembly.specs.Assemblies.{final_items, gathered, main_of}
 use Rattle.program_assembly.specs.Layouts.{first_label, label_count, FitsProgram, FunctionsAreLaidOut}
 

@@ -1,7 +1,7 @@
 mod Bare
-mod Splits
-mod Removals
+pub mod Splits
+pub mod Removals
 mod Forms
-mod Settled
-mod Names
-mod Marks
+pub mod Settled
+pub mod Names
+pub mod Marks

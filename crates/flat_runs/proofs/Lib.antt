@@ -2,3 +2,4 @@ pub mod Machines
 pub mod Turns
 pub mod Forward
 pub mod Only
+pub use Rattle.flat_steps.proofs.Lists

@@ -42,9 +42,9 @@ use Rattle.call_entries.specs.Entering.{extents_from}
 use Rattle.call_entries.proofs.Begins.{get-behind, sizes-are, extent-of, size-of, before-whole}
 use Rattle.function_items.specs.Items.{block_items, blocks_items, exit_items}
 use Rattle.edge_steps.proofs.Edges.{label-passed}
-use Rattle.flat_steps.specs.Builds.{Build, FunctionIsBuilt, IsBuilt}
-use Rattle.flat_steps.specs.Matching.{items_from, FitsStack}
-use Rattle.flat_steps.proofs.Lists.{drop-some, stands-at, get-map}
+use Rattle.flat_runs.specs.Builds.{Build, FunctionIsBuilt, IsBuilt}
+use Rattle.flat_runs.specs.Matching.{items_from, FitsStack}
+use Rattle.flat_runs.proofs.Lists.{drop-some, stands-at, get-map}
 use Rattle.flat_runs.specs.Runs.{ComesTo}
 use Rattle.flat_globals.specs.Globals.{extents_of, owner_of}
 use Rattle.flat_globals.proofs.Lists.{append-size, replicate-size}

@@ -14,8 +14,8 @@ use Rattle.alloc_model.specs.Temporaries.{start_world}
 use Rattle.alloc_model.specs.Places.{Places, placed_code}
 use Rattle.flat_memory.specs.Bytes.{AreBytes}
 use Rattle.instruction_items.specs.Items.{function_label}
-use Rattle.flat_steps.specs.Builds.{Build, IsBuilt}
-use Rattle.flat_steps.specs.Matching.{FitsStack}
+use Rattle.flat_runs.specs.Builds.{Build, IsBuilt}
+use Rattle.flat_runs.specs.Matching.{FitsStack}
 use Rattle.flat_runs.specs.Runs.{ComesTo}
 use Rattle.flat_globals.specs.Globals.{AreLaidOut, DataIs, extents_of}
 

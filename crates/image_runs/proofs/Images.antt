@@ -18,12 +18,12 @@ use Rattle.alloc_model.specs.Temporaries.{start_world, main_of, TempsEnd}
 use Rattle.alloc_model.specs.Places.{Places, Plan, plan_of, placed_code, placed_run, PlacesEnd}
 use Rattle.alloc_model.specs.Laws.{AllFaithful, AllocationKeeps}
 use Rattle.flat_memory.specs.Bytes.{AreBytes}
-use Rattle.flat_steps.specs.Builds.{Build}
-use Rattle.flat_steps.specs.Matching.{FitsStack}
-use Rattle.flat_runs.specs.Runs.{run_of, ComesTo, RunIsDone, longest_of, turns_for, BelongsTo}
-use Rattle.flat_runs.proofs.Machines.{rest-of, over-behind, front-of}
-use Rattle.flat_runs.proofs.Forward.{runs_are_done}
-use Rattle.flat_runs.proofs.Only.{only_these_end}
+use Rattle.flat_starts.specs.Builds.{Build}
+use Rattle.flat_starts.specs.Matching.{FitsStack}
+use Rattle.flat_starts.specs.Runs.{run_of, ComesTo, RunIsDone, longest_of, turns_for, BelongsTo}
+use Rattle.flat_starts.proofs.Machines.{rest-of, over-behind, front-of}
+use Rattle.flat_starts.proofs.Forward.{runs_are_done}
+use Rattle.flat_starts.proofs.Only.{only_these_end}
 use Rattle.flat_starts.specs.Starts.{first_config}
 use Rattle.flat_starts.proofs.Starts.{starts_are_matched}
 use Rattle.image_runs.specs.Images.{IsImageOf, HasBehaviour, AgreesWith, ImageDoes}

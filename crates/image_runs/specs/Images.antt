@@ -10,8 +10,8 @@ use Rattle.alloc_model.specs.declared.allocation.Allocation.{Allocation}
 use Rattle.alloc_model.specs.Temporaries.{code_of, main_of, TempsEnd}
 use Rattle.alloc_model.specs.Places.{plan_of, functions_of}
 use Rattle.flat_memory.specs.Bytes.{AreBytes}
-use Rattle.flat_steps.specs.Builds.{Build, IsBuilt}
-use Rattle.flat_runs.specs.Runs.{turns_for}
+use Rattle.flat_starts.specs.Builds.{Build, IsBuilt}
+use Rattle.flat_starts.specs.Runs.{turns_for}
 use Rattle.flat_starts.specs.Starts.{IsBegun}
 
 -- a program was built in an image, by these allocations, for a stack of a size

@@ -33,7 +33,7 @@ use Rattle.division_calls.specs.Divisions.{RoutinesStand}
 use Rattle.function_items.specs.Items.{top_transfers, end_transfers, insns_items, blocks_items, exit_items}
 use Rattle.function_items.specs.Laws.{FunctionStands}
 use Rattle.function_items.proofs.Standing.{functions_stand}
-use Rattle.flat_steps.specs.Builds.{Build, any_call, EdgesLead, FunctionIsBuilt}
+use Rattle.image_runs.specs.Builds.{Build, any_call, EdgesLead, FunctionIsBuilt}
 use Rattle.edge_leads.specs.Leads.{AreBlocks, BranchesGoApart}
 use Rattle.edge_leads.proofs.Apart.{split_branches_go_apart}
 use Rattle.edge_leads.proofs.Leads.{edges_lead}

@@ -27,7 +27,7 @@ use Rattle.instruction_items.specs.Items.{ItemSetting, function_label}
 use Rattle.call_exits.specs.Leaving.{ending_items}
 use Rattle.function_items.specs.Items.{function_items}
 use Rattle.function_shapes.specs.Shapes.{shape_of}
-use Rattle.flat_runs.specs.Runs.{turns_for}
+use Rattle.image_runs.specs.Runs.{turns_for}
 use Rattle.global_data.specs.GlobalBytes.{global_bytes, global_fixes}
 use Rattle.image_runs.specs.Images.{HasBehaviour, AgreesWith}
 

@@ -1,1 +1,2 @@
 pub mod Same
+pub use Rattle.program_images.specs.Programs

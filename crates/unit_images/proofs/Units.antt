@@ -9,12 +9,12 @@ use Rattle.mem_model.specs.Ending.{Ending, Done, Trap, Undefined, More, EndsAs, 
 use Rattle.machine_model.specs.Laws.{IsPrefix}
 use Rattle.flat_memory.specs.Bytes.{AreBytes}
 use Rattle.selection_laws.specs.Laws as selection
-use Rattle.program_images.specs.Programs.{ProgramsBehave, plans_of}
+use Rattle.same_runs.specs.Programs.{ProgramsBehave, plans_of}
 use Rattle.same_runs.specs.Same.{IsSame, RunsAreSame}
 use Rattle.c_typed_tree.specs.declared.units.TypedUnit.{TypedUnit}
 use Rattle.c_typed_tree.specs.Lawful.{IsTypedUnit}
 use Rattle.c_semantics.specs.Behaves.{run}
-use Rattle.lowering_unit_theorem.specs.Laws.{IsDefined}
+use Rattle.lowering_theorem.specs.UnitLaws.{IsDefined}
 use Rattle.lowering_theorem.specs.Laws.{VmRunsTo, ProgramsKeepMeaning}
 use Rattle.unit_images.specs.Laws.{IsMadeOf, IsGood, UnitsAreSame}
 

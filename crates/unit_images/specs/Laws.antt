@@ -11,12 +11,12 @@ use Rattle.temp_ir.specs.declared.program.TempProgram.{TempProgram}
 use Rattle.alloc_model.specs.declared.allocation.Allocation.{Allocation}
 use Rattle.flat_memory.specs.Bytes.{AreBytes}
 use Rattle.selection_laws.specs.Laws.{SelectionKeeps}
-use Rattle.program_images.specs.Programs.{IsAllocated, HasItemsOf, Placing, plans_of}
+use Rattle.same_runs.specs.Programs.{IsAllocated, HasItemsOf, Placing, plans_of}
 use Rattle.same_runs.specs.Same.{IsSame}
 use Rattle.c_typed_tree.specs.declared.units.TypedUnit.{TypedUnit}
 use Rattle.c_typed_tree.specs.Lawful.{IsTypedUnit}
 use Rattle.c_semantics.specs.Behaves.{run}
-use Rattle.lowering_unit_theorem.specs.Laws.{IsDefined}
+use Rattle.lowering_theorem.specs.UnitLaws.{IsDefined}
 use Rattle.lowering_theorem.specs.Laws.{IsCodeOf}
 
 -- what stands between a unit and an image: its program over virtual registers, the one over temporaries that does as

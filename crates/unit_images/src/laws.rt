@@ -7,5 +7,5 @@ ghost use Rattle.unit_images.specs.Laws.{UnitsAreSame};
 pub fn units_are_same()
     ensures { UnitsAreSame }
 {
-    program_images::laws::programs_behave();
+    same_runs::programs::laws::programs_behave();
 }
