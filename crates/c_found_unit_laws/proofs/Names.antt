@@ -9,7 +9,7 @@ use Rattle.c_typed_tree.specs.Typing.{Context}
 use Rattle.c_judgement_laws.specs.Covers.{IsLawfulContext}
 use Rattle.c_judgements.specs.Types.{State}
 use Rattle.c_expressions.specs.Expressions.{judge, derive}
-use Rattle.c_expression_laws.proofs.Expressions.{judge_walks, derive_walks}
+use Rattle.c_statement_laws.proofs.Expressions.{judge_walks, derive_walks}
 use Rattle.c_statements.specs.declared.functions.FunctionType.{FunctionType}
 use Rattle.c_statements.specs.Functions.{function}
 use Rattle.c_statement_laws.proofs.Functions.{function_leaves}

@@ -6,3 +6,4 @@ pub mod Labels
 pub mod Forms
 pub mod Statements
 pub mod Functions
+pub use Rattle.c_expression_laws.proofs.Expressions

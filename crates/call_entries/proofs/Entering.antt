@@ -35,7 +35,7 @@ use Rattle.frame_transfers.specs.Laws.{Call, FitsTheStack, StandsFor}
 use Rattle.call_parts.specs.Items.{entry_part}
 use Rattle.call_parts.specs.Laws.{IsFrameAt, EntryDone}
 use Rattle.call_parts.proofs.Entries.{entries_are_done}
-use Rattle.instruction_items.specs.Laws.{usable, IsHeldArgument, ArgumentIs, HasOuter}
+use Rattle.call_stacks.specs.InstructionItemsLaws.{usable, IsHeldArgument, ArgumentIs, HasOuter}
 use Rattle.call_stacks.specs.Stacks.{Waiting, view_above, WaitsAt, Start, CallersAre, StackIs, KeepsCallers}
 use Rattle.call_stacks.proofs.Stays.{frame-stays, argument-stays, saved-stays, callers_stay}
 use Rattle.call_entries.specs.Entering.{passed, entry_places, extents_from, called_sp, called_owner, called, waits, HasRoom, EntryIs}

@@ -19,7 +19,7 @@ use Rattle.flat_memory.specs.Relation.{Extents, Owners}
 use Rattle.flat_frames.specs.Shapes.{FrameShape, objects_at, frame_size, owner_at}
 use Rattle.frame_transfers.specs.Laws.{Call, FitsTheStack, StandsFor}
 use Rattle.call_parts.specs.Items.{entry_part}
-use Rattle.instruction_items.specs.Laws.{usable, HasOuter}
+use Rattle.call_stacks.specs.InstructionItemsLaws.{usable, HasOuter}
 use Rattle.call_stacks.specs.Stacks.{Waiting, Start, StackIs}
 
 -- what a call hands over, and what the called function holds at its start

@@ -1,1 +1,2 @@
 pub mod Entering
+pub use Rattle.call_stacks.specs.Stacks

@@ -30,8 +30,8 @@ use Rattle.call_entries.proofs.Entering.{calls_are_entered}
 use Rattle.call_exits.specs.Leaving.{returned, caller_of, resumed, ending_items, ExitIs}
 use Rattle.call_exits.proofs.Leaving.{calls_are_left}
 use Rattle.call_exits.proofs.Ending.{runs_are_ended}
-use Rattle.placed_steps.specs.Points.{AllMayTransfer, PointIsLeft}
-use Rattle.placed_steps.proofs.Points.{can-transfer-all}
+use Rattle.edge_steps.specs.Points.{AllMayTransfer, PointIsLeft}
+use Rattle.edge_steps.proofs.Points.{can-transfer-all}
 use Rattle.edge_steps.proofs.Edges.{edges_are_done, label-passed}
 use Rattle.function_items.specs.Items.{top_transfers, block_items, blocks_items, exit_items}
 use Rattle.function_items.specs.Laws.{FunctionStands}

@@ -19,7 +19,7 @@ use Rattle.instruction_items.specs.Laws.{usable, HasOuter, IsOver}
 use Rattle.call_stacks.specs.Stacks.{Waiting, Start, StackIs}
 use Rattle.call_entries.specs.Entering.{entry_places, called, HasRoom, EntryIs}
 use Rattle.call_exits.specs.Leaving.{caller_of, resumed, ending_items, ExitIs}
-use Rattle.placed_steps.specs.Points.{AllMayTransfer}
+use Rattle.edge_steps.specs.Points.{AllMayTransfer}
 use Rattle.function_items.specs.Items.{top_transfers, insns_items, end_transfers, blocks_items, exit_items}
 use Rattle.function_items.specs.Laws.{FunctionStands}
 

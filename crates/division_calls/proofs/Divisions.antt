@@ -42,9 +42,9 @@ use Rattle.flat_operations.specs.Contents.{ContentIs}
 use Rattle.flat_frames.specs.Frames.{FrameIs, is_written}
 use Rattle.frame_accesses.proofs.Runs.{stands, bytes-same, reached-same}
 use Rattle.frame_transfers.specs.Laws.{Call, FitsTheStack, StandsFor}
-use Rattle.instruction_items.specs.Items.{ItemSetting}
-use Rattle.instruction_items.specs.Laws.{usable, HasOuter, ComesToItems, ActIsDone, store_behind}
-use Rattle.instruction_items.proofs.Runs.{usable-low}
+use Rattle.call_stacks.specs.Items.{ItemSetting}
+use Rattle.call_stacks.specs.InstructionItemsLaws.{usable, HasOuter, ComesToItems, ActIsDone, store_behind}
+use Rattle.call_stacks.proofs.Runs.{usable-low}
 use Rattle.call_stacks.specs.Stacks.{KeepsCallers}
 use Rattle.call_stacks.proofs.Stays.{frame-stays}
 use Rattle.machine_bounds.specs.Bounds.{IsBounded}

@@ -18,8 +18,8 @@ use Rattle.alloc_model.specs.Places.{Places, Reg}
 use Rattle.flat_memory.specs.Relation.{Nobody}
 use Rattle.flat_memory.specs.Machine.{is_reached}
 use Rattle.frame_transfers.specs.Laws.{Call, FitsTheStack, StandsFor}
-use Rattle.instruction_items.specs.Items.{ItemSetting}
-use Rattle.instruction_items.specs.Laws.{usable, HasOuter, ActIsDone, store_behind}
+use Rattle.call_stacks.specs.Items.{ItemSetting}
+use Rattle.call_stacks.specs.InstructionItemsLaws.{usable, HasOuter, ActIsDone, store_behind}
 
 -- the routines stand in the text, and their labels at their entries
 pub record RoutinesStand (p : Program) (there : Labels) : Type 0 where

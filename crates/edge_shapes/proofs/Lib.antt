@@ -1,3 +1,5 @@
 pub mod Holding
 pub mod Fits
 pub mod Tops
+pub use Rattle.function_shapes.proofs.Fits as FunctionShapesFits
+pub use Rattle.function_shapes.proofs.Points

@@ -1,1 +1,4 @@
 pub mod Edges
+pub use Rattle.function_shapes.specs.Shapes
+pub use Rattle.function_shapes.specs.Divisions
+pub use Rattle.function_shapes.specs.Points

@@ -1,1 +1,2 @@
 pub mod Edges
+pub use Rattle.placed_steps.proofs.Points

@@ -3,3 +3,4 @@ pub mod Turns
 pub mod Forward
 pub mod Only
 pub use Rattle.flat_steps.proofs.Lists
+pub use Rattle.flat_steps.proofs.Edges

@@ -41,7 +41,7 @@ use Rattle.call_stacks.specs.Stacks.{StackIs}
 use Rattle.call_entries.specs.Entering.{extents_from}
 use Rattle.call_entries.proofs.Begins.{get-behind, sizes-are, extent-of, size-of, before-whole}
 use Rattle.function_items.specs.Items.{block_items, blocks_items, exit_items}
-use Rattle.edge_steps.proofs.Edges.{label-passed}
+use Rattle.flat_runs.proofs.Edges.{label-passed}
 use Rattle.flat_runs.specs.Builds.{Build, FunctionIsBuilt, IsBuilt}
 use Rattle.flat_runs.specs.Matching.{items_from, FitsStack}
 use Rattle.flat_runs.proofs.Lists.{drop-some, stands-at, get-map}

@@ -18,14 +18,14 @@ use Rattle.frame_transfers.specs.Laws.{StandsFor}
 use Rattle.instruction_items.specs.Items.{ItemSetting}
 use Rattle.instruction_items.specs.Laws.{usable, HasOuter, store_behind}
 use Rattle.instruction_items.proofs.Runs.{no-registers}
-use Rattle.call_stacks.specs.Stacks.{Waiting, StackIs}
-use Rattle.call_entries.specs.Entering.{extents_from, called_sp, called, waits, HasRoom, EntryIs}
-use Rattle.call_exits.specs.Leaving.{caller_of, resumed, ExitIs}
+use Rattle.call_steps.specs.Stacks.{Waiting, StackIs}
+use Rattle.stack_rooms.specs.Entering.{extents_from, called_sp, called, waits, HasRoom, EntryIs}
+use Rattle.call_steps.specs.Leaving.{caller_of, resumed, ExitIs}
 use Rattle.stack_rooms.specs.Rooms.{frames_size}
 use Rattle.stack_rooms.proofs.Rooms.{frames_fill_stack, room_is_there}
 use Rattle.call_steps.proofs.Calls.{calls_are_done, returns_are_done, last_returns_are_done}
-use Rattle.function_shapes.specs.Shapes.{shape_of}
-use Rattle.function_shapes.proofs.Fits.{plans_fit}
+use Rattle.edge_shapes.specs.Shapes.{shape_of}
+use Rattle.edge_shapes.proofs.FunctionShapesFits.{plans_fit}
 use Rattle.flat_steps.specs.Builds.{Build, IsBuilt}
 use Rattle.flat_steps.specs.Matching.{items_from, WaitsFor, AreWaiting, rooms_of, Matches, FitsStack, StepIsDone}
 use Rattle.flat_steps.proofs.Lists.{get-below, stands-at, get-map, insn-is, width-fits}

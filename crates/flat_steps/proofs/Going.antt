@@ -21,7 +21,7 @@ use Rattle.frame_transfers.specs.Laws.{StandsFor, CanTransferAll}
 use Rattle.instruction_items.specs.Items.{ItemSetting, insn_items}
 use Rattle.instruction_items.specs.Laws.{usable}
 use Rattle.instruction_items.proofs.Runs.{no-registers}
-use Rattle.edge_steps.proofs.Edges.{edges_are_done, ends_are_done, jumps_are_done_here}
+use Rattle.call_steps.proofs.Edges.{edges_are_done, ends_are_done, jumps_are_done_here}
 use Rattle.function_items.specs.Items.{top_transfers, end_transfers, insns_items, block_items, blocks_items, exit_items}
 use Rattle.edge_shapes.proofs.Fits.{targets_fit, ends_fit}
 use Rattle.edge_shapes.proofs.Tops.{tops_fit}

@@ -7,3 +7,5 @@ pub mod Local
 pub mod Going
 pub mod Calling
 pub mod Steps
+pub use Rattle.call_steps.proofs.Edges
+pub use Rattle.edge_shapes.proofs.Tops

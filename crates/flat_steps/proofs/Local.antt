@@ -10,8 +10,8 @@ use Rattle.temp_ir.specs.Insns.{targets_of}
 use Rattle.alloc_model.specs.Contents.{Content}
 use Rattle.alloc_model.specs.Effect.{widest_call}
 use Rattle.alloc_model.specs.Places.{Places, edge_transfers, edge_in, transfers_at, registers_at, do_all, placed_site, placed_code}
-use Rattle.placed_steps.specs.Points.{is_local, PointIsLeft, PointIsDone}
-use Rattle.placed_steps.proofs.Points.{points_are_done}
+use Rattle.edge_shapes.specs.Points.{is_local, PointIsLeft, PointIsDone}
+use Rattle.edge_shapes.proofs.Points.{points_are_done}
 use Rattle.stack_rooms.proofs.Rooms.{scratch_is_there}
 use Rattle.function_items.specs.Items.{top_transfers, jump_transfers}
 use Rattle.flat_steps.specs.Builds.{Build, IsBuilt}

@@ -14,12 +14,12 @@ use Rattle.frame_transfers.specs.Items.{items_of_transfers}
 use Rattle.frame_transfers.specs.Laws.{StandsFor, CanTransferAll}
 use Rattle.instruction_items.specs.Items.{insn_items}
 use Rattle.instruction_items.specs.Laws.{usable, IsStated, HasOuter}
-use Rattle.call_stacks.specs.Stacks.{StackIs}
-use Rattle.placed_steps.specs.Points.{AllMayTransfer, PointIsLeft}
-use Rattle.edge_steps.proofs.Edges.{edges_are_done}
+use Rattle.call_steps.specs.Stacks.{StackIs}
+use Rattle.edge_shapes.specs.Points.{AllMayTransfer, PointIsLeft}
+use Rattle.call_steps.proofs.Edges.{edges_are_done}
 use Rattle.function_items.specs.Items.{top_transfers, jump_transfers, end_transfers, point_items, insns_items, block_items, blocks_items, exit_items}
-use Rattle.function_shapes.specs.Shapes.{PlanFits}
-use Rattle.function_shapes.proofs.Fits.{plans_fit}
+use Rattle.edge_shapes.specs.Shapes.{PlanFits}
+use Rattle.edge_shapes.proofs.FunctionShapesFits.{plans_fit}
 use Rattle.edge_shapes.proofs.Tops.{tops_fit}
 use Rattle.flat_steps.specs.Builds.{Build, FunctionIsBuilt, IsBuilt}
 use Rattle.flat_steps.specs.Matching.{items_from, Matches, IsFollowed}

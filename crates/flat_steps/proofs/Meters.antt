@@ -12,9 +12,9 @@ use Rattle.temp_ir.specs.declared.insn.TempInsn.{TempInsn}
 use Rattle.alloc_model.specs.Contents.{Content}
 use Rattle.alloc_model.specs.Places.{Places, Plan, placed_code}
 use Rattle.flat_frames.specs.Shapes.{FrameShape, frame_size}
-use Rattle.call_stacks.specs.Stacks.{Waiting}
+use Rattle.call_steps.specs.Stacks.{Waiting}
 use Rattle.stack_rooms.specs.Rooms.{rooms_size}
-use Rattle.function_shapes.specs.Shapes.{shape_of}
+use Rattle.edge_shapes.specs.Shapes.{shape_of}
 use Rattle.flat_steps.specs.Builds.{Build, IsBuilt}
 use Rattle.flat_steps.specs.Matching.{IsIn, AreWaiting, rooms_of, FitsStack, step_of, Matches}
 

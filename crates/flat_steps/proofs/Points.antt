@@ -14,7 +14,7 @@ use Rattle.alloc_model.specs.Contents.{Content, Plain, Bundle, word, ContentAnsw
 use Rattle.alloc_model.specs.Effect.{widest_call, content_at, left_of, right_of, operand_of, behind, fails, writes, changes, branches, is_number, service_number, end_act, put_act, trap_act, serve_act, argument_answer, division_answer, does}
 use Rattle.alloc_model.specs.Temporaries.{is_left_at, site_or_next, site_in}
 use Rattle.alloc_model.specs.Places.{Plan, linear_number, transfers_at, registers_at, placed_site, placed_site_in, placed_code}
-use Rattle.placed_steps.specs.Points.{is_local}
+use Rattle.edge_shapes.specs.Points.{is_local}
 use Rattle.flat_steps.specs.Builds.{Build}
 use Rattle.flat_steps.specs.Matching.{IsIn, place_in, place_of}
 

@@ -19,12 +19,12 @@ use Rattle.flat_frames.specs.Shapes.{frame_size}
 use Rattle.frame_transfers.specs.Laws.{Call}
 use Rattle.instruction_items.specs.Items.{ItemSetting}
 use Rattle.instruction_items.specs.Laws.{IsThere}
-use Rattle.call_stacks.specs.Stacks.{Start}
-use Rattle.call_exits.specs.Leaving.{ending_items}
-use Rattle.division_calls.specs.Divisions.{RoutinesStand}
+use Rattle.call_steps.specs.Stacks.{Start}
+use Rattle.call_steps.specs.Leaving.{ending_items}
+use Rattle.edge_shapes.specs.Divisions.{RoutinesStand}
 use Rattle.function_items.specs.Items.{top_transfers, end_transfers}
 use Rattle.function_items.specs.Laws.{FunctionStands}
-use Rattle.function_shapes.specs.Shapes.{shape_of}
+use Rattle.edge_shapes.specs.Shapes.{shape_of}
 
 -- ---- edges
 

@@ -1,7 +1,7 @@
 -- What the layout of a function says of its items.
 use Rattle.alloc_model.specs.Places.{Plan, plan_of}
 use Rattle.flat_frames.specs.Shapes.{FrameShape}
-use Rattle.instruction_items.specs.Items.{ItemSetting}
+use Rattle.function_items.specs.InstructionItems.{ItemSetting}
 use Rattle.function_shapes.specs.Shapes.{shape_of}
 use Rattle.frame_emitter.specs.declared.layout.FrameLayout.{FrameLayout}
 use Rattle.frame_emitter.specs.Settings.{with_blocks, setting_of}

@@ -7,7 +7,7 @@ use Rattle.temp_ir.specs.declared.insn.TempInsn.{TempInsn}
 use Rattle.temp_ir.specs.declared.insn.TempInsn.TheVariants as i
 use Rattle.alloc_model.specs.Places.{Plan}
 use Rattle.flat_frames.specs.Shapes.{object_at}
-use Rattle.instruction_items.specs.Items.{ItemSetting, function_label}
+use Rattle.function_items.specs.InstructionItems.{ItemSetting, function_label}
 use Rattle.function_shapes.specs.Shapes.{shape_of}
 
 -- ---- argument places

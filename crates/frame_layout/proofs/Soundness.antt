@@ -25,7 +25,7 @@ use Rattle.alloc_model.specs.Faithful.{given_registers, IsGiven, IsGivenOrScratc
 use Rattle.flat_frames.specs.Shapes.{frame_size, object_at, objects_size}
 use Rattle.flat_frames.proofs.Shapes.{pieces_of}
 use Rattle.instruction_items.specs.Items.{ItemSetting}
-use Rattle.function_shapes.specs.Shapes.{shape_of}
+use Rattle.frame_emitter.specs.Shapes.{shape_of}
 use Rattle.frame_emitter.specs.declared.layout.FrameLayout.{FrameLayout}
 use Rattle.frame_emitter.specs.Settings.{place_in, near_insn, near_blocks, with_blocks, setting_of, IsFit}
 use Rattle.frame_emitter.specs.Layouts.{setting_in}

@@ -5,7 +5,7 @@ ghost use Rattle.std.specs.List.{list_any};
 ghost use Rattle.temp_ir.specs.Fixed.{has_number};
 ghost use Rattle.alloc_model.specs.Faithful.{named_registers};
 ghost use Rattle.alloc_model.specs.Places.{plan_of};
-ghost use Rattle.function_shapes.specs.Shapes.{names_in, is_named};
+ghost use Rattle.frame_emitter.specs.Shapes.{names_in, is_named};
 
 use alloc_model::allocation::{Allocation, EdgeCode, Transfer};
 use c_tree::Seq;

@@ -5,7 +5,7 @@ ghost use Rattle.data_object.specs.Layout.{place_after};
 ghost use Rattle.alloc_model.specs.Effect.{width_of, widest_in, widest_call};
 ghost use Rattle.alloc_model.specs.Places.{plan_of};
 ghost use Rattle.flat_frames.specs.Shapes.{bytes_before, objects_size};
-ghost use Rattle.function_shapes.specs.Shapes.{is_named};
+ghost use Rattle.frame_emitter.specs.Shapes.{is_named};
 
 use crate::names::is_named;
 use alloc_model::allocation::Allocation;

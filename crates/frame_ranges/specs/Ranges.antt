@@ -17,7 +17,7 @@ use Rattle.instruction_items.specs.Items.{ItemSetting}
 use Rattle.instruction_items.specs.Laws.{IsSmallOperand}
 use Rattle.function_items.specs.Items.{function_items}
 use Rattle.function_shapes.specs.Shapes.{shape_of}
-use Rattle.frame_emitter.specs.Settings.{most_arguments, near_blocks, near_plan, setting_of}
+use Rattle.frame_layout.specs.Settings.{most_arguments, near_blocks, near_plan, setting_of}
 use Rattle.frame_layout.specs.Names.{NamesObjects}
 
 -- the numbers of an instruction fit, beside data of so many bytes

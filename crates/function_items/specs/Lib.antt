@@ -1,2 +1,3 @@
 pub mod Items
 pub mod Laws
+pub use Rattle.instruction_items.specs.Items as InstructionItems

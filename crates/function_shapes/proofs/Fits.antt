@@ -10,7 +10,7 @@ use Rattle.alloc_model.specs.declared.allocation.Transfer.TheVariants.{Store, Lo
 use Rattle.alloc_model.specs.Places.{Plan, linear_number, transfers_at, registers_at}
 use Rattle.alloc_model.specs.Faithful.{given_registers, IsGiven, named_registers, IsTransfer, HasLists}
 use Rattle.flat_frames.specs.Shapes.{FrameShape}
-use Rattle.instruction_items.specs.Laws.{usable, MayHold, AllMayHold}
+use Rattle.placed_steps.specs.Laws.{usable, MayHold, AllMayHold}
 use Rattle.placed_steps.specs.Points.{MayTransfer, AllMayTransfer}
 use Rattle.function_shapes.specs.Shapes.{names_in, shape_of, PlanFits}
 

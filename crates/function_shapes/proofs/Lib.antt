@@ -1,1 +1,2 @@
 pub mod Fits
+pub use Rattle.placed_steps.proofs.Points

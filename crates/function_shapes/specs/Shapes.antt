@@ -9,7 +9,7 @@ use Rattle.alloc_model.specs.Effect.{widest_call}
 use Rattle.alloc_model.specs.Places.{Plan, transfers_at, registers_at}
 use Rattle.alloc_model.specs.Faithful.{named_registers, HasLists}
 use Rattle.flat_frames.specs.Shapes.{FrameShape}
-use Rattle.instruction_items.specs.Laws.{IsStated}
+use Rattle.placed_steps.specs.Laws.{IsStated}
 use Rattle.placed_steps.specs.Points.{AllMayTransfer}
 
 -- transfers, or an allocation, name a register

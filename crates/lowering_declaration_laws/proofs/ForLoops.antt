@@ -27,7 +27,7 @@ use Rattle.lowering_expression_laws.proofs.Forms.{bound}
 use Rattle.lowering_statement_laws.specs.Parts.{IsApart, Onward, StmtMeets}
 use Rattle.lowering_statement_laws.proofs.Apart.{inner_least}
 use Rattle.lowering_statement_laws.proofs.Statements.{onward_on}
-use Rattle.lowering_loop_laws.specs.Laws.{LevelMeanings, at_level, AreLevels}
+use Rattle.lowering_for_laws.specs.LoweringLoopLaws.{LevelMeanings, at_level, AreLevels}
 use Rattle.lowering_for_laws.specs.Laws.{StepMeets, ConditionMeets}
 use Rattle.lowering_for_laws.proofs.ForLoops.{enters}
 use Rattle.lowering_declaration_laws.specs.Laws.{MayDeclareAll, AllMeet, DeclaringForLoopsMeet}

@@ -16,7 +16,7 @@ use Rattle.lowering_expression_laws.specs.Parts.{Setting, ExprMeets}
 use Rattle.lowering_expression_laws.specs.Laws.{IsScalarType}
 use Rattle.lowering_access_laws.specs.Laws.{IsWholeStruct}
 use Rattle.lowering_statement_laws.specs.Parts.{StmtMeets, StmtsMeet}
-use Rattle.lowering_loop_laws.specs.Laws.{LevelMeanings, at_level, AreLevels}
+use Rattle.lowering_for_laws.specs.LoweringLoopLaws.{LevelMeanings, at_level, AreLevels}
 use Rattle.lowering_for_laws.specs.Laws.{StepMeets, ConditionMeets}
 
 -- a local is there, and no larger than the data may be where it is an object

@@ -18,7 +18,7 @@ use Rattle.c_typed_tree.specs.Lawful.{IsTypedUnit}
 use Rattle.c_semantics.specs.Behaves as c
 use Rattle.c_semantics.specs.Behaves.{place_of_main, behaviour_of, rooms_of, run}
 use Rattle.lowering.specs.Lowered.{IsLowered, AreLowered}
-use Rattle.lowering_function_laws.specs.Laws.{code_for}
+use Rattle.lowering_unit_theorem.specs.LoweringFunctionLaws.{code_for}
 use Rattle.lowering_unit_theorem.specs.Laws.{IsDefined, RunsTo}
 use Rattle.lowering_unit_theorem.proofs.Units.{code_keeps_meaning}
 use Rattle.lowering_theorem.specs.Laws.{VmRunsTo, ProgramsKeepMeaning, BehavioursAreKept}

@@ -19,7 +19,7 @@ use Rattle.c_typed_tree.specs.Lawful.{IsTypedUnit, IsTypedFn, HasMain, is_main, 
 use Rattle.c_layout_laws.proofs.Truth.{front, back, all_at}
 use Rattle.c_semantics.specs.Behaves.{place_of_main}
 use Rattle.lowering_bounds.proofs.Typing.{same}
-use Rattle.lowering_expression_theorem.proofs.Types.{all_pass, scalar_known, object_small}
+use Rattle.lowering_statement_theorem.proofs.Types.{all_pass, scalar_known, object_small}
 use Rattle.lowering_statement_laws.specs.Parts.{inner_declarations}
 use Rattle.lowering_statement_laws.proofs.Apart.{inner_least}
 use Rattle.lowering_function_laws.specs.Laws.{MayBeCalled}

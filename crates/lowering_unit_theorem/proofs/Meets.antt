@@ -27,7 +27,7 @@ use Rattle.lowering_loop_laws.specs.Laws.{LevelMeanings, at_level}
 use Rattle.lowering_call_laws.specs.Laws.{FunctionMeets}
 use Rattle.lowering_function_laws.specs.Laws.{code_for, within, IsCalled, IsMet}
 use Rattle.lowering_function_laws.proofs.Functions.{functions_meet, functions_without_turns_meet}
-use Rattle.lowering_expression_theorem.specs.Laws.{IsSetting}
+use Rattle.lowering_statement_theorem.specs.LoweringExpressionTheoremLaws.{IsSetting}
 use Rattle.lowering_statement_theorem.specs.Laws.{AreSettings}
 use Rattle.lowering_statement_theorem.proofs.Statements.{bodies_meet}
 use Rattle.lowering_unit_theorem.proofs.Called.{typed_at, may_be_called}

@@ -26,12 +26,12 @@ use Rattle.flat_frames.specs.Shapes.{FrameShape}
 use Rattle.frame_transfers.specs.Items.{items_of_transfers}
 use Rattle.frame_transfers.specs.Laws.{Call, FitsTheStack, StandsFor, known_after, known_behind, CanTransfer, CanTransferAll, IsKept}
 use Rattle.frame_transfers.proofs.Runs.{transfers_are_done}
-use Rattle.instruction_items.specs.Items.{ItemSetting, insn_items}
-use Rattle.instruction_items.specs.Laws.{usable, IsStated, IsThere, HasOuter, IsOver, ActIsDone, is_no_call, store_behind}
-use Rattle.instruction_items.proofs.Runs.{usable-values, more-usable, writable, no-registers}
-use Rattle.instruction_items.proofs.Instructions.{instructions_are_done}
-use Rattle.call_stacks.specs.Stacks.{Waiting, Start, StackIs}
-use Rattle.call_stacks.proofs.Stays.{stacks_stay}
+use Rattle.division_calls.specs.Items.{ItemSetting, insn_items}
+use Rattle.division_calls.specs.Laws.{usable, IsStated, IsThere, HasOuter, IsOver, ActIsDone, is_no_call, store_behind}
+use Rattle.division_calls.proofs.Runs.{usable-values, more-usable, writable, no-registers}
+use Rattle.division_calls.proofs.Instructions.{instructions_are_done}
+use Rattle.division_calls.specs.Stacks.{Waiting, Start, StackIs}
+use Rattle.division_calls.proofs.Stays.{stacks_stay}
 use Rattle.division_calls.specs.Divisions.{RoutinesStand, HasScratch}
 use Rattle.division_calls.proofs.Divisions.{divisions_are_done}
 use Rattle.placed_steps.specs.Points.{MayTransfer, AllMayTransfer, is_local, PointIsDone}

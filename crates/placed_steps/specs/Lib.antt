@@ -1,1 +1,3 @@
 pub mod Points
+pub use Rattle.division_calls.specs.Laws
+pub use Rattle.division_calls.specs.Divisions

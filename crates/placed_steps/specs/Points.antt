@@ -19,9 +19,9 @@ use Rattle.alloc_model.specs.Places.{Places, placed_site}
 use Rattle.flat_frames.specs.Shapes.{FrameShape}
 use Rattle.frame_transfers.specs.Items.{items_of_transfers}
 use Rattle.frame_transfers.specs.Laws.{Call, FitsTheStack, StandsFor}
-use Rattle.instruction_items.specs.Items.{ItemSetting, insn_items}
-use Rattle.instruction_items.specs.Laws.{usable, MayHold, IsStated, IsThere, HasOuter, IsOver}
-use Rattle.call_stacks.specs.Stacks.{Waiting, Start, StackIs}
+use Rattle.division_calls.specs.Items.{ItemSetting, insn_items}
+use Rattle.division_calls.specs.Laws.{usable, MayHold, IsStated, IsThere, HasOuter, IsOver}
+use Rattle.division_calls.specs.Stacks.{Waiting, Start, StackIs}
 use Rattle.division_calls.specs.Divisions.{RoutinesStand, HasScratch}
 
 -- transfers on slots that are there and registers in which values may stand

@@ -10,7 +10,7 @@ use Rattle.flat_memory.specs.Relation.{Extents, Owners}
 use Rattle.flat_memory.specs.Machine.{memory_bytes}
 use Rattle.flat_frames.specs.Shapes.{FrameShape, frame_size}
 use Rattle.frame_transfers.specs.Laws.{Call}
-use Rattle.call_stacks.specs.Stacks.{Waiting, Start, CallersAre, StackIs, view_above}
+use Rattle.call_entries.specs.Stacks.{Waiting, Start, CallersAre, StackIs, view_above}
 use Rattle.call_entries.specs.Entering.{HasRoom}
 use Rattle.division_calls.specs.Divisions.{HasScratch}
 use Rattle.stack_rooms.specs.Rooms.{frames_size, rooms_size}

@@ -1,1 +1,2 @@
 pub mod Rooms
+pub use Rattle.call_entries.specs.Entering

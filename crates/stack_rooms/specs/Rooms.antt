@@ -7,7 +7,7 @@ use Rattle.alpha_rt.specs.Calls.{scratch_size}
 use Rattle.alloc_model.specs.Places.{Places}
 use Rattle.flat_frames.specs.Shapes.{FrameShape, frame_size}
 use Rattle.frame_transfers.specs.Laws.{Call}
-use Rattle.call_stacks.specs.Stacks.{Waiting, Start, StackIs}
+use Rattle.call_entries.specs.Stacks.{Waiting, Start, StackIs}
 use Rattle.call_entries.specs.Entering.{HasRoom}
 use Rattle.division_calls.specs.Divisions.{HasScratch}
 

@@ -1,7 +1,7 @@
 -- None of those so far names the register.
 use Rattle.std.proofs.Common.{◌≡◌, false, take}
 use Rattle.std.specs.List.{list_any}
-use Rattle.function_shapes.specs.Shapes.{names_in}
+use Rattle.frame_emitter.specs.Shapes.{names_in}
 use Rattle.frame_layout.proofs.names.is_in_edges.Given as goal
 
 abbrev pub invariant-loop-edge : goal.invariant-loop-edge

@@ -1,7 +1,7 @@
 -- The registers so far are told.
 use Rattle.std.proofs.Common.{◌≡◌, ◌<◌, ◌+◌, ◌-◌, ℕ, false, length, get_or}
 use Rattle.alloc_model.specs.Places.{plan_of}
-use Rattle.function_shapes.specs.Shapes.{is_named}
+use Rattle.frame_emitter.specs.Shapes.{is_named}
 use Rattle.frame_layout.proofs.shape.saved_registers.Given as goal
 
 abbrev pub invariant-loop-register : goal.invariant-loop-register
