@@ -6,3 +6,4 @@ pub mod Named
 pub mod Whole
 pub mod Placed
 pub mod Allocated
+pub use Rattle.frame_bounds.proofs.Near
