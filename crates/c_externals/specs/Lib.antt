@@ -1,3 +1,1 @@
 pub mod Externals
-pub mod Undefined
-pub mod Units

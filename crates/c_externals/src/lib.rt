@@ -1,9 +1,6 @@
-//! Whole units: their declarations in order, with the bodies of functions, what is used and never defined, and the
-//! first fault (C99 6.7, 6.9).
+//! The declarations at file scope of a unit, each with the body of its function where it has one (C99 6.7, 6.9).
 #![tactic(auto)]
 
-mod externals;
-mod undefined;
-mod units;
+mod walk;
 
-pub use units::{UnitState, first_fault, judge};
+pub use walk::externals;

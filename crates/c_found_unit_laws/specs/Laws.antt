@@ -7,7 +7,7 @@ use Rattle.c_type_faults.specs.Faults.{head}
 use Rattle.c_definitions.specs.Definitions.{definitions}
 use Rattle.c_tag_bodies.specs.Bodies.{Scope, declared_type}
 use Rattle.c_declarations.specs.declared.walk.UnitFunction.{UnitFunction}
-use Rattle.c_externals.specs.Units.{start, whole_unit, faults_of}
+use Rattle.c_units.specs.Units.{start, whole_unit, faults_of}
 use Rattle.c_found_laws.specs.Laws.{Tells, IsFound}
 use Rattle.c_found_unit_laws.specs.Steps.{UnitSteps}
 

@@ -10,7 +10,7 @@ use Rattle.c_typed_tree.specs.declared.units.TypedFn.{TypedFn}
 use Rattle.c_tag_bodies.specs.Bodies.{Scope}
 use Rattle.c_declarations.specs.declared.walk.UnitFunction.{UnitFunction}
 use Rattle.c_declarations.specs.declared.walk.UnitSoFar.{UnitSoFar}
-use Rattle.c_externals.specs.Units.{whole_unit}
+use Rattle.c_units.specs.Units.{whole_unit}
 use Rattle.c_type_laws.proofs.Truth.{no_true, front, back, also, either}
 use Rattle.c_found_unit_laws.specs.Laws.{is_kept}
 use Rattle.c_found_unit_laws.proofs.Units.{functions_kept}

@@ -13,7 +13,7 @@ use Rattle.c_globals.specs.Globals.{globals}
 use Rattle.c_declarations.specs.declared.walk.UnitFunction.{UnitFunction}
 use Rattle.c_declarations.specs.declared.walk.UnitSoFar.{UnitSoFar}
 use Rattle.c_tag_bodies.specs.Bodies.{Scope}
-use Rattle.c_externals.specs.Units.{whole_unit, faults_of}
+use Rattle.c_units.specs.Units.{whole_unit, faults_of}
 use Rattle.c_types.specs.declared.faults.TypeFault.{TypeFault}
 use Rattle.c_types.specs.declared.faults.TypeFault.TheVariants as f
 

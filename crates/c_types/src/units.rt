@@ -7,11 +7,11 @@ ghost use Rattle.c_types.specs.Units as spec;
 use crate::faults::TypeFault;
 use c_checks::{Notes, append_part};
 use c_declarations::{UnitFunction, UnitSoFar};
-use c_externals::{UnitState, judge};
 use c_globals::{UnitObject, lay_out_globals};
 use c_tree::{Seq, TranslationUnit};
 use c_type_faults::{Fault, least};
 use c_typed_tree::{StructDef, TypedFn, TypedUnit};
+use c_units::{UnitState, judge};
 use std::alloc::{AllocError, Global};
 use unit_checks::is_lawful;
 

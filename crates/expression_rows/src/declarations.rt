@@ -4,12 +4,12 @@ use crate::types::push_type;
 use anyhow::{Context, Result, bail, ensure};
 use c_checks::{NameMeaning, meaning_of};
 use c_declared_types::DeclaredType;
-use c_externals::{UnitState, judge};
 use c_lexer::TEXT_LIMIT;
 use c_parser::parse;
 use c_tree::TranslationUnit;
 use c_type_faults::{Fault, Kind, least};
 use c_typed_tree::{CType, Callee};
+use c_units::{UnitState, judge};
 use std::alloc::Global;
 
 /// A function type: that of its result, and the parameters in brackets.

@@ -3,12 +3,12 @@
 use crate::types::push_type;
 use anyhow::{Context, Result, bail, ensure};
 use c_expressions::judge;
-use c_externals::{UnitState, judge as judge_unit};
 use c_lexer::TEXT_LIMIT;
 use c_parser::parse;
 use c_tree::{Expr, External, FunctionEnd, Stmt, TranslationUnit};
 use c_type_faults::{Fault, least};
 use c_type_rules::{PlaceKind, TypedExpression};
+use c_units::{UnitState, judge as judge_unit};
 use std::alloc::Global;
 
 /// What stands between the declarations and the expression.

@@ -8,7 +8,7 @@ use Rattle.c_tree.specs.declared.declarations.TranslationUnit.{TranslationUnit}
 use Rattle.c_type_faults.specs.declared.faults.Fault.{Fault}
 use Rattle.c_type_faults.specs.declared.faults.Kind.{Kind}
 use Rattle.c_type_faults.specs.Faults.{head}
-use Rattle.c_externals.specs.Units.{faults_of}
+use Rattle.c_units.specs.Units.{faults_of}
 use Rattle.c_parser.specs.Reading.{IsRead}
 use Rattle.c_parser.proofs.OneAnswer.{one_tree}
 use Rattle.c_typed_tree.specs.declared.types.StructDef.{StructDef}

@@ -3,7 +3,7 @@ use Rattle.std.specs.Prelude.{◌≡◌, ℕ, ◌<◌, ◌≤◌, Some}
 use Rattle.bk_memory.specs.Shortage.{MemoryIsShort}
 use Rattle.c_tree.specs.declared.declarations.TranslationUnit.{TranslationUnit}
 use Rattle.c_type_faults.specs.Faults.{head}
-use Rattle.c_externals.specs.Units.{faults_of}
+use Rattle.c_units.specs.Units.{faults_of}
 use Rattle.c_typed_tree.specs.declared.units.TypedUnit.{TypedUnit}
 use Rattle.c_typed_tree.specs.Weight.{unit_weight}
 use Rattle.c_typed_tree.specs.Rooms.{data_size}

@@ -1,5 +1,5 @@
 use Rattle.c_type_faults.proofs.First.{some}
-use Rattle.c_externals.specs.Units.{whole_unit}
+use Rattle.c_units.specs.Units.{whole_unit}
 use Rattle.c_found_unit_laws.proofs.Units.{unit_steps, functions_kept}
 use Rattle.c_found_unit_laws.proofs.laws.functions_are_kept.Goals as goal
 

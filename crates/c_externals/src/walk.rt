@@ -426,7 +426,7 @@ fn external<'a>(
 }
 
 /// The declarations of a unit in their order. `defined` has the tags that have a body.
-pub(crate) fn externals<'a>(
+pub fn externals<'a>(
     alloc: Global,
     definitions: &Definitions<'_>,
     unit: &mut UnitSoFar<'a>,

@@ -2,15 +2,15 @@
 
 ghost use Rattle.std.specs.Prelude.{◌≡◌, OnOk, IfOk, [], ◌∷◌};
 ghost use Rattle.c_type_rules.specs.Values as values;
-ghost use Rattle.c_externals.specs.Units as spec;
+ghost use Rattle.c_units.specs.Units as spec;
 
-use crate::externals::externals;
 use crate::undefined::note_undefined;
 use c_arithmetic::integer_type::IntegerType;
 use c_checks::{Env, NameMeaning, Notes, declare, note};
 use c_declarations::UnitSoFar;
 use c_declared_types::DeclaredType;
 use c_definitions::{Definitions, find_definitions, object_count};
+use c_externals::externals;
 use c_judgements::leaves::copy_types;
 use c_scopes::NameTable;
 use c_tree::{Seq, TranslationUnit};

@@ -22,7 +22,7 @@ use Rattle.c_unit_names.specs.declared.names.UnitNames.{UnitNames}
 use Rattle.c_unit_names.specs.UnitNames.{with_declared}
 use Rattle.c_declarations.specs.declared.walk.UnitSoFar.{UnitSoFar}
 use Rattle.c_externals.specs.Externals.{externals}
-use Rattle.c_externals.specs.Undefined.{undefined_noted}
+use Rattle.c_units.specs.Undefined.{undefined_noted}
 
 -- ---- before the first declaration
 

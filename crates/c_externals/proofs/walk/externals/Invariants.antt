@@ -1,6 +1,6 @@
 use Rattle.std.proofs.Common.{◌≡◌, drop}
 use Rattle.c_externals.specs.Externals as spec
-use Rattle.c_externals.proofs.externals.externals.Given as goal
+use Rattle.c_externals.proofs.walk.externals.Given as goal
 
 abbrev pub invariant-loop-e : goal.invariant-loop-e
 invariant-loop-e l =

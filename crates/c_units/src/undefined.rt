@@ -2,7 +2,7 @@
 
 ghost use Rattle.std.specs.Prelude.{◌≡◌, OnOk, []};
 ghost use Rattle.c_checks.specs.Checks.{Finds};
-ghost use Rattle.c_externals.specs.Undefined as spec;
+ghost use Rattle.c_units.specs.Undefined as spec;
 
 use c_checks::{Notes, Use};
 use c_tree::Seq;
