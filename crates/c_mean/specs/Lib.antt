@@ -1,3 +1,1 @@
 pub mod Behaviour
-pub mod Small
-pub mod model

@@ -1,7 +1,3 @@
-//! The meaning of C programs.
-//!
-//! `specs/Behaviour.antt` says what a behaviour is. The module `small` has the first form of programs:
-//! its texts and their meaning are definitions of `specs/`, and the laws on them stand here.
+//! The meaning of C programs: what a behaviour is (`specs/Behaviour.antt`), and on which inputs a program promises
+//! something.
 #![tactic(auto)]
-
-pub mod small;
