@@ -1,0 +1,4 @@
+pub mod Edges
+pub mod Both
+pub mod Turns
+pub mod Lawful
