@@ -1,4 +1,4 @@
-"""Makes a C text of about 4 MiB, always the same.
+"""Makes a C text, of about 4 MiB but for `generated`, always the same.
 
 usage: bench/made_text.py KIND FILE
 
@@ -8,9 +8,9 @@ The kinds: `ordinary` (declarations and functions with names, numbers, literals,
 without faults for the typing: `unit` (the ordinary functions and a main), `names` (100,000 locals of one scope, each used),
 `objects` (100,000 objects of file scope, each used), `scopes` (100,000 blocks with a local each), `members` (a struct of
 100,000 members, each used), `items` (an initialiser of a million items) and `cases` (a switch of 100,000 labels). Units
-within the limit of the weight for the lowering: `long` (4 MiB of ordinary C, most of it comments), `one` (one function
-with most of the weight that there may be), `labels` (a switch of 20,000 labels), `deep` (expressions in 126 brackets, as deep as there may be) and
-`locals` (60,000 locals).
+within the limit of the weight: `generated` (263 KB, 2,000 small functions, each called four times), `long` (4 MiB of
+ordinary C, most of it comments), `one` (one function with most of the weight that there may be), `labels` (a switch of
+20,000 labels), `deep` (expressions in 126 brackets, as deep as there may be) and `locals` (60,000 locals).
 """
 import itertools
 import sys
@@ -117,7 +117,32 @@ KINDS = {
 }
 
 
+def generated(count):
+    """So many functions, each of a sum, a comparison and a branch, with constants that are drawn, and a `main` that calls
+    each of them four times."""
+    state = 0
+
+    def draw():
+        nonlocal state
+        state = (state * 1664525 + 1013904223) % 2**32
+        return state
+
+    lines = []
+    for k in range(count):
+        factor = 1 + draw() // 2**24
+        mask = draw() // 2**16
+        lines.append(
+            "unsigned f%d(unsigned a,unsigned b){unsigned c;unsigned d;c=a*%d+b;d=a^%d;"
+            "if(c<d){c=c+d;}else{c=c-b;}return c^d;}\n" % (k, factor, mask)
+        )
+    calls = "".join("x=f%d(x,i);" % k for k in range(count))
+    lines.append("int main(void){unsigned x;int i;x=1;for(i=0;i<4;i++){%s}putchar(x&127);return x>>25;}\n" % calls)
+    return "".join(lines)
+
+
 def made(kind):
+    if kind == "generated":
+        return generated(2000)
     front, parts, end = KINDS[kind]()
     text, size = [front], 0
     for part in parts:
