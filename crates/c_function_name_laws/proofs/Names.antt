@@ -1,0 +1,158 @@
+-- A declaration at file scope adds one function at most, and that has its name.
+use Rattle.std.proofs.Common.{◌≡◌, ℕ, ◌==◌, Bool, true, false, IsTrue, List, [], ◌∷◌, length, Option, Some, None, IfSome, is_some, refl, sym, ap, ◌∙◌, subst, All}
+use Rattle.std.proofs.lemmas.List.Elements.{All-nil, All-head, All-tail, All-push}
+use Rattle.c_tree.specs.declared.types.Declaration.{Declaration}
+use Rattle.c_tree.specs.declared.statements.Stmt.{Stmt}
+use Rattle.c_tree.specs.declared.declarations.Init.{Init}
+use Rattle.c_tree.specs.declared.declarations.Storage.{Storage}
+use Rattle.c_tree.specs.declared.declarations.FunctionEnd.{FunctionEnd}
+use Rattle.c_tree.specs.declared.declarations.FunctionEnd.TheVariants as f
+use Rattle.c_tree.specs.declared.declarations.External.{External}
+use Rattle.c_tree.specs.declared.declarations.External.TheVariants as x
+use Rattle.c_tree.specs.declared.declarations.TranslationUnit.{TranslationUnit}
+use Rattle.data_object.specs.declared.DataCell.{DataCell}
+use Rattle.c_definitions.specs.declared.names.Definitions.{Definitions}
+use Rattle.c_definitions.specs.Definitions.{definitions}
+use Rattle.c_declared_types.specs.declared.declared.DeclaredType.{DeclaredType}
+use Rattle.c_declared_types.specs.declared.declared.DeclaredType.TheVariants as d
+use Rattle.c_typed_tree.specs.declared.types.CType.{CType}
+use Rattle.c_typed_tree.specs.declared.statements.TStmt.{TStmt}
+use Rattle.c_typed_tree.specs.declared.units.Local.{Local}
+use Rattle.c_typed_tree.specs.declared.units.TypedFn.{TypedFn}
+use Rattle.c_checks.specs.declared.env.Env.{Env}
+use Rattle.c_judgements.specs.Types.{State}
+use Rattle.c_checks.specs.Checks.{walk}
+use Rattle.c_checks.specs.Scopes.{enter}
+use Rattle.c_statement_rules.specs.Jumps.{no_jumps}
+use Rattle.c_statement_rules.specs.Locals.{with_addressed}
+use Rattle.c_statements.specs.Statements.{statement}
+use Rattle.c_tag_bodies.specs.Bodies.{Scope}
+use Rattle.c_initialisers.specs.Initialisers.{object_cells, length_given}
+use Rattle.c_statements.specs.declared.functions.FunctionType.{FunctionType}
+use Rattle.c_statements.specs.Functions.{parameters_of, declared_parameters, result_of, typed_function, function}
+use Rattle.c_declarations.specs.declared.walk.UnitFunction.{UnitFunction}
+use Rattle.c_declarations.specs.declared.walk.UnitSoFar.{UnitSoFar}
+use Rattle.c_declarations.specs.Walk.{Walk, in_notes, with_notes, declare, main_checked, next_object, object_at, add_numbered, with_object, fill_numbered, keep_cells, function_at, add_function, keep_function}
+use Rattle.c_declarations.specs.Objects.{no_object, object_type, array_type, object_declared, init_filled, object_of, array_object}
+use Rattle.c_declarations.specs.Functions.{function_type, function_of, function_with_type}
+use Rattle.c_externals.specs.Externals.{prototype, object_with, main_with, with_main_in, with_definition, type_of_function, definition, function_with, function_typed, type_of, external, externals}
+use Rattle.c_units.specs.Units.{start, whole_unit}
+use Rattle.c_function_name_laws.specs.Laws.{passes}
+
+-- ---- functions are as they were
+
+numbered_same : (o : Option ℕ) (name : List ℕ) (ty : CType) (u : UnitSoFar) → (add_numbered o name ty u).functions ≡ u.functions
+numbered_same None name ty u = refl
+numbered_same (Some number) name ty u = either (number == length u.objects)
+  where
+    either : (b : Bool) → (next_object b name ty u).functions ≡ u.functions
+    either true = refl
+    either false = refl
+
+filled_same : (o : Option ℕ) (cells : List DataCell) (u : UnitSoFar) → (fill_numbered o cells u).functions ≡ u.functions
+filled_same None cells u = refl
+filled_same (Some number) cells u = refl
+
+kept_same : (env : Env) (name : List ℕ) (o : Option (List DataCell)) (u : UnitSoFar) → (keep_cells env name o u).functions ≡ u.functions
+kept_same env name None u = refl
+kept_same env name (Some cells) u = filled_same (object_at env name) cells u
+
+init_same : (name : List ℕ) (ty : CType) (init : Option Init) (w : Walk) → (init_filled name ty init w).0.functions ≡ w.0.functions
+init_same name ty None w = refl
+init_same name ty (Some v) w = kept_same (object_cells ty v w.1).1.0 name (object_cells ty v w.1).0 w.0
+
+object_same : (ds : Definitions) (at : ℕ) (name : List ℕ) (storage : Option Storage) (init : Option Init) (o : Option CType) (w : Walk) → (object_of ds at name storage init o w).0.functions ≡ w.0.functions
+object_same ds at name storage init None w = refl
+object_same ds at name storage init (Some ty) w =
+    let v = declare ds at name (Some (object_declared ty (is_some init))) (with_notes (main_checked storage at name w.1.1) w) in
+    init_same name ty init (with_object name ty v) ∙ numbered_same (object_at v.1.0 name) name ty v.0
+
+array_same : (ds : Definitions) (at : ℕ) (name : List ℕ) (storage : Option Storage) (init : Option Init) (element : CType) (w : Walk) → (array_object ds at name storage init element w).0.functions ≡ w.0.functions
+array_same ds at name storage None element w = let r = in_notes w (no_object at w.1.1) in object_same ds at name storage None r.0 r.1
+array_same ds at name storage (Some v) element w = let r = in_notes w (array_type at element (length_given element v) w.1.1) in object_same ds at name storage (Some v) r.0 r.1
+
+declared_same : (ds : Definitions) (at : ℕ) (name : List ℕ) (storage : Option Storage) (has_body : Bool) (o : Option DeclaredType) (w : Walk) → (function_of ds at name storage has_body o w).0.functions ≡ w.0.functions
+declared_same ds at name storage has_body None w = refl
+declared_same ds at name storage has_body (Some ty) w = refl
+
+prototype_same : (ds : Definitions) (at : ℕ) (name : List ℕ) (storage : Option Storage) (ty : DeclaredType) (w : Walk) → (prototype ds at name storage ty w).0.functions ≡ w.0.functions
+prototype_same ds at name storage ty w = let r = in_notes w (function_type at ty w.1.1) in declared_same ds at name storage false r.0 r.1
+
+typed_same : (ds : Definitions) (at : ℕ) (name : List ℕ) (storage : Option Storage) (init : Option Init) (o : Option DeclaredType) (w : Walk) → (object_with ds at name storage init o w).0.functions ≡ w.0.functions
+typed_same ds at name storage init None w = refl
+typed_same ds at name storage init (Some (d.Value ty)) w = let r = in_notes w (object_type at ty w.1.1) in object_same ds at name storage init r.0 r.1
+typed_same ds at name storage init (Some (d.Unsized element)) w = array_same ds at name storage init element w
+typed_same ds at name storage init (Some (d.Function of parameters)) w = prototype_same ds at name storage (d.Function of parameters) w
+
+main_same : (name : List ℕ) (o : Option DeclaredType) (u : UnitSoFar) → (main_with name o u).functions ≡ u.functions
+main_same name None u = refl
+main_same name (Some ty) u = refl
+
+-- ---- a function has the name of its definition
+
+made_name : (name : List ℕ) (ty : Option CType) (sound : Bool) (params : ℕ) (ls : List Local) (found : Option (List TStmt)) → IfSome (typed_function name ty sound params ls found) (λ f. f.name ≡ name)
+made_name name None sound params ls found = tt
+made_name name (Some ty) false params ls found = tt
+made_name name (Some ty) true params ls None = tt
+made_name name (Some ty) true params ls (Some list) = refl
+
+made_function : (d : Declaration) (of : Option FunctionType) (list : List Stmt) (s : State) → IfSome (function d of list s).0 (λ f. f.name ≡ d.name)
+made_function d of list s =
+    let p = declared_parameters of (parameters_of d.ty) ([], (enter s.0, s.1)) in
+    let v = walk (statement (result_of of) no_jumps) list (Some []) p.1 in
+    made_name d.name (result_of of) p.0 (length p.1.0) (with_addressed v.1.1.1.addressed v.1.0) v.0
+
+-- ---- all names pass a test
+
+module _ (test : List ℕ → Bool) where
+  abbrev Named : UnitFunction → Type 0
+  Named one = IsTrue (test one.function.name)
+
+  abbrev AreNamed : List UnitFunction → Type 0
+  AreNamed fs = All Named fs
+
+  added_named : (o : Option ℕ) (made : TypedFn) (u : UnitSoFar) → IsTrue (test made.name) → AreNamed u.functions → AreNamed (add_function o made u).functions
+  added_named None made u g h = h
+  added_named (Some number) made u g h = All-push Named u.functions (record { number = number; function = made }) h g
+
+  kept_named : (env : Env) (name : List ℕ) (o : Option TypedFn) (u : UnitSoFar) → IfSome o (λ made. made.name ≡ name) → IsTrue (test name) → AreNamed u.functions → AreNamed (keep_function env name o u).functions
+  kept_named env name None u e g h = h
+  kept_named env name (Some made) u e g h = added_named (function_at env name) made u (ap test e ∙ g) h
+
+  definition_named : (ds : Definitions) (e : Declaration) (storage : Option Storage) (list : List Stmt) (ty : DeclaredType) (w : Walk) → IsTrue (test e.name) → AreNamed w.0.functions → AreNamed (definition ds e storage list ty w).0.functions
+  definition_named ds e storage list ty w g h =
+      let r = in_notes w (function_type e.at ty w.1.1) in
+      let t = with_definition e.at e.ty (with_main_in e.name r) in
+      let v = function_with_type ds e.at e.name storage true t in
+      let made = function e (type_of_function t.0) list v.1 in
+      kept_named made.1.0 e.name made.0 v.0 (made_function e (type_of_function t.0) list v.1) g
+      (subst AreNamed (sym (declared_same ds e.at e.name storage true t.0 t.1 ∙ main_same e.name r.0 w.0)) h)
+
+  function_named : (ds : Definitions) (e : Declaration) (storage : Option Storage) (end : FunctionEnd) (ty : DeclaredType) (w : Walk) → IsTrue (passes test (x.Function e storage end)) → AreNamed w.0.functions → AreNamed (function_with ds e storage end ty w).0.functions
+  function_named ds e storage f.Nothing ty w g h = subst AreNamed (sym (prototype_same ds e.at e.name storage ty w)) h
+  function_named ds e storage (f.Init init) ty w g h = subst AreNamed (sym (prototype_same ds e.at e.name storage ty w)) h
+  function_named ds e storage (f.Body list) ty w g h = definition_named ds e storage list ty w g h
+
+  typed_named : (ds : Definitions) (e : Declaration) (storage : Option Storage) (end : FunctionEnd) (o : Option DeclaredType) (w : Walk) → IsTrue (passes test (x.Function e storage end)) → AreNamed w.0.functions → AreNamed (function_typed ds e storage end o w).0.functions
+  typed_named ds e storage end None w g h = h
+  typed_named ds e storage end (Some ty) w g h = function_named ds e storage end ty w g h
+
+  external_named : (ds : Definitions) (e : External) (s : UnitSoFar × Scope) → IsTrue (passes test e) → AreNamed s.0.functions → AreNamed (external ds e s).0.functions
+  external_named ds (x.Typedef e) s g h = h
+  external_named ds (x.Object e storage init) s g h =
+      let r = type_of e s.1 in subst AreNamed (sym (typed_same ds e.at e.name storage init r.0 (s.0, r.1.1))) h
+  external_named ds (x.Function e storage end) s g h = let r = type_of e s.1 in typed_named ds e storage end r.0 (s.0, r.1.1) g h
+  external_named ds (x.Tags storage ty) s g h = h
+
+  abbrev Passes : External → Type 0
+  Passes e = IsTrue (passes test e)
+
+  externals_named : (ds : Definitions) (es : List External) (s : UnitSoFar × Scope) → All Passes es → AreNamed s.0.functions → AreNamed (externals ds es s).0.functions
+  externals_named ds [] s g h = h
+  externals_named ds (e ∷ es) s g h =
+      externals_named ds es (external ds e s) (All-tail Passes e es g) (external_named ds e s (All-head Passes e es g) h)
+
+pub unit_names : (test : List ℕ → Bool) (tree : TranslationUnit) → All (λ e. IsTrue (passes test e)) tree.externals → All (λ f. IsTrue (test f.function.name)) (whole_unit tree).0.functions
+unit_names test tree h =
+    let ds = definitions tree.externals in
+    externals_named test ds tree.externals (start ds) h (All-nil (λ f. IsTrue (test f.function.name)))

@@ -1,0 +1,5 @@
+pub mod Counts
+pub mod ObjectNames
+pub mod Typedefs
+pub mod Objects
+pub mod Units

@@ -1,0 +1,6 @@
+//! Laws of the number of objects that a unit has.
+//!
+//! It has laws alone and no bodies.
+#![tactic(auto)]
+
+pub mod laws;
