@@ -1,0 +1,6 @@
+//! Laws of what string literals stand for.
+//!
+//! It has laws alone and no bodies.
+#![tactic(auto)]
+
+pub mod laws;
