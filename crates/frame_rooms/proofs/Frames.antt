@@ -25,7 +25,7 @@ bytes_are : (ds : List StructDef) (l : Local) (b : Bool) → l.in_memory ≡ b �
 bytes_are ds l b e = ap (λ z. if z then aligned_up 8 (size_of ds (type_view l.ty)) else 0) e
 
 -- the objects of a function take the bytes of its locals
-objects_are : (ds : List StructDef) (ls : List Local) → objects_size (sizes_of ds ls) ≡ sum_by (local_bytes ds) ls
+pub objects_are : (ds : List StructDef) (ls : List Local) → objects_size (sizes_of ds ls) ≡ sum_by (local_bytes ds) ls
 objects_are ds [] = refl
 objects_are ds (l ∷ ls) = by l.in_memory refl (objects_are ds ls)
   where

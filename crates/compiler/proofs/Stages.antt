@@ -1,0 +1,150 @@
+-- What one stage of the compiler gives to the next, by the laws of the layers below.
+use Rattle.std.proofs.Common.{◌≡◌, ℕ, ◌+◌, ◌*◌, ◌^◌, ◌<◌, ◌≤◌, List, [], ◌∷◌, Some, length, map, sym, ap, ◌∙◌, subst, arith}
+use Rattle.std.specs.Prelude.{All, IsTrue, slice_get, Result, Ok, Err, IfOk}
+use Rattle.std.proofs.lemmas.List.Elements.{All-nil, All-cons, All-head, All-tail}
+use Rattle.alpha_isa.specs.Program.{IsLawful}
+use Rattle.alpha_items.specs.Assembly.{Assembly, IsWhole}
+use Rattle.alpha_items.specs.Words.{Words}
+use Rattle.alpha_items.specs.Items.{is_name}
+use Rattle.alpha_items.specs.declared.final_fn.FinalFn.{FinalFn}
+use Rattle.alpha_asm.specs.declared.assemble.AsmFault.TheVariants.{CodeTooLong, NoMemory}
+use Rattle.alpha_asm.specs.Fault.{HasFewWords, IsFaultOf}
+use Rattle.data_object.specs.declared.DataObject.{DataObject}
+use Rattle.data_object.specs.declared.TheConstants.{MOST_DATA}
+use Rattle.data_object.specs.Globals.{AreLawful}
+use Rattle.data_object.specs.Layout.{data_end}
+use Rattle.c_tree.specs.declared.declarations.TranslationUnit.{TranslationUnit}
+use Rattle.c_typed_tree.specs.declared.units.TypedUnit.{TypedUnit}
+use Rattle.c_semantics.specs.Behaves.{rooms_of}
+use Rattle.suifvm_ir.specs.Functions.{AllInsns}
+use Rattle.suifvm_ir.specs.declared.program.VmProgram.{VmProgram}
+use Rattle.lowering_theorem.specs.Laws.{ProgramsKeepMeaning}
+use Rattle.temp_ir.specs.declared.program.TempProgram.{TempProgram}
+use Rattle.temp_ir.specs.Programs.{TempFn}
+use Rattle.alloc_model.specs.declared.allocation.Allocation.{Allocation}
+use Rattle.program_rooms.specs.Ranges.{IsSmall}
+use Rattle.program_passes.specs.Prepared.{ArePrepared, IsPrepared}
+use Rattle.prepared_laws.specs.Fit.{PreparedFunctionsFit, PreparedFunctionsHaveNames, ArePreparedOf}
+use Rattle.prepared_laws.specs.Kept.{PreparedSelectionsKeep}
+use Rattle.plain_programs.specs.Allocations.{AreAllocationsOf}
+use Rattle.program_rooms.specs.AllocationLaws.{AllocationsFit, LabelsAreFew, AllocationsAreNear}
+use Rattle.program_rooms.specs.Laws.{FunctionsHaveFrames, FramesFitTheirRooms}
+use Rattle.program_rooms.specs.WordLaws.{UnitTextsFitImages}
+use Rattle.program_rooms.specs.Words.{OnlyMemoryIsShort}
+use Rattle.program_rooms.specs.Assemblies.{gathered}
+use Rattle.program_rooms.specs.Layouts.{FitsProgram, FunctionsAreLaidOut}
+use Rattle.program_rooms.specs.Programs.{HasItemsOf, plans_of}
+use Rattle.program_rooms.specs.AssemblyLaws.{CanBeAssembled, AssembliesAreWhole, AssembliesHavePrograms, ProgramsAreAllocated, placing_of}
+use Rattle.compile_options.specs.declared.Allocator.{Allocator}
+use Rattle.front_end.specs.Units.{IsUnitWithin}
+use Rattle.compiler.specs.declared.built.Built.{Built}
+use Rattle.compiler.specs.Made.{Made, IsTidy, AllocatesBy}
+use Rattle.compiler.specs.model.Stages.{IsCodeWithin, CanBeLaidOut, CodeCanBeLaidOut, IsAssemblyOf, IsAssemblyOfUnit, AssembliesAreMade}
+
+-- the functions of a program are prepared of those of its unit
+prepared_of : PreparedFunctionsFit → (u : TypedUnit) (vm : VmProgram) (temps : TempProgram) → IsCodeWithin u vm temps → ArePreparedOf u temps
+prepared_of fit u vm temps code = fit u vm code.selected temps code.code.functions code.weights code.size code.are_selected code.costs code.prepared
+
+-- ---- what is asked of an assembly
+
+are_named : (fs : List TempFn) (allocations : List Allocation) → AreAllocationsOf fs allocations → All (λ (f : TempFn). IsTrue (is_name f.name)) fs → All (λ (a : Allocation). IsTrue (is_name a.func.name)) allocations
+are_named [] [] h all = All-nil (λ (a : Allocation). IsTrue (is_name a.func.name))
+are_named [] (a ∷ allocations) h all = absurd h
+are_named (f ∷ fs) [] h all = absurd h
+are_named (f ∷ fs) (a ∷ allocations) h all =
+    All-cons (λ (x : Allocation). IsTrue (is_name x.func.name)) a allocations
+    (subst (λ n. IsTrue (is_name n)) (sym h.0.name) (All-head (λ (x : TempFn). IsTrue (is_name x.name)) f fs all))
+    (are_named fs allocations h.1 (All-tail (λ (x : TempFn). IsTrue (is_name x.name)) f fs all))
+
+pub can_be_laid_out : PreparedFunctionsFit → PreparedFunctionsHaveNames → FunctionsHaveFrames → AllocationsFit → LabelsAreFew → CodeCanBeLaidOut
+can_be_laid_out prepared_fit have_names have_frames fit few text tree u vm temps allocations front code are =
+    let frames = have_frames u temps (prepared_of prepared_fit u vm temps code) front.light front.small in
+    let fits = fit temps allocations are frames in
+    let labels = few temps allocations are code.labels in
+    let names = (have_names u vm code.selected temps code.code.functions code.are_selected code.prepared).names front.is_unit.lawful.typed.functions in
+    let small = front.small in
+    record {
+      some = fits.some;
+      few = labels.functions;
+      fit = fits.fit;
+      names = are_named temps.functions allocations are names;
+      labels = labels.labels;
+      lawful = subst AreLawful (sym code.globals) front.is_unit.lawful.typed.globals;
+      data_size = subst (λ globals. data_end globals ≤ MOST_DATA) (sym code.globals) (omega (arith, small));
+    }
+
+-- ---- that an assembly is whole
+
+pub whole : AssembliesAreWhole → (temps : TempProgram) (allocations : List Allocation) (finals : List FinalFn) → CanBeLaidOut temps allocations → All (λ (a : Allocation). AllInsns IsSmall a.func.blocks) allocations
+    → FunctionsAreLaidOut temps.globals allocations finals → IsWhole (gathered finals temps.globals)
+whole are_whole temps allocations finals can numbers laid_out =
+    are_whole temps.globals allocations finals ∣ can.lawful ∣₁ can.data_size can.some
+    (λ j y within. record { fit = can.fit j y within; name = can.names j y within; numbers = numbers j y within }) laid_out
+
+-- what is asked of each value of an answer
+if_ok : {A E : Type 0} (P Q : A → Type 0) → ((a : A) → P a → Q a) → (r : Result A E) → IfOk r P → IfOk r Q
+if_ok P Q more (Ok a) h = more a h
+if_ok P Q more (Err e) h = tt
+
+-- the same where the lists are read as slices
+module _ (are_whole : AssembliesAreWhole) (temps : TempProgram) (allocations : List Allocation) (can : CanBeLaidOut temps allocations) (numbers : All (λ (a : Allocation). AllInsns IsSmall a.func.blocks) allocations) (finals : List FinalFn)
+    (laid_out : FunctionsAreLaidOut temps.globals allocations finals) (read : List FinalFn) (is_read : read ≡ finals) (globals : List DataObject) (are_globals : globals ≡ temps.globals) where
+  same_assembly : gathered finals temps.globals ≡ gathered read globals
+  same_assembly = ap (λ fs. gathered fs temps.globals) (sym is_read) ∙ ap (λ gs. gathered read gs) (sym are_globals)
+
+  pub whole_of_slices : IsWhole (gathered read globals)
+  whole_of_slices = subst IsWhole same_assembly (whole are_whole temps allocations finals can numbers laid_out)
+
+  pub assembly_of_slices : {E : Type 0} (r : Result Assembly E) → IfOk r (λ (asm : Assembly). asm ≡ gathered read globals) → IfOk r (IsAssemblyOf temps allocations)
+  assembly_of_slices r h = if_ok (λ (asm : Assembly). asm ≡ gathered read globals) (IsAssemblyOf temps allocations)
+      (λ asm is. record { finals = finals; laid_out = laid_out; is_gathered = is ∙ sym same_assembly; whole = subst IsWhole (sym is) whole_of_slices }) r h
+
+-- ---- the assembly of a unit
+
+are_tidy : (before after : List TempFn) → ArePrepared before after → All IsTidy after
+are_tidy [] [] h = All-nil IsTidy
+are_tidy [] (g ∷ gs) h = absurd h
+are_tidy (f ∷ fs) [] h = absurd h
+are_tidy (f ∷ fs) (g ∷ gs) h = All-cons IsTidy g gs (record { reached = h.0.reached; split = h.0.split }) (are_tidy fs gs h.1)
+
+pub assemblies_are_made : ProgramsKeepMeaning → PreparedSelectionsKeep → PreparedFunctionsFit → FunctionsHaveFrames → FramesFitTheirRooms → AllocationsFit → AllocationsAreNear → AssembliesHavePrograms → ProgramsAreAllocated
+    → UnitTextsFitImages → AssembliesAreMade
+assemblies_are_made keep selections prepared_fit have_frames fit_rooms fit near have_programs are_allocated fit_images text tree u vm temps allocations asm front code are made =
+    let prepared = prepared_of prepared_fit u vm temps code in
+    let fits = fit temps allocations are (have_frames u temps prepared front.light front.small) in
+    record {
+      runs = keep u vm front.is_unit.lawful.typed code.code;
+      selection = selections vm code.selected temps code.are_selected code.prepared code.same_globals code.keeps;
+      tidy = are_tidy code.selected.functions temps.functions code.prepared;
+      allocated = are_allocated temps allocations (rooms_of u) fits.code fits.fit prepared.split (fit_rooms u temps allocations prepared are);
+      placing = placing_of temps.globals allocations made.finals;
+      items = subst (λ x. HasItemsOf x temps (plans_of allocations) (placing_of temps.globals allocations made.finals)) (sym made.is_gathered)
+          (have_programs temps allocations made.finals fits.names (near temps allocations are prepared.near) made.laid_out);
+      few_words = subst HasFewWords (sym made.is_gathered) (fit_images u temps allocations made.finals front.light prepared are made.laid_out);
+    }
+
+-- ---- the image
+
+-- what was made of a text
+pub made_of : (text : List ℕ) (allocator : Allocator) (b : Built) → IsUnitWithin text b.unit b.typed → IsCodeWithin b.typed b.vm b.temps → AreAllocationsOf b.temps.functions b.allocations.items
+    → AllocatesBy allocator b.temps.functions b.allocations.items → IsAssemblyOf b.temps b.allocations.items b.asm → IsAssemblyOfUnit b.typed b.vm b.temps b.allocations.items b.asm → Words b.asm b.image → IsLawful b.image
+    → Made text allocator b
+made_of text allocator b front code are by assembly made words lawful = record {
+  front = front;
+  code = code.code;
+  code_runs = made.runs;
+  selection = made.selection;
+  tidy = made.tidy;
+  allocations = are;
+  by = by;
+  allocated = made.allocated;
+  whole = assembly.whole;
+  placing = made.placing;
+  items = made.items;
+  words = words;
+  lawful = lawful;
+}
+
+-- an assembly with few words is not refused for its length
+pub never_too_long : OnlyMemoryIsShort → (asm : Assembly) (n : ℕ) → HasFewWords asm → IsFaultOf asm (CodeTooLong n) → ⊥
+never_too_long only asm n few fault = let no_memory : CodeTooLong n ≡ NoMemory = (only asm (CodeTooLong n) few fault).0 in cc

@@ -1,0 +1,42 @@
+//! What follows of what the passes give, by the laws of the layers below: each the contract of a function that does
+//! nothing.
+
+ghost use Rattle.compiler.specs.model.Stages.{CodeCanBeLaidOut, AssembliesAreMade, ImagesAreSame};
+
+use program_rooms::words as unit_words;
+use program_rooms::words::words::allocations as allocation_laws;
+use program_rooms::words::words::allocations::assemblies as assembly_laws;
+
+/// The code of a unit within the limits can be laid out by an allocation for each of its functions.
+pub(crate) fn code_can_be_laid_out()
+    ensures { CodeCanBeLaidOut }
+{
+    prepared_laws::laws::prepared_functions_fit();
+    prepared_laws::laws::prepared_functions_have_names();
+    program_rooms::laws::functions_have_frames();
+    allocation_laws::laws::allocations_fit();
+    allocation_laws::laws::labels_are_few();
+}
+
+/// The assembly of it is one of the unit, and its text is not too long.
+pub(crate) fn assemblies_are_made()
+    ensures { AssembliesAreMade }
+{
+    lowering_theorem::laws::programs_keep_meaning();
+    prepared_laws::laws::prepared_selections_keep();
+    prepared_laws::laws::prepared_functions_fit();
+    program_rooms::laws::functions_have_frames();
+    program_rooms::laws::frames_fit_their_rooms();
+    allocation_laws::laws::allocations_fit();
+    allocation_laws::laws::allocations_are_near();
+    assembly_laws::laws::assemblies_have_programs();
+    assembly_laws::laws::programs_are_allocated();
+    unit_words::laws::unit_texts_fit_images();
+}
+
+/// The image of it behaves as the unit does.
+pub(crate) fn images_are_same()
+    ensures { ImagesAreSame }
+{
+    same_behaviour::laws::units_behave_alike();
+}

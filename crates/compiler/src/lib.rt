@@ -1,0 +1,13 @@
+//! From the bytes of a C text to the words of an image.
+//!
+//! `compile` makes one pass after the other. What it made, pass by pass, is a `Built`; the image of it does what the C
+//! text means.
+#![tactic(auto)]
+
+mod built;
+pub mod compile;
+mod laws;
+
+pub use built::Built;
+pub use compile_options::{Allocator, Options};
+pub use front_end::CompileFault;
