@@ -1,0 +1,6 @@
+//! Laws of the bytes in the initialisers of a text.
+//!
+//! It has laws alone and no bodies.
+#![tactic(auto)]
+
+pub mod laws;
