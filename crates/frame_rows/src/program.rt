@@ -1,5 +1,10 @@
 //! Programs over temporaries as items.
 
+ghost use Rattle.std.specs.Prelude.{IfOk};
+ghost use Rattle.alloc_model.specs.Places.{plan_of};
+ghost use Rattle.alloc_model.specs.Faithful.{Faithful};
+
+use alloc_model::allocation::Allocation;
 use alloc_plain::plain;
 use alpha_items::final_fn::FinalFn;
 use anyhow::{Context, Result, bail, ensure};
@@ -7,7 +12,8 @@ use c_tree::{Name, Seq};
 use data_object::{DataObject, MOST_DATA, data_end, next_place};
 use frame_checks::can_be_laid_out;
 use frame_layout::finalise;
-use row_sheets::number::numbers;
+use kept_allocations::{KeptRegister, kept_over_call};
+use row_sheets::number::{number, numbers};
 use std::alloc::Global;
 use suifvm_ir::function::Func;
 use temp_checks::is_settled;
@@ -49,38 +55,96 @@ fn globals_of(alloc: Global, given: &str) -> Result<Vec<DataObject>> {
     Ok(globals)
 }
 
-/// The items of a function with the plainest allocation.
-fn final_of(
-    alloc: Global,
-    f: &Func<TempInsn>,
-    globals: &[DataObject],
-    number: u32,
-    first_label: u32,
-) -> Result<FinalFn> {
+/// The plainest allocation of a function.
+fn in_slots(alloc: Global, f: &Func<TempInsn>) -> Result<Allocation>
+    ensures { IfOk result (λ a. Faithful (plan_of a)) }
+{
     if !is_settled(alloc, f)? {
         bail!("a fixed register is read that was not written in its block");
     }
-    let a = plain(alloc, f)?;
-    if !can_be_laid_out(&a, globals, number, first_label) {
-        bail!("a function cannot be laid out");
-    }
-    Ok(finalise(alloc, &a, globals, number, first_label)?)
+    Ok(plain(alloc, f)?)
 }
 
-/// The functions of a text as items, each with labels of its own.
+/// A register that a called function keeps.
+fn kept_register(text: &str) -> Result<KeptRegister> {
+    match text {
+        "$9" => Ok(KeptRegister::Register9),
+        "$10" => Ok(KeptRegister::Register10),
+        "$11" => Ok(KeptRegister::Register11),
+        "$12" => Ok(KeptRegister::Register12),
+        "$13" => Ok(KeptRegister::Register13),
+        "$14" => Ok(KeptRegister::Register14),
+        "$15" => Ok(KeptRegister::Register15),
+        _ => bail!("{text:?} is no register that is kept"),
+    }
+}
+
+/// The allocation of a function that keeps a value in a register over a call.
+fn over_a_call(alloc: Global, given: &str) -> Result<Allocation>
+    ensures { IfOk result (λ a. Faithful (plan_of a)) }
+{
+    let mut words = given.split(' ');
+    let name = words.next().context("it has a name")?;
+    let register = kept_register(words.next().context("it has a register")?)?;
+    let value = i16::try_from(number(words.next().context("it has a value")?)?)?;
+    let callee = u32::try_from(number(words.next().context("it calls a function")?)?)?;
+    Ok(kept_over_call(alloc, name.as_bytes(), register, value, callee)?)
+}
+
+/// The label of the first block of the function behind these.
+fn next_label(finals: &[FinalFn]) -> Result<u32> {
+    let mut label = FIRST_LABEL;
+    for made in finals {
+        label = label.checked_add(made.labels).context("too many labels")?;
+    }
+    Ok(label)
+}
+
+/// Puts the items of a function with a faithful allocation behind the others.
+fn lay_out(
+    alloc: Global,
+    a: &Allocation,
+    globals: &[DataObject],
+    finals: &mut Vec<FinalFn>,
+) -> Result<()>
+    requires { Faithful (plan_of a.now) }
+{
+    let number = u32::try_from(finals.len())?;
+    let first_label = next_label(finals.as_slice())?;
+    if !can_be_laid_out(a, globals, number, first_label) {
+        bail!("a function cannot be laid out");
+    }
+    finals.push(finalise(alloc, a, globals, number, first_label)?)?;
+    Ok(())
+}
+
+/// The lines of a row but for those of functions that keep a value in a register.
+fn without_kept(alloc: Global, given: &str) -> Result<String> {
+    let mut rest = String::new(alloc);
+    for line in given.lines() {
+        if !line.starts_with("kept ") {
+            rest.push_str(line)?;
+            rest.push('\n')?;
+        }
+    }
+    Ok(rest)
+}
+
+/// The functions of a text as items, each with labels of its own. Those that keep a value in a register come first.
 pub fn program_of(alloc: Global, given: &str) -> Result<Program> {
-    let reader = TempReader::of(alloc, given)?;
+    let rest = without_kept(alloc, given)?;
+    let reader = TempReader::of(alloc, rest.as_str())?;
     let globals = globals_of(alloc, given)?;
     let mut finals = Vec::new(alloc);
-    let mut number = 0u32;
-    let mut first_label = FIRST_LABEL;
+    for line in given.lines() {
+        if let Some(words) = line.strip_prefix("kept ") {
+            let a = over_a_call(alloc, words)?;
+            lay_out(alloc, &a, globals.as_slice(), &mut finals)?;
+        }
+    }
     for function in &reader.functions {
-        let made = final_of(alloc, function, globals.as_slice(), number, first_label)?;
-        number = number.checked_add(1).context("too many functions")?;
-        first_label = first_label
-            .checked_add(made.labels)
-            .context("too many labels")?;
-        finals.push(made)?;
+        let a = in_slots(alloc, function)?;
+        lay_out(alloc, &a, globals.as_slice(), &mut finals)?;
     }
     Ok(Program { finals, globals })
 }
