@@ -1,14 +1,13 @@
-//! Runs of the programs that are selected, over temporaries and in the slots of `plain`.
+//! Runs of the programs that are selected, over temporaries and in the slots of the plainest allocations.
 
 use alloc_model::allocation::Allocation;
-use alloc_plain::plain;
 use alpha_select::select;
-use anyhow::{Result, bail, ensure};
+use anyhow::{Result, ensure};
 use data_object::DataObject;
+use plain_programs::allocate;
 use std::alloc::Global;
 use suifvm_ir::program::VmProgram;
 use suifvm_run::VmEnding;
-use temp_checks::is_settled;
 use temp_machine::machine::{TempEnding, TempMachine};
 use vm_checks::size::is_small;
 
@@ -59,14 +58,7 @@ fn put_difference(
 fn allocations_of(alloc: Global, program: &VmProgram) -> Result<Vec<Allocation>> {
     ensure!(is_small(program), "the program is too large");
     let selected = select(alloc, program)?;
-    let mut allocations = Vec::new(alloc);
-    for function in selected.functions.as_slice() {
-        if !is_settled(alloc, function)? {
-            bail!("a fixed register is read that was not written in its block");
-        }
-        allocations.push(plain(alloc, function)?)?;
-    }
-    Ok(allocations)
+    Ok(allocate(alloc, &selected)?)
 }
 
 /// What differs where the program that is selected is run: nothing, where it ends as it should.
