@@ -41,7 +41,6 @@ use Rattle.c_expressions.specs.Expressions.{derive, length_held}
 use Rattle.c_tag_bodies.specs.Bodies.{Scope, bodies, declared_type}
 use Rattle.c_tag_bodies.specs.Enums.{constant_meaning}
 use Rattle.c_initialisers.specs.Initialisers.{length_given}
-use Rattle.c_statements.specs.Functions.{function}
 use Rattle.c_unit_names.specs.declared.names.NameDeclaration.{NameDeclaration}
 use Rattle.c_unit_names.specs.declared.names.UnitNames.{UnitNames}
 use Rattle.c_unit_names.specs.UnitNames.{object_name, function_name, value_name, first_meaning, meaning_before, first_by, follows, known_by, faulty_by, declaration}
