@@ -89,7 +89,7 @@ steps_keep {n = n} (Steps.Follows {m = m} {later = later} h g) = keeps_then n m 
 steps_keep {n = n} (Steps.AddsFault at kind) = record { grow = grow_itself n.structs; noted = λ h. record { structs = h.structs; tags = h.tags; untagged = h.untagged } }
 steps_keep {n = n} (Steps.AddsUse number at) = record { grow = grow_itself n.structs; noted = λ h. record { structs = h.structs; tags = h.tags; untagged = h.untagged } }
 steps_keep {n = n} (Steps.ListsAddresses addressed) = record { grow = grow_itself n.structs; noted = λ h. record { structs = h.structs; tags = h.tags; untagged = h.untagged } }
-steps_keep {n = n} (Steps.AddsText bytes) = record { grow = grow_itself n.structs; noted = λ h. record { structs = h.structs; tags = h.tags; untagged = h.untagged } }
+steps_keep {n = n} (Steps.AddsText bytes sized) = record { grow = grow_itself n.structs; noted = λ h. record { structs = h.structs; tags = h.tags; untagged = h.untagged } }
 steps_keep {n = n} (Steps.Aside inner) =
     let a = steps_keep inner in
     record {

@@ -1,8 +1,9 @@
 -- What steps note is added to what was noted.
-use Rattle.std.proofs.Common.{◌≡◌, List, [], ◌∷◌, ◌++◌, refl, ap, ◌∙◌, append_assoc}
+use Rattle.std.proofs.Common.{◌≡◌, ℕ, Bool, true, false, ◌&&◌, IsTrue, List, [], ◌∷◌, ◌++◌, refl, ap, ◌∙◌, append_assoc}
+use Rattle.std.specs.List.{list_all}
 use Rattle.c_checks.specs.declared.notes.Notes.{Notes}
 use Rattle.c_judgements.specs.Leaves.{incomplete}
-use Rattle.c_note_laws.specs.Steps.{Steps}
+use Rattle.c_note_laws.specs.Steps.{is_sized, Steps}
 use Rattle.c_note_laws.specs.Laws.{StandsFirst, OnlyAdds}
 
 append_none : {A : Type 0} (xs : List A) → xs ≡ xs ++ []
@@ -18,8 +19,16 @@ one_more xs x = record { more = x ∷ []; same = refl }
 farther : {A : Type 0} (xs ys zs : List A) → StandsFirst xs ys → StandsFirst ys zs → StandsFirst xs zs
 farther xs ys zs h g = record { more = h.more ++ g.more; same = g.same ∙ (ap (λ l. l ++ g.more) h.same ∙ append_assoc xs h.more g.more) }
 
+all_more : (texts : List (List ℕ)) (text : List ℕ) → IsTrue (list_all is_sized texts) → IsTrue (is_sized text) → IsTrue (list_all is_sized (texts ++ text ∷ []))
+all_more [] text h k = ap (λ b. b && true) k
+all_more (x ∷ texts) text h k = by (is_sized x) h (λ rest. all_more texts text rest k)
+  where
+    by : (b : Bool) → IsTrue (b && list_all is_sized texts) → (IsTrue (list_all is_sized texts) → IsTrue (list_all is_sized (texts ++ text ∷ []))) → IsTrue (b && list_all is_sized (texts ++ text ∷ []))
+    by true h f = f h
+    by false h f = h
+
 pub steps_add : {n later : Notes} → Steps n later → OnlyAdds n later
-steps_add {n = n} Steps.Stays = record { structs = itself n.structs; faults = itself n.faults; texts = itself n.texts; first = refl }
+steps_add {n = n} Steps.Stays = record { structs = itself n.structs; faults = itself n.faults; texts = itself n.texts; first = refl; sized = λ h. h }
 steps_add {n = n} (Steps.Follows {m = m} {later = later} h g) =
     let a = steps_add h in
     let b = steps_add g in
@@ -28,13 +37,14 @@ steps_add {n = n} (Steps.Follows {m = m} {later = later} h g) =
       faults = farther n.faults m.faults later.faults a.faults b.faults;
       texts = farther n.texts m.texts later.texts a.texts b.texts;
       first = b.first ∙ a.first;
+      sized = λ k. b.sized (a.sized k);
     }
-steps_add {n = n} (Steps.AddsFault at kind) = record { structs = itself n.structs; faults = one_more n.faults _; texts = itself n.texts; first = refl }
-steps_add {n = n} (Steps.AddsUse number at) = record { structs = itself n.structs; faults = itself n.faults; texts = itself n.texts; first = refl }
-steps_add {n = n} (Steps.ListsAddresses addressed) = record { structs = itself n.structs; faults = itself n.faults; texts = itself n.texts; first = refl }
-steps_add {n = n} (Steps.AddsText bytes) = record { structs = itself n.structs; faults = itself n.faults; texts = one_more n.texts bytes; first = refl }
+steps_add {n = n} (Steps.AddsFault at kind) = record { structs = itself n.structs; faults = one_more n.faults _; texts = itself n.texts; first = refl; sized = λ h. h }
+steps_add {n = n} (Steps.AddsUse number at) = record { structs = itself n.structs; faults = itself n.faults; texts = itself n.texts; first = refl; sized = λ h. h }
+steps_add {n = n} (Steps.ListsAddresses addressed) = record { structs = itself n.structs; faults = itself n.faults; texts = itself n.texts; first = refl; sized = λ h. h }
+steps_add {n = n} (Steps.AddsText bytes k) = record { structs = itself n.structs; faults = itself n.faults; texts = one_more n.texts bytes; first = refl; sized = λ h. all_more n.texts bytes h k }
 steps_add {n = n} (Steps.Aside inner) =
     let a = steps_add inner in
-    record { structs = a.structs; faults = a.faults; texts = itself n.texts; first = a.first }
-steps_add {n = n} (Steps.AddsEnum name) = record { structs = itself n.structs; faults = itself n.faults; texts = itself n.texts; first = refl }
-steps_add {n = n} (Steps.AddsStruct name) = record { structs = one_more n.structs (incomplete name); faults = itself n.faults; texts = itself n.texts; first = refl }
+    record { structs = a.structs; faults = a.faults; texts = itself n.texts; first = a.first; sized = λ h. h }
+steps_add {n = n} (Steps.AddsEnum name) = record { structs = itself n.structs; faults = itself n.faults; texts = itself n.texts; first = refl; sized = λ h. h }
+steps_add {n = n} (Steps.AddsStruct name) = record { structs = one_more n.structs (incomplete name); faults = itself n.faults; texts = itself n.texts; first = refl; sized = λ h. h }

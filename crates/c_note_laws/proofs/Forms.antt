@@ -1,5 +1,5 @@
 -- What each form notes.
-use Rattle.std.proofs.Common.{◌==◌, ℕ, nat_le, Bool, true, false, List, [], ◌∷◌, ◌++◌, length, Option, Some, None, Ok, Err, if◌then◌else◌}
+use Rattle.std.proofs.Common.{◌==◌, ℕ, nat_le, Bool, true, false, List, [], ◌∷◌, ◌++◌, length, Option, Some, None, Ok, Err, if◌then◌else◌, ◌≡◌, suc, ◌≤◌, ◌&&◌, IsTrue, refl, ap, ◌∙◌, arith, le-leb}
 use Rattle.data_object.specs.declared.TheConstants.{MOST_DATA}
 use Rattle.c_tree.specs.declared.expressions.Expr.TheBlock as k
 use Rattle.c_tree.specs.declared.expressions.UnaryOp.{UnaryOp}
@@ -39,7 +39,7 @@ use Rattle.c_judgements.specs.declared.members.MemberMeaning.{MemberMeaning}
 use Rattle.c_judgements.specs.declared.members.MemberMeaning.TheVariants as q
 use Rattle.c_judgements.specs.Operators.{taken_by, apply_prefix, choice_of, are_two_or_more, commas_between, commas}
 use Rattle.c_judgements.specs.Names.{name_of}
-use Rattle.c_judgements.specs.Texts.{bytes_of, string_of, string}
+use Rattle.c_judgements.specs.Texts.{join_spellings, bytes_of, string_of, string}
 use Rattle.c_judgements.specs.Calls.{argument, convert_arguments, call_passing, call_of, call_by_meaning}
 use Rattle.c_judgements.specs.Members.{member_of, struct_number, target_number, field_in, field_named, arrow_in, arrow_named}
 use Rattle.c_judgements.specs.Leaves.{no_type, named_type, tag_named, enum_tagged, enum_type, struct_numbered, struct_tagged, struct_at, struct_type, leaf}
@@ -114,15 +114,22 @@ name_adds at (Some (m.Constant word)) n = Stays
 name_adds at (Some (m.Function callee result parameters)) n = AddsFault at BadOperand
 name_adds at (Some (m.Typedef ty)) n = AddsFault at BadOperand
 
-text_adds : (at : ℕ) (bytes : List ℕ) (n : Notes) → Steps n (string_of at bytes n).1
-text_adds at bytes n = choose (nat_le (length bytes) MOST_DATA)
+text_adds : (at : ℕ) (bytes : List ℕ) (n : Notes) → IsTrue (nat_le 1 (length bytes)) → Steps n (string_of at bytes n).1
+text_adds at bytes n some = choose (nat_le (length bytes) MOST_DATA) refl
   where
-    choose : (b : Bool) → Steps n (if b then and_then (new_text bytes n) (λ number. pure (Some (text at number (length bytes)))) else fault at BadType n).1
-    choose true = AddsText bytes
-    choose false = AddsFault at BadType
+    choose : (b : Bool) → nat_le (length bytes) MOST_DATA ≡ b → Steps n (if b then and_then (new_text bytes n) (λ number. pure (Some (text at number (length bytes)))) else fault at BadType n).1
+    choose true e = AddsText bytes (ap (λ b. b && nat_le (length bytes) MOST_DATA) some ∙ e)
+    choose false e = AddsFault at BadType
 
 pub string_adds : (at : ℕ) (spellings : List (List ℕ)) (n : Notes) → Steps n (string at spellings n).1
-string_adds at spellings n = text_adds at (bytes_of spellings) n
+string_adds at spellings n = text_adds at (bytes_of spellings) n (ended (join_spellings spellings))
+  where
+    longer : (k : ℕ) → 1 ≤ suc k
+    longer k = omega arith
+
+    ended : (xs : List ℕ) → IsTrue (nat_le 1 (length (xs ++ 0 ∷ [])))
+    ended [] = le-leb 1 1 (longer 0)
+    ended (x ∷ xs) = le-leb 1 (suc (length (xs ++ 0 ∷ []))) (longer (length (xs ++ 0 ∷ [])))
 
 arguments_adds : (tys : List CType) (args : List TypedExpression) (found : Option (List TExpr)) (n : Notes) → Steps n (convert_arguments tys args found n).1
 arguments_adds [] args found n = Stays

@@ -1,5 +1,6 @@
 -- What is noted is added to what was noted, by every expression, specifier and declarator.
-use Rattle.std.specs.Prelude.{◌≡◌, ℕ, List, ◌++◌, Option}
+use Rattle.std.specs.Prelude.{◌≡◌, ℕ, IsTrue, List, ◌++◌, Option}
+use Rattle.std.specs.List.{list_all}
 use Rattle.c_tree.specs.declared.expressions.Expr.{Expr}
 use Rattle.c_tree.specs.declared.types.TypeNode.{TypeNode}
 use Rattle.c_declared_types.specs.declared.declared.DeclaredType.{DeclaredType}
@@ -8,7 +9,7 @@ use Rattle.c_checks.specs.declared.notes.Notes.{Notes}
 use Rattle.c_judgements.specs.Leaves.{leaf}
 use Rattle.c_judgements.specs.Types.{State}
 use Rattle.c_expressions.specs.Expressions.{judge, derive}
-use Rattle.c_note_laws.specs.Steps.{Steps}
+use Rattle.c_note_laws.specs.Steps.{is_sized, Steps}
 
 -- ---- what is noted on the way
 
@@ -29,12 +30,13 @@ pub record StandsFirst {A : Type 0} (xs ys : List A) : Type 0 where
   pub more : List A
   pub same : ys ≡ xs ++ more
 
--- structs, faults and texts that were noted stay as they are, and others are added behind them
+-- structs, faults and texts that were noted stay as they are, and others are added behind them; each text has a size
 pub record OnlyAdds (n later : Notes) : Type 0 where
   pub structs : StandsFirst n.structs later.structs
   pub faults : StandsFirst n.faults later.faults
   pub texts : StandsFirst n.texts later.texts
   pub first : later.first_text ≡ n.first_text
+  pub sized : IsTrue (list_all is_sized n.texts) → IsTrue (list_all is_sized later.texts)
 
 abbrev pub StepsAdd : Type 0
 StepsAdd = (n later : Notes) → Steps n later → OnlyAdds n later

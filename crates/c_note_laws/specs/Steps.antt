@@ -1,11 +1,16 @@
 -- What judgements note (C99 6.5 to 6.7): faults, uses, texts, tags, and structs of which no member is known, each
 -- behind those that were noted before. Of the locals whose addresses were taken nothing is said.
-use Rattle.std.specs.Prelude.{ℕ, List, length}
+use Rattle.std.specs.Prelude.{ℕ, nat_le, Bool, ◌&&◌, IsTrue, List, length}
+use Rattle.data_object.specs.declared.TheConstants.{MOST_DATA}
 use Rattle.c_type_faults.specs.declared.faults.Kind.{Kind}
 use Rattle.c_checks.specs.declared.meanings.Tag.TheVariants as g
 use Rattle.c_checks.specs.declared.notes.Notes.{Notes}
 use Rattle.c_checks.specs.Notes.{with_fault, with_use, with_taken, new_text, apart, rejoin, new_struct, with_tag}
 use Rattle.c_judgements.specs.Leaves.{incomplete}
+
+-- a text has its closing zero at least, and is no larger than the data may be
+abbrev pub is_sized : (text : List ℕ) → Bool
+is_sized text = nat_le 1 (length text) && nat_le (length text) MOST_DATA
 
 -- one after the other
 pub data Steps : (n later : Notes) → Type 0 where
@@ -14,7 +19,7 @@ pub data Steps : (n later : Notes) → Type 0 where
   AddsFault : {n : Notes} (at : ℕ) (kind : Kind) → Steps n (with_fault at kind n)
   AddsUse : {n : Notes} (number at : ℕ) → Steps n (with_use number at n)
   ListsAddresses : {n : Notes} (addressed : List ℕ) → Steps n (with_taken addressed n.texts n)
-  AddsText : {n : Notes} (bytes : List ℕ) → Steps n (new_text bytes n).1
+  AddsText : {n : Notes} (bytes : List ℕ) → IsTrue (is_sized bytes) → Steps n (new_text bytes n).1
   -- what an operand that is not evaluated takes is forgotten
   Aside : {n m : Notes} → Steps (apart n) m → Steps n (rejoin n.addressed n.texts m)
   AddsEnum : {n : Notes} (name : List ℕ) → Steps n (with_tag name g.Enum n)

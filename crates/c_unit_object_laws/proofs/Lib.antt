@@ -1,0 +1,4 @@
+pub mod Goes
+pub mod Types
+pub mod Meant
+pub mod Objects

@@ -1,0 +1,7 @@
+pub mod Counted
+pub mod Texts
+pub mod Shapes
+pub mod Names
+pub mod Declarations
+pub mod Externals
+pub mod Units

@@ -1,0 +1,58 @@
+//! Units.
+
+ghost use Rattle.std.specs.Prelude.{◌≡◌, ◌<◌, ◌≤◌, ◌^◌, IsTrue, length, nat_lt};
+ghost use Rattle.std.specs.Bool.{OnTrue};
+ghost use Rattle.std.specs.List.{list_all};
+ghost use Rattle.c_typed_tree.specs.Lawful.{unit_nodes};
+ghost use Rattle.unit_counts.specs.Counts as spec;
+
+use c_typed_tree::{TypedFn, TypedUnit};
+use node_counts::unit_nodes;
+
+fn has_few_locals(function: &TypedFn) -> bool
+    ensures { result ≡ spec.has_few_locals function.now }
+{
+    function.locals.len() < 1 << 32
+}
+
+fn have_few_locals(functions: &[TypedFn]) -> bool
+    ensures { result ≡ list_all spec.has_few_locals functions.now }
+{
+    for function in functions {
+        if !has_few_locals(function) {
+            return false;
+        }
+    }
+    true
+}
+
+/// Whether there are fewer than 2^32 structs, functions and objects.
+fn has_few_parts(unit: &TypedUnit) -> bool
+    ensures structs { OnTrue result (length unit.now.structs < 2 ^ 32) }
+    ensures functions { OnTrue result (length unit.now.functions < 2 ^ 32) }
+    ensures globals { OnTrue result (length unit.now.globals < 2 ^ 32) }
+{
+    if unit.structs.len() >= 1 << 32 || unit.functions.len() >= 1 << 32 {
+        return false;
+    }
+    unit.globals.len() < 1 << 32
+}
+
+/// Whether there are at most 2^40 statements, expressions and locals.
+fn has_few_nodes(unit: &TypedUnit) -> bool
+    ensures { OnTrue result (unit_nodes unit.now ≤ 2 ^ 40) }
+{
+    unit_nodes(unit) <= 1 << 40
+}
+
+/// Whether a unit can be counted: there are fewer than 2^32 structs, functions and objects of static storage, and
+/// locals of each function, and at most 2^40 statements, expressions and locals.
+#[tactic(auto, using(crate::proofs::Counts::counted))]
+pub fn can_be_counted(unit: &TypedUnit) -> bool
+    ensures { OnTrue result (spec.CanBeCounted unit.now) }
+{
+    if !has_few_parts(unit) || !have_few_locals(unit.functions.as_slice()) {
+        return false;
+    }
+    has_few_nodes(unit)
+}
