@@ -4,8 +4,8 @@ use Rattle.c_type_faults.specs.declared.faults.Kind.{Kind}
 use Rattle.c_type_faults.specs.declared.faults.Kind.TheVariants as k
 use Rattle.call_outcomes.specs.declared.outcome.Outcome.{Outcome}
 use Rattle.call_outcomes.specs.declared.outcome.Outcome.TheVariants.{Built, Printed, Ran, Trapped, Stuck, Budget, Usage, FileFault, InputFault, WriteFault, Refused, Limit, BadImage, BadAsm, NoMemory}
-use Rattle.call_outcomes.specs.declared.outcome.SourceFault.TheVariants.{Form, Lex, Syntax, Typing}
-use Rattle.call_outcomes.specs.declared.outcome.Which.TheVariants.{Text, Nesting, Weight, Data, Code}
+use Rattle.call_outcomes.specs.declared.outcome.SourceFault.TheVariants.{Lex, Syntax, Typing}
+use Rattle.call_outcomes.specs.declared.outcome.Which.TheVariants.{Text, Nesting, Weight, Data}
 
 -- the name of a kind of typing fault
 abbrev pub kind_name : Kind → List ℕ
@@ -37,7 +37,6 @@ words_of Built = []
 words_of Printed = []
 words_of (Ran status) = []
 words_of Usage = codes "msc: usage\n"
-words_of (Refused Form) = codes "msc: form\n"
 words_of (Refused (Lex at)) = codes "msc: lex at "
 words_of (Refused (Syntax at)) = codes "msc: syntax at "
 words_of (Refused (Typing at kind)) = typing_words kind
@@ -46,7 +45,6 @@ words_of (Limit Text counted) = codes "msc: limit text "
 words_of (Limit Nesting counted) = codes "msc: limit nesting "
 words_of (Limit Weight counted) = codes "msc: limit weight "
 words_of (Limit Data counted) = codes "msc: limit data "
-words_of (Limit Code counted) = codes "msc: limit code "
 words_of NoMemory = codes "msc: memory\n"
 words_of WriteFault = codes "msc: write\n"
 words_of InputFault = codes "msc: input\n"

@@ -18,9 +18,6 @@ use thiserror::Error;
 /// Why a C text was refused.
 #[derive(Clone, Copy, Debug, PartialEq, Eq, Error)]
 pub enum SourceFault {
-    /// The text is not of the small form.
-    #[error("the text is not of the small form")]
-    Form,
     /// No token begins at this offset, in bytes (C99 6.4).
     #[error("no token begins at offset {at}")]
     Lex { at: u32 },
@@ -43,8 +40,6 @@ pub enum Which {
     Weight,
     /// The bytes of its data, or of the memory locals of one of its functions.
     Data,
-    /// The words of its image.
-    Code,
 }
 
 /// How a call of the compiler ended.
@@ -166,7 +161,6 @@ fn words_of(outcome: &Outcome) -> &'static str
     match outcome {
         Outcome::Built | Outcome::Printed | Outcome::Ran { .. } => "",
         Outcome::Usage => "msc: usage\n",
-        Outcome::Refused(SourceFault::Form) => "msc: form\n",
         Outcome::Refused(SourceFault::Lex { .. }) => "msc: lex at ",
         Outcome::Refused(SourceFault::Syntax { .. }) => "msc: syntax at ",
         Outcome::Refused(SourceFault::Typing { kind, .. }) => typing_words(*kind),
@@ -187,10 +181,6 @@ fn words_of(outcome: &Outcome) -> &'static str
             which: Which::Data,
             ..
         } => "msc: limit data ",
-        Outcome::Limit {
-            which: Which::Code,
-            ..
-        } => "msc: limit code ",
         Outcome::NoMemory => "msc: memory\n",
         Outcome::WriteFault => "msc: write\n",
         Outcome::InputFault => "msc: input\n",

@@ -3,7 +3,7 @@
 use anyhow::{Context, Result, bail};
 use bk_io::memory::{MemFiles, MemSink, MemSource};
 use bk_io::outside::Source;
-use msc_cli::outcome::exit_code;
+use msc_cli::outcome::{Outcome, exit_code};
 use msc_cli::top::msc_main;
 use row_sheets::escape::unescape;
 use row_sheets::number::numbers;
@@ -54,6 +54,16 @@ impl Call {
         Ok(())
     }
 
+    /// Adds a file with the image of another one.
+    fn push_image(&mut self, alloc: Global, rest: &str) -> Result<()> {
+        let (name, source) = rest.split_once(' ').context("an image without its text")?;
+        let found = self.files.iter().find(|file| file.0.as_str() == source);
+        let text = &found.context("no such file")?.1;
+        let image = built(alloc, text.as_slice())?;
+        self.files.push((name.to_string(alloc)?, image))?;
+        Ok(())
+    }
+
     fn push_words(&mut self, alloc: Global, line: &str) -> Result<(), AllocError> {
         for word in line.split(' ') {
             self.words.push(word.to_string(alloc)?)?;
@@ -69,6 +79,7 @@ impl Call {
         let (name, rest) = line.split_once(' ').unwrap_or((line, ""));
         match name {
             "file" => self.push_file(alloc, rest)?,
+            "image" => self.push_image(alloc, rest)?,
             "input" => self.input = unescape(alloc, rest)?,
             "failing-reads" => self.failing_reads = numbers(alloc, rest)?,
             "failing-inputs" => self.failing_inputs = numbers(alloc, rest)?,
@@ -110,6 +121,24 @@ impl Call {
         )?;
         shown.push(b'\n')?;
         Ok(shown)
+    }
+}
+
+/// The image that `build` makes of a text.
+fn built(alloc: Global, text: &[u8]) -> Result<Vec<u8>> {
+    let mut call = Call::new(alloc);
+    call.push_words(alloc, "msc build a.c")?;
+    let file = ("a.c".to_string(alloc)?, Vec::from_slice(alloc, text)?);
+    call.files.push(file)?;
+    let Call { words, files, .. } = call;
+    let mut files = MemFiles::new(files, Vec::new(alloc));
+    let mut input = MemSource::new(Vec::new(alloc), Vec::new(alloc));
+    let mut out = MemSink::new(alloc, ROOM, Vec::new(alloc))?;
+    let mut err = MemSink::new(alloc, ROOM, Vec::new(alloc))?;
+    let words = words.as_slice();
+    match msc_main(alloc, words, &mut files, &mut input, &mut out, &mut err) {
+        Outcome::Built => Ok(Vec::from_slice(alloc, out.taken())?),
+        outcome => bail!("no image: {outcome:?}"),
     }
 }
 

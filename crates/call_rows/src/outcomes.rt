@@ -12,7 +12,6 @@ use std::alloc::Global;
 fn refusal(name: &str, at: &str) -> Result<SourceFault> {
     let at = u32::try_from(number(at)?)?;
     Ok(match name {
-        "Form" => SourceFault::Form,
         "Lex" => SourceFault::Lex { at },
         "Syntax" => SourceFault::Syntax { at },
         _ => bail!("no refusal: {name:?}"),
@@ -50,7 +49,6 @@ fn limit(name: &str) -> Result<Which> {
         "Nesting" => Which::Nesting,
         "Weight" => Which::Weight,
         "Data" => Which::Data,
-        "Code" => Which::Code,
         _ => bail!("no limit: {name:?}"),
     })
 }

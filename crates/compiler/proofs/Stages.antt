@@ -1,6 +1,6 @@
 -- What one stage of the compiler gives to the next, by the laws of the layers below.
-use Rattle.std.proofs.Common.{◌≡◌, ℕ, ◌+◌, ◌*◌, ◌^◌, ◌<◌, ◌≤◌, List, [], ◌∷◌, Some, length, map, sym, ap, ◌∙◌, subst, arith}
-use Rattle.std.specs.Prelude.{All, IsTrue, slice_get, Result, Ok, Err, IfOk}
+use Rattle.std.proofs.Common.{◌≡◌, ℕ, ◌≤◌, List, [], ◌∷◌, sym, ap, ◌∙◌, subst, arith}
+use Rattle.std.specs.Prelude.{All, IsTrue, Result, Ok, Err, IfOk}
 use Rattle.std.proofs.lemmas.List.Elements.{All-nil, All-cons, All-head, All-tail}
 use Rattle.alpha_isa.specs.Program.{IsLawful}
 use Rattle.alpha_items.specs.Assembly.{Assembly, IsWhole}
@@ -13,7 +13,6 @@ use Rattle.data_object.specs.declared.DataObject.{DataObject}
 use Rattle.data_object.specs.declared.TheConstants.{MOST_DATA}
 use Rattle.data_object.specs.Globals.{AreLawful}
 use Rattle.data_object.specs.Layout.{data_end}
-use Rattle.c_tree.specs.declared.declarations.TranslationUnit.{TranslationUnit}
 use Rattle.c_typed_tree.specs.declared.units.TypedUnit.{TypedUnit}
 use Rattle.c_semantics.specs.Behaves.{rooms_of}
 use Rattle.suifvm_ir.specs.Functions.{AllInsns}
@@ -23,7 +22,7 @@ use Rattle.temp_ir.specs.declared.program.TempProgram.{TempProgram}
 use Rattle.temp_ir.specs.Programs.{TempFn}
 use Rattle.alloc_model.specs.declared.allocation.Allocation.{Allocation}
 use Rattle.program_rooms.specs.Ranges.{IsSmall}
-use Rattle.program_passes.specs.Prepared.{ArePrepared, IsPrepared}
+use Rattle.program_passes.specs.Prepared.{ArePrepared}
 use Rattle.prepared_laws.specs.Fit.{PreparedFunctionsFit, PreparedFunctionsHaveNames, ArePreparedOf}
 use Rattle.prepared_laws.specs.Kept.{PreparedSelectionsKeep}
 use Rattle.plain_programs.specs.Allocations.{AreAllocationsOf}
@@ -32,9 +31,9 @@ use Rattle.program_rooms.specs.Laws.{FunctionsHaveFrames, FramesFitTheirRooms}
 use Rattle.program_rooms.specs.WordLaws.{UnitTextsFitImages}
 use Rattle.program_rooms.specs.Words.{OnlyMemoryIsShort}
 use Rattle.program_rooms.specs.Assemblies.{gathered}
-use Rattle.program_rooms.specs.Layouts.{FitsProgram, FunctionsAreLaidOut}
+use Rattle.program_rooms.specs.Layouts.{FunctionsAreLaidOut}
 use Rattle.program_rooms.specs.Programs.{HasItemsOf, plans_of}
-use Rattle.program_rooms.specs.AssemblyLaws.{CanBeAssembled, AssembliesAreWhole, AssembliesHavePrograms, ProgramsAreAllocated, placing_of}
+use Rattle.program_rooms.specs.AssemblyLaws.{AssembliesAreWhole, AssembliesHavePrograms, ProgramsAreAllocated, placing_of}
 use Rattle.compile_options.specs.declared.Allocator.{Allocator}
 use Rattle.front_end.specs.Units.{IsUnitWithin}
 use Rattle.compiler.specs.declared.built.Built.{Built}

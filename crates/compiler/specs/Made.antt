@@ -1,5 +1,5 @@
 -- What is made of a text, pass by pass.
-use Rattle.std.specs.Prelude.{◌≡◌, ℕ, ◌<◌, List, All}
+use Rattle.std.specs.Prelude.{ℕ, ◌<◌, List, All}
 use Rattle.alpha_isa.specs.Program.{IsLawful}
 use Rattle.alpha_items.specs.Assembly.{IsWhole}
 use Rattle.alpha_items.specs.Words.{Words}

@@ -30,9 +30,9 @@ use front_end::{CompileFault, FrontEnd, read_unit};
 use lowering::lower;
 use plain_programs::allocate;
 use program_passes::prepare;
-use program_rooms::words::words as program_words;
-use program_rooms::words::words::allocations as allocation_laws;
-use program_rooms::words::words::allocations::assemblies as assembly_laws;
+use program_rooms::words::words;
+use program_rooms::words::words::allocations;
+use program_rooms::words::words::allocations::assemblies;
 use program_rooms::words::words::allocations::assemblies::assembly::{gather, lay_out};
 use std::alloc::{AllocError, Global};
 use suifvm_ir::program::VmProgram;
@@ -114,8 +114,8 @@ fn assembly_of(
     ensures { IfOk result (λ asm. IsAssemblyOf temps.now allocations.now asm) }
 {
     let finals = lay_out(alloc, allocations, temps.globals.as_slice())?;
-    allocation_laws::laws::as_many_are_laid_out();
-    assembly_laws::laws::assemblies_are_whole();
+    allocations::laws::as_many_are_laid_out();
+    assemblies::laws::assemblies_are_whole();
     gather(alloc, finals.as_slice(), temps.globals.as_slice())
 }
 
@@ -126,7 +126,7 @@ fn image_of(alloc: Global, asm: &Asm) -> Result<Image, CompileFault>
     ensures lawful { IfOk result (λ i. image.IsLawful i) }
     ensures fault { IfErr result (λ f. (f ≡ NoMemory) × MemoryIsShort) }
 {
-    program_words::laws::light_texts_fit_images();
+    words::laws::light_texts_fit_images();
     match assemble(alloc, asm) {
         Ok(image) => Ok(image),
         Err(AsmFault::NoMemory) => Err(CompileFault::NoMemory),

@@ -3,9 +3,9 @@
 
 ghost use Rattle.compiler.specs.model.Stages.{CodeCanBeLaidOut, AssembliesAreMade, ImagesAreSame};
 
-use program_rooms::words as unit_words;
-use program_rooms::words::words::allocations as allocation_laws;
-use program_rooms::words::words::allocations::assemblies as assembly_laws;
+use program_rooms::words;
+use program_rooms::words::words::allocations;
+use program_rooms::words::words::allocations::assemblies;
 
 /// The code of a unit within the limits can be laid out by an allocation for each of its functions.
 pub(crate) fn code_can_be_laid_out()
@@ -14,8 +14,8 @@ pub(crate) fn code_can_be_laid_out()
     prepared_laws::laws::prepared_functions_fit();
     prepared_laws::laws::prepared_functions_have_names();
     program_rooms::laws::functions_have_frames();
-    allocation_laws::laws::allocations_fit();
-    allocation_laws::laws::labels_are_few();
+    allocations::laws::allocations_fit();
+    allocations::laws::labels_are_few();
 }
 
 /// The assembly of it is one of the unit, and its text is not too long.
@@ -27,11 +27,11 @@ pub(crate) fn assemblies_are_made()
     prepared_laws::laws::prepared_functions_fit();
     program_rooms::laws::functions_have_frames();
     program_rooms::laws::frames_fit_their_rooms();
-    allocation_laws::laws::allocations_fit();
-    allocation_laws::laws::allocations_are_near();
-    assembly_laws::laws::assemblies_have_programs();
-    assembly_laws::laws::programs_are_allocated();
-    unit_words::laws::unit_texts_fit_images();
+    allocations::laws::allocations_fit();
+    allocations::laws::allocations_are_near();
+    assemblies::laws::assemblies_have_programs();
+    assemblies::laws::programs_are_allocated();
+    words::laws::unit_texts_fit_images();
 }
 
 /// The image of it behaves as the unit does.

@@ -1,5 +1,6 @@
 -- What is assembled of the text that was read of a file.
-use Rattle.std.proofs.Common.{◌≡◌, ◌≢◌, ◌⊎◌, ℕ, ◌≤◌, List, inl, inr, length, take, ap, refl, subst, arith, length-take, Option, Some, None, IfSome}
+use Rattle.std.proofs.Common.{◌≡◌, ◌≢◌, ◌⊎◌, ℕ, ◌≤◌, List, inl, inr, length, take, ap, refl, sym, subst, arith, length-take, Option, Some, None, IfSome}
+use Rattle.bk_memory.specs.Shortage.{MemoryIsShort}
 use Rattle.bk_io.specs.Shelf.{Shelf, file_of}
 use Rattle.alpha_isa.specs.Program.{Program}
 use Rattle.alpha_items.specs.Assembly.{Assembly, IsWhole}
@@ -11,14 +12,13 @@ use Rattle.alpha_text.specs.declared.fault.TextFault.{TextFault}
 use Rattle.alpha_text.specs.declared.fault.TextFault.TheVariants as lines
 use Rattle.alpha_text.proofs.Sizes.{count_in_text, words_in_text}
 use Rattle.alpha_text.proofs.Again.{fault_again}
-use Rattle.alpha_asm.specs.Fault.{IsFaultOf}
-use Rattle.alpha_asm.specs.declared.assemble.AsmFault.{AsmFault}
+use Rattle.alpha_asm.specs.Fault.{HasFewWords, IsFaultOf}
 use Rattle.alpha_asm.specs.declared.assemble.AsmFault.TheVariants as asm
 use Rattle.call_outcomes.specs.declared.outcome.Outcome.{Outcome}
 use Rattle.call_outcomes.specs.declared.outcome.Outcome.TheVariants.{Built, FileFault, InputFault, WriteFault, Limit, BadAsm, NoMemory}
 use Rattle.call_outcomes.specs.declared.outcome.Which.TheVariants.{Text}
 use Rattle.call_outcomes.specs.FromFile.{IsFront}
-use Rattle.msc_cli.specs.model.Causes.{outcome_of_text_fault, outcome_of_asm_fault}
+use Rattle.msc_cli.specs.model.Causes.{outcome_of_text_fault}
 use Rattle.call_outcomes.specs.FromFile.{IsCause, text_of}
 use Rattle.msc_cli.specs.AssembleText.{IsAssembled, SpellsNoImage, RefusesAssembly, Assembles}
 
@@ -26,11 +26,16 @@ use Rattle.msc_cli.specs.AssembleText.{IsAssembled, SpellsNoImage, RefusesAssemb
 few_bytes : (text : List ℕ) (n : ℕ) → length text ≤ 67108864 → IsFault text (lines.Data n) → ⊥
 few_bytes text n low counted = omega (arith, low, count_in_text text n counted.0, counted.1)
 
-few_words : (text : List ℕ) (a : Assembly) (n : ℕ) → length text ≤ 67108864 → Texts text a → IsFaultOf a (asm.CodeTooLong n) → ⊥
-few_words text a n low is fault =
-    let has = fault.0 in
-    let few : text_words a.items has.far ≤ length (asm_text a) = words_in_text a has.far in
-    omega (arith, low, ap length is, few, has.words, fault.1)
+pub few_words : (text : List ℕ) (a : Assembly) → length text ≤ 67108864 → Texts text a → HasFewWords a
+few_words text a low is = record {
+  most = λ n has.
+      let few : text_words a.items has.far ≤ length (asm_text a) = words_in_text a has.far in
+      omega (arith, low, ap length is, few, has.words);
+}
+
+-- an assembly with few words is not refused for their number
+pub no_more_words : (a : Assembly) (n : ℕ) → HasFewWords a → IsFaultOf a (asm.CodeTooLong n) → ⊥
+no_more_words a n few fault = let most = few.most n fault.0 in omega (arith, most, fault.1)
 
 -- why there is no image
 pub text_cause : (text : List ℕ) (f : TextFault) → length text ≤ 67108864 → IsFault text f → IsCause (RefusesAssembly (Some text)) (outcome_of_text_fault f)
@@ -38,9 +43,8 @@ text_cause text (lines.Line n) low h = (low, h)
 text_cause text (lines.Data n) low h = absurd (few_bytes text n low h)
 text_cause text lines.NoMemory low h = inl h
 
-pub asm_cause : (text : List ℕ) (a : Assembly) (f : AsmFault) → length text ≤ 67108864 → Texts text a → IsFaultOf a f → IsCause (RefusesAssembly (Some text)) (outcome_of_asm_fault f)
-asm_cause text a (asm.CodeTooLong n) low is h = absurd (few_words text a n low is h)
-asm_cause text a asm.NoMemory low is h = inl h
+pub memory_cause : (text : List ℕ) (o : Outcome) → (o ≡ NoMemory) × MemoryIsShort → IsCause (RefusesAssembly (Some text)) o
+memory_cause text o short = subst (IsCause (RefusesAssembly (Some text))) (sym short.0) (inl short.1)
 
 -- none of these outcomes is a fault of the outside
 pub text_no_fault : (f : TextFault) → (outcome_of_text_fault f ≢ FileFault) × (outcome_of_text_fault f ≢ InputFault) × (outcome_of_text_fault f ≢ WriteFault)
@@ -48,9 +52,8 @@ text_no_fault (lines.Line n) = (λ e. cc, λ e. cc, λ e. cc)
 text_no_fault (lines.Data n) = (λ e. cc, λ e. cc, λ e. cc)
 text_no_fault lines.NoMemory = (λ e. cc, λ e. cc, λ e. cc)
 
-pub asm_no_fault : (f : AsmFault) → (outcome_of_asm_fault f ≢ FileFault) × (outcome_of_asm_fault f ≢ InputFault) × (outcome_of_asm_fault f ≢ WriteFault)
-asm_no_fault (asm.CodeTooLong n) = (λ e. cc, λ e. cc, λ e. cc)
-asm_no_fault asm.NoMemory = (λ e. cc, λ e. cc, λ e. cc)
+pub memory_no_fault : (o : Outcome) → (o ≡ NoMemory) × MemoryIsShort → (o ≢ FileFault) × (o ≢ InputFault) × (o ≢ WriteFault)
+memory_no_fault o short = let is : o ≡ NoMemory = short.0 in (λ e. cc, λ e. cc, λ e. cc)
 
 -- a front within the limit is the whole file
 short : (file text : List ℕ) → text ≡ take 67108865 file → 67108865 ≤ length file → length text ≤ 67108864 → ⊥

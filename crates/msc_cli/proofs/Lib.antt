@@ -1,14 +1,2 @@
-pub mod Compile
-pub mod ImageFronts
-pub mod MigrateImages
-pub mod Numbers
-pub mod RunImages
 pub mod AssembleTexts
-pub mod SmallRun
-pub mod SmallSame
-pub mod SmallSteps
-pub mod Steps
-pub mod Units
-pub mod Whole
-pub mod SmallAsks
-pub mod SmallEnds
+pub mod Calls

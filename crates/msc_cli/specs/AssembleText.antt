@@ -9,7 +9,7 @@ use Rattle.call_outcomes.specs.declared.outcome.Outcome.{Outcome}
 use Rattle.call_outcomes.specs.declared.outcome.Outcome.TheVariants.{Limit, BadAsm}
 use Rattle.call_outcomes.specs.declared.outcome.Which.TheVariants.{Text}
 use Rattle.call_outcomes.specs.FromFile.{Does}
-use Rattle.msc_cli.specs.BuildImage.{WritesImage}
+use Rattle.image_calls.specs.WriteImage.{WritesImage}
 use Rattle.msc_cli.specs.Limits.{most_assembly, assembly_limit}
 
 -- The text is within the limit and that of a whole assembly, and the image is the assembly's.

@@ -1,19 +1,23 @@
 -- What the top call answers by its words, and what it leaves.
-use Rattle.std.specs.Prelude.{◌≡◌, ◌↔◌, ℕ, List, Option, Some, None, IfSome, IsTrue, option_map}
+use Rattle.std.specs.Prelude.{◌≡◌, ◌↔◌, ◌⊎◌, ℕ, List, Option, Some, None, IfSome, IsTrue, option_map}
+use Rattle.bk_memory.specs.Shortage.{MemoryIsShort}
 use Rattle.bk_io.specs.Shelf.{Shelf, is_due, after_call}
 use Rattle.alpha_run.specs.Run.{Traffic}
-use Rattle.call_outcomes.specs.declared.outcome.Outcome.{Outcome}
-use Rattle.call_outcomes.specs.declared.outcome.Outcome.TheVariants.{Usage, FileFault}
-use Rattle.msc_cli.specs.declared.request.Command.{Command}
-use Rattle.msc_cli.specs.declared.request.Command.TheVariants.{Build, Run, Vm, Exec, Migrate, Assemble, Print}
-use Rattle.call_outcomes.specs.FromFile.{text_of}
-use Rattle.msc_cli.specs.BuildImage.{Builds}
-use Rattle.msc_cli.specs.RunImage.{Runs, Executes}
-use Rattle.msc_cli.specs.MigrateImage.{Migrates}
-use Rattle.msc_cli.specs.AssembleText.{Assembles}
-use Rattle.pass_calls.specs.Print.{Prints}
-use Rattle.pass_calls.specs.Vm.{RunsText}
 use Rattle.suifvm_run.specs.Run as vm
+use Rattle.call_outcomes.specs.declared.outcome.Outcome.{Outcome}
+use Rattle.call_outcomes.specs.declared.outcome.Outcome.TheVariants.{Usage, FileFault, NoMemory}
+use Rattle.call_outcomes.specs.FromFile.{text_of}
+use Rattle.compile_options.specs.declared.Allocator.{Allocator}
+use Rattle.compile_options.specs.declared.Allocator.TheVariants.{Plain}
+use Rattle.call_words.specs.declared.request.Command.{Command}
+use Rattle.call_words.specs.declared.request.Command.TheVariants.{Build, Run, Vm, Exec, Migrate, Assemble, Print}
+use Rattle.compile_calls.specs.Build.{Builds}
+use Rattle.compile_calls.specs.Run.{Runs}
+use Rattle.compile_calls.specs.Vm.{RunsText}
+use Rattle.compile_calls.specs.Print.{Prints}
+use Rattle.image_calls.specs.RunImage.{Executes}
+use Rattle.image_calls.specs.MigrateImage.{Migrates}
+use Rattle.msc_cli.specs.AssembleText.{Assembles}
 
 -- what is asked for: a command and the name of its file
 abbrev pub Call : Type 0
@@ -27,22 +31,28 @@ LeavesInput before after = (after.left ≡ before.left) × (after.made ≡ befor
 abbrev pub vm_traffic : Traffic → vm.Traffic
 vm_traffic t = record { left = t.left; made = t.made; taken = t.taken }
 
+-- the allocator of a compile by a command that does not ask for one
+abbrev pub default_allocator : Allocator
+default_allocator = Plain
+
 -- What is answered by what is asked for, with the bytes of the file where they are told, and what that did to the input
 -- and the output. Where nothing is asked for, that is all.
 abbrev pub AnswersCall : Call → Option Shelf → Outcome → Traffic → Traffic → Type 0
 AnswersCall None told answer before after = (answer ≡ Usage) × (after ≡ before)
-AnswersCall (Some (Build, file)) told answer before after =
-    Builds (text_of told file) answer before.taken after.taken × LeavesInput before after
-AnswersCall (Some (Run, file)) told answer before after = Runs (text_of told file) answer before after
-AnswersCall (Some (Vm, file)) told answer before after =
-    RunsText (text_of told file) answer (vm_traffic before) (vm_traffic after)
-AnswersCall (Some (Exec, file)) told answer before after = Executes (text_of told file) answer before after
+AnswersCall (Some (Build options, file)) told answer before after =
+    Builds options.allocator (text_of told file) answer before.taken after.taken × LeavesInput before after
+AnswersCall (Some (Run options limits, file)) told answer before after =
+    Runs options.allocator limits (text_of told file) answer before after
+AnswersCall (Some (Vm turns, file)) told answer before after =
+    RunsText default_allocator turns (text_of told file) answer (vm_traffic before) (vm_traffic after)
+AnswersCall (Some (Exec limits, file)) told answer before after =
+    Executes limits (text_of told file) answer before after
 AnswersCall (Some (Migrate, file)) told answer before after =
     Migrates (text_of told file) answer before.taken after.taken × LeavesInput before after
 AnswersCall (Some (Assemble, file)) told answer before after =
     Assembles (text_of told file) answer before.taken after.taken × LeavesInput before after
-AnswersCall (Some (Print pass, file)) told answer before after =
-    Prints pass (text_of told file) answer before.taken after.taken × LeavesInput before after
+AnswersCall (Some (Print pass options, file)) told answer before after =
+    Prints options.allocator pass (text_of told file) answer before.taken after.taken × LeavesInput before after
 
 -- a fault of the file comes exactly where its read is due to fail
 abbrev pub FailsWhereDue : Call → Option Shelf → Outcome → Type 0
@@ -54,3 +64,16 @@ FailsWhereDue (Some (command, file)) told answer =
 abbrev pub told_after : Call → Option Shelf → Option Shelf
 told_after None told = told
 told_after (Some request) told = option_map after_call told
+
+-- The call is answered, a fault of the file comes where it is due, and the file was read once.
+pub record IsAnswered (call : Call) (answer : Outcome) (told told_new : Option Shelf) (before after : Traffic) :
+    Type 0 where
+  pub answers : AnswersCall call told answer before after
+  pub fails : FailsWhereDue call told answer
+  pub told_is : told_new ≡ told_after call told
+
+-- Memory is short for the words, and nothing is read or put; or what they ask for is answered.
+abbrev pub AnswersWords : Call → Outcome → (told told_new : Option Shelf) → (before after : Traffic) → Type 0
+AnswersWords call answer told told_new before after =
+    ((answer ≡ NoMemory) × (told_new ≡ told) × (after ≡ before) × MemoryIsShort)
+    ⊎ IsAnswered call answer told told_new before after

@@ -1,11 +1,4 @@
 pub mod Limits
-pub mod Same
-pub mod SmallImage
-pub mod Request
-pub mod ReadSmall
-pub mod BuildImage
-pub mod RunImage
-pub mod MigrateImage
 pub mod AssembleText
 pub mod Call
 pub mod model

@@ -1,3 +1,1 @@
-pub mod AnswersScan
-pub mod ImageLimit
 pub mod Causes

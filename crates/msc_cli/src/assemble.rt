@@ -5,17 +5,21 @@ ghost use Rattle.bk_io.specs.Shelf.{is_due, after_call};
 ghost use Rattle.call_outcomes.specs.FromFile.{IsCause, text_of};
 ghost use Rattle.msc_cli.specs.Limits.{most_assembly, assembly_limit};
 ghost use Rattle.msc_cli.specs.model.Causes as spec;
+ghost use Rattle.alpha_asm.specs.Fault.{HasFewWords};
+ghost use Rattle.alpha_items.specs.Words.{Words};
+ghost use Rattle.bk_memory.specs.Shortage.{MemoryIsShort};
 ghost use Rattle.msc_cli.specs.AssembleText.{IsAssembled, RefusesAssembly, Assembles};
 ghost use Rattle.call_outcomes.specs.Output.{file_faults_after, output_faults_after};
 
-use crate::build::write_image;
 use alpha_asm::assemble::{AsmFault, assemble as image_of};
 use alpha_isa::image::Image;
+use alpha_items::asm::Asm;
 use alpha_text::fault::TextFault;
 use alpha_text::read::read_asm;
 use bk_io::outside::{Files, Sink};
 use call_outcomes::files::read_file;
 use call_outcomes::outcome::{Outcome, Which};
+use image_calls::write_image;
 use std::alloc::Global;
 
 /// How many bytes of an assembly text are read: one more than it may have.
@@ -32,19 +36,6 @@ fn outcome_of_text_fault(fault: TextFault) -> Outcome
             counted,
         },
         TextFault::NoMemory => Outcome::NoMemory,
-    }
-}
-
-/// The outcome where an assembly has no image.
-fn outcome_of_asm_fault(fault: AsmFault) -> Outcome
-    ensures { result ≡ spec.outcome_of_asm_fault fault }
-{
-    match fault {
-        AsmFault::CodeTooLong { words } => Outcome::Limit {
-            which: Which::Code,
-            counted: words,
-        },
-        AsmFault::NoMemory => Outcome::NoMemory,
     }
 }
 
@@ -83,8 +74,21 @@ fn assemble_text<O: Sink>(alloc: Global, text: &[u8], out: &mut O) -> Outcome
     }
 }
 
-/// The image of the assembly whose text this is.
-#[tactic(auto, using(crate::proofs::AssembleTexts::text_cause, crate::proofs::AssembleTexts::asm_cause, crate::proofs::AssembleTexts::text_no_fault, crate::proofs::AssembleTexts::asm_no_fault, crate::proofs::AssembleTexts::assembled_by))]
+/// The image of an assembly whose text is not too long.
+fn image_of_asm(alloc: Global, asm: &Asm) -> Result<Image, Outcome>
+    requires { HasFewWords asm.now }
+    ensures image { IfOk result (λ image. Words asm.now image) }
+    ensures fault { IfErr result (λ outcome. (outcome ≡ Outcome.NoMemory) × MemoryIsShort) }
+{
+    match image_of(alloc, asm) {
+        Ok(image) => Ok(image),
+        Err(AsmFault::NoMemory) => Err(Outcome::NoMemory),
+        Err(AsmFault::CodeTooLong { .. }) => unreachable!(),
+    }
+}
+
+/// The image of the assembly whose text this is. A text within the limit has no more words than an image may have.
+#[tactic(auto, using(crate::proofs::AssembleTexts::text_cause, crate::proofs::AssembleTexts::text_no_fault, crate::proofs::AssembleTexts::memory_cause, crate::proofs::AssembleTexts::memory_no_fault, crate::proofs::AssembleTexts::assembled_by, crate::proofs::AssembleTexts::few_words))]
 fn image_of_text(alloc: Global, text: &[u8]) -> Result<Image, Outcome>
     requires { length text.now ≤ most_assembly }
     ensures image { IfOk result (λ image. IsAssembled text.now image) }
@@ -96,8 +100,8 @@ fn image_of_text(alloc: Global, text: &[u8]) -> Result<Image, Outcome>
         Ok(asm) => asm,
         Err(fault) => return Err(outcome_of_text_fault(fault)),
     };
-    match image_of(alloc, &asm) {
+    match image_of_asm(alloc, &asm) {
         Ok(image) => Ok(image),
-        Err(fault) => Err(outcome_of_asm_fault(fault)),
+        Err(outcome) => Err(outcome),
     }
 }

@@ -1,25 +1,34 @@
 //! The top call.
 
-ghost use Rattle.std.specs.Prelude.{◌≡◌, ◌↔◌, None, map, string_bytes};
+ghost use Rattle.std.specs.Prelude.{◌≡◌, ◌≢◌, Some, None, map, string_bytes};
 ghost use Rattle.call_outcomes.specs.Outcome.{line_of};
 ghost use Rattle.call_outcomes.specs.Output.{TookUnlessFault, file_faults_after, input_faults_after, output_faults_after};
-ghost use Rattle.msc_cli.specs.Request.{request_of};
-ghost use Rattle.msc_cli.specs.Call.{AnswersCall, FailsWhereDue, told_after};
+ghost use Rattle.call_words.specs.Request.{request_of, HasStack};
+ghost use Rattle.msc_cli.specs.Call.{AnswersCall, FailsWhereDue, told_after, AnswersWords};
 
 use crate::assemble::assemble;
-use crate::build::build;
-use crate::migrate::migrate;
-use crate::request::{Command, read_words};
-use crate::run::{exec, run};
 use bk_io::outside::{Files, Sink, Source};
 use call_outcomes::outcome::{Outcome, put_line};
-use pass_calls::print::print;
-use pass_calls::vm::vm;
+use call_words::{Command, Request, WordsFault, read_words};
+use compile_calls::build::build;
+use compile_calls::print::print;
+use compile_calls::run::run;
+use compile_calls::vm::vm;
+use compile_options::{Allocator, Options};
+use image_calls::exec::exec;
+use image_calls::migrate::migrate;
 use std::alloc::Global;
 
-/// Does what the words ask for, `build FILE`, `run FILE`, `vm FILE`, `exec FILE`, `migrate FILE`, `assemble FILE` or
-/// `print FILE --pass PASS` with the pass `tree`, `vm` or `graph`, and writes the outcome's line to `err`. `words[0]` is
-/// the program's name. The file that is named is read once, and no other. A failed write to `err` changes no outcome.
+/// How a text is compiled by a command that does not ask for it.
+const DEFAULT_OPTIONS: Options = Options {
+    allocator: Allocator::Plain,
+};
+
+/// Does what the words ask for, and writes the outcome's line to `err`. `words[0]` is the program's name. The file that is
+/// named is read once, and no other. A failed write to `err` changes no outcome.
+///
+/// The commands are `build`, `run`, `vm`, `exec`, `migrate`, `assemble` and `print`, each with the options that
+/// [`read_words`] takes. Where nothing is asked for, the answer is [`Outcome::Usage`].
 pub fn msc_main<F: Files, I: Source, O: Sink, E: Sink>(
     alloc: Global,
     words: &[String],
@@ -28,18 +37,14 @@ pub fn msc_main<F: Files, I: Source, O: Sink, E: Sink>(
     out: &mut O,
     err: &mut E,
 ) -> Outcome
-    // Which outcomes there are by the words, the file and the input, and what was done to the input and the output.
-    ensures answer { AnswersCall (request_of (map string_bytes words.now)) (F.told files.old) result
+    // Which outcomes there are by the words, the file and the input, what was done to the input and the output, and that
+    // the file that is named is read once.
+    ensures answer { AnswersWords (request_of (map string_bytes words.now)) result (F.told files.old) (F.told files.new)
         (record { left = I.left input.old; made = I.made input.old; taken = O.taken out.old })
         (record { left = I.left input.new; made = I.made input.new; taken = O.taken out.new }) }
-    ensures usage { (result ≡ Outcome.Usage) ↔ (request_of (map string_bytes words.now) ≡ None) }
+    ensures usage { result ≡ Outcome.Usage → request_of (map string_bytes words.now) ≡ None }
 
-    // A fault of the file comes exactly where its read is due to fail, where the files tell that.
-    ensures file { FailsWhereDue (request_of (map string_bytes words.now)) (F.told files.old) result }
-
-    // The file that is named is read once. Each count of faults rises by one where the outcome tells that fault, and
-    // else is as before.
-    ensures told { F.told files.new ≡ told_after (request_of (map string_bytes words.now)) (F.told files.old) }
+    // Each count of faults rises by one where the outcome tells that fault, and else is as before.
     ensures file_count { F.faults files.new ≡ file_faults_after result (F.faults files.old) }
     ensures input_count { I.faults input.new ≡ input_faults_after result (I.faults input.old) }
     ensures output_count { O.faults out.new ≡ output_faults_after result (O.faults out.old) }
@@ -60,26 +65,49 @@ fn perform<F: Files, I: Source, O: Sink>(
     input: &mut I,
     out: &mut O,
 ) -> Outcome
-    ensures answer { AnswersCall (request_of (map string_bytes words.now)) (F.told files.old) result
+    ensures answer { AnswersWords (request_of (map string_bytes words.now)) result (F.told files.old) (F.told files.new)
         (record { left = I.left input.old; made = I.made input.old; taken = O.taken out.old })
         (record { left = I.left input.new; made = I.made input.new; taken = O.taken out.new }) }
-    ensures usage { (result ≡ Outcome.Usage) ↔ (request_of (map string_bytes words.now) ≡ None) }
-    ensures file { FailsWhereDue (request_of (map string_bytes words.now)) (F.told files.old) result }
-    ensures told { F.told files.new ≡ told_after (request_of (map string_bytes words.now)) (F.told files.old) }
+    ensures usage { result ≡ Outcome.Usage → request_of (map string_bytes words.now) ≡ None }
     ensures file_count { F.faults files.new ≡ file_faults_after result (F.faults files.old) }
     ensures input_count { I.faults input.new ≡ input_faults_after result (I.faults input.old) }
     ensures output_count { O.faults out.new ≡ output_faults_after result (O.faults out.old) }
 {
-    let Some(request) = read_words(words) else {
-        return Outcome::Usage;
-    };
+    match read_words(alloc, words) {
+        Ok(request) => answer_request(alloc, request, files, input, out),
+        Err(WordsFault::Usage) => Outcome::Usage,
+        Err(WordsFault::NoMemory) => Outcome::NoMemory,
+    }
+}
+
+/// Does what is asked for.
+fn answer_request<F: Files, I: Source, O: Sink>(
+    alloc: Global,
+    request: Request<'_>,
+    files: &mut F,
+    input: &mut I,
+    out: &mut O,
+) -> Outcome
+    requires { HasStack request.command }
+    ensures answer { AnswersCall (Some (request.entry.command, request.entry.file.now)) (F.told files.old) result
+        (record { left = I.left input.old; made = I.made input.old; taken = O.taken out.old })
+        (record { left = I.left input.new; made = I.made input.new; taken = O.taken out.new }) }
+    ensures asked { result ≢ Outcome.Usage }
+    ensures due { FailsWhereDue (Some (request.entry.command, request.entry.file.now)) (F.told files.old) result }
+    ensures told { F.told files.new
+        ≡ told_after (Some (request.entry.command, request.entry.file.now)) (F.told files.old) }
+    ensures file_count { F.faults files.new ≡ file_faults_after result (F.faults files.old) }
+    ensures input_count { I.faults input.new ≡ input_faults_after result (I.faults input.old) }
+    ensures output_count { O.faults out.new ≡ output_faults_after result (O.faults out.old) }
+{
+    let file = request.file;
     match request.command {
-        Command::Build => build(alloc, request.file, files, out),
-        Command::Run => run(alloc, request.file, files, input, out),
-        Command::Vm => vm(alloc, request.file, files, input, out),
-        Command::Exec => exec(alloc, request.file, files, input, out),
-        Command::Migrate => migrate(alloc, request.file, files, out),
-        Command::Assemble => assemble(alloc, request.file, files, out),
-        Command::Print(pass) => print(alloc, pass, request.file, files, out),
+        Command::Build(options) => build(alloc, &options, file, files, out),
+        Command::Run(options, limits) => run(alloc, &options, limits, file, files, input, out),
+        Command::Vm { turns } => vm(alloc, &DEFAULT_OPTIONS, turns, file, files, input, out),
+        Command::Exec(limits) => exec(alloc, limits, file, files, input, out),
+        Command::Migrate => migrate(alloc, file, files, out),
+        Command::Assemble => assemble(alloc, file, files, out),
+        Command::Print(pass, options) => print(alloc, &options, pass, file, files, out),
     }
 }

@@ -13,11 +13,11 @@ use Rattle.vm_meaning.specs.Behave.{Registers, registers_of, sizes_in, vm_code}
 use Rattle.suifvm_run.specs.declared.machine.Call.{Call}
 use Rattle.suifvm_run.specs.declared.machine.Machine.{Machine}
 use Rattle.suifvm_run.specs.declared.machine.Stop.TheVariants as stop
-use Rattle.suifvm_run.specs.declared.machine.Turn.TheVariants as turn
+use Rattle.suifvm_run.specs.declared.machine.NoStart.TheVariants as no_start
 use Rattle.suifvm_run.specs.declared.tables.FunctionTable.{FunctionTable}
 use Rattle.suifvm_run.specs.declared.tables.ProgramTable.{ProgramTable}
 use Rattle.vm_operations.specs.Tidy.{IsTidy}
-use Rattle.suifvm_run.specs.model.Begin.{start_at, first_hidden, Begins, EndsAtOnce}
+use Rattle.suifvm_run.specs.model.Begin.{start_at, first_hidden, Begins, HasNoStart}
 use Rattle.suifvm_run.specs.model.Config.{Wait, config_of, frames_of}
 use Rattle.suifvm_run.specs.model.Tables.{functions_of, AreNumbered}
 use Rattle.suifvm_run.proofs.Sites.{sizes_are, site_past, site_missing, number_past, number_missing}
@@ -106,7 +106,7 @@ module _ (m : Machine) (main turns : ℕ) (old : Memory) (made : ℕ)
         }
 
 module _ (p : ProgramTable) (main turns : ℕ) (memory : Memory) (numbers : AreNumbered 0 p.functions.items p.end) where
-  pub no_function_at_once : slice_get p.functions.items main ≡ None → EndsAtOnce p main memory turns (turn.Over (stop.Undefined p.end))
+  pub no_function_at_once : slice_get p.functions.items main ≡ None → HasNoStart p main memory turns (no_start.Over (stop.Undefined p.end))
   no_function_at_once none rooms input = record {
     last = (start_at rooms p main memory turns input).world;
     over = ap (λ o. go_on (step_at Value Registers rooms (vm_code (functions_of p)) (start_at rooms p main memory turns input) o) (λ k. Goes k)) (site_missing p main 0 0 none)
@@ -114,7 +114,7 @@ module _ (p : ProgramTable) (main turns : ℕ) (memory : Memory) (numbers : AreN
     shows = record { input = refl; takings = refl; output = refl };
   }
 
-  pub no_block_at_once : (t : FunctionTable) → slice_get p.functions.items main ≡ Some t → slice_get t.blocks.items 0 ≡ None → EndsAtOnce p main memory turns (turn.Over (stop.Undefined t.end))
+  pub no_block_at_once : (t : FunctionTable) → slice_get p.functions.items main ≡ Some t → slice_get t.blocks.items 0 ≡ None → HasNoStart p main memory turns (no_start.Over (stop.Undefined t.end))
   no_block_at_once t there none rooms input = record {
     last = (start_at rooms p main memory turns input).world;
     over = ap (λ o. go_on (step_at Value Registers rooms (vm_code (functions_of p)) (start_at rooms p main memory turns input) o) (λ k. Goes k)) (site_past p main t there 0 0 none)

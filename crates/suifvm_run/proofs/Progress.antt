@@ -2,6 +2,7 @@
 use Rattle.std.proofs.Common.{◌≡◌, ℕ, suc, ◌+◌, List, [], ◌∷◌, ◌++◌, drop, Option, Some, None, option_map, refl, sym, ap, ◌∙◌, subst, append_assoc}
 use Rattle.std.specs.Prelude.{slice_get}
 use Rattle.std.proofs.Math.Numerals.{add-one}
+use Rattle.bk_memory.specs.Shortage.{MemoryIsShort}
 use Rattle.bk_io.specs.Outside.{next_count, taken_with}
 use Rattle.mem_model.specs.declared.value.Value.{Value}
 use Rattle.mem_model.specs.declared.value.Value.TheVariants.{Word}
@@ -48,10 +49,10 @@ calls_by turns (stop.Traps code) n = refl
 calls_by turns (stop.Undefined number) n = refl
 calls_by turns stop.Budget n = refl
 
-pub no_memory_left : (rooms : Rooms) (p : ProgramTable) (start : Config Registers) (turns : ℕ) (told now : Traffic) (m : Machine) → StandsAt rooms p start told now m → IsRun (run_from rooms p start) turns e.NoMemory told now
-no_memory_left rooms p start turns told now m at = record {
+pub no_memory_left : (rooms : Rooms) (p : ProgramTable) (start : Config Registers) (turns : ℕ) (told now : Traffic) (m : Machine) → MemoryIsShort → StandsAt rooms p start told now m → IsRun (run_from rooms p start) turns e.NoMemory told now
+no_memory_left rooms p start turns told now m short at = record {
   last = world_in m at.hidden;
-  stops = record { steps = at.steps; config = config_of m at.hidden; goes = at.reached; world = refl };
+  stops = (record { steps = at.steps; config = config_of m at.hidden; goes = at.reached; world = refl }, short);
   left = at.left;
   made = at.made;
   taken = at.taken;
@@ -166,11 +167,15 @@ module _ (rooms : Rooms) (start : Config Registers) (turns : ℕ) (told : Traffi
         taken = taken ∙ at.taken ∙ ap (λ o. option_map (λ bytes. bytes ++ o) told.taken) (sym g.same.output);
       }
 
-  pub take_no_memory : (now after : Traffic) (d : Option ℕ) → TurnIs m new (turn.Takes d) (λ rs h. step_there rs m h) → StandsAt rooms p start told now m → after.left ≡ option_map (drop 1) now.left → after.made ≡ option_map next_count now.made → after.taken ≡ now.taken → IsRun run turns e.NoMemory told after
-  take_no_memory now after d t at left made taken =
+  -- where memory is short the run goes on
+  pub short_there : TurnIs m new turn.NoMemory (λ rs h. step_there rs m h) → (now : Traffic) → StandsAt rooms p start told now m → MemoryIsShort
+  short_there t now at = t.comes rooms at.hidden
+
+  pub take_no_memory : (now after : Traffic) (d : Option ℕ) → MemoryIsShort → TurnIs m new (turn.Takes d) (λ rs h. step_there rs m h) → StandsAt rooms p start told now m → after.left ≡ option_map (drop 1) now.left → after.made ≡ option_map next_count now.made → after.taken ≡ now.taken → IsRun run turns e.NoMemory told after
+  take_no_memory now after d short t at left made taken =
       let g : GoesTo (step_there rooms m at.hidden) (waiting d) at.hidden = t.comes rooms at.hidden in record {
         last = (waiting d g.hidden).world;
-        stops = record { steps = suc at.steps; config = waiting d g.hidden; goes = one at.steps at.hidden (waiting d g.hidden) at.reached g.goes; world = refl };
+        stops = (record { steps = suc at.steps; config = waiting d g.hidden; goes = one at.steps at.hidden (waiting d g.hidden) at.reached g.goes; world = refl }, short);
         left = left ∙ ap (option_map (drop 1)) (at.left ∙ ap (λ x. Some x) (sym g.same.input));
         made = made ∙ ap (option_map next_count) at.made ∙ counted at.hidden.takings told.made
             ∙ ap (λ n. option_map (count_plus (n + 1)) told.made) (sym g.same.takings);

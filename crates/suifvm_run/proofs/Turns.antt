@@ -2,6 +2,7 @@
 use Rattle.std.proofs.Common.{◌≡◌, ℕ, suc, ◌+◌, ◌<◌, ◌≤◌, List, [], ◌∷◌, take, drop, length, reverse, Bool, true, false, Option, Some, None, refl, sym, ap, ◌∙◌, subst, arith}
 use Rattle.std.specs.Prelude.{slice_get}
 use Rattle.std.proofs.Math.Numerals.{add-one}
+use Rattle.bk_memory.specs.Shortage.{MemoryIsShort}
 use Rattle.mem_model.specs.declared.value.Value.{Value}
 use Rattle.mem_model.specs.Memory.{Memory}
 use Rattle.mem_model.specs.World.{Rooms}
@@ -140,12 +141,12 @@ give_trap m code answer i is = by_answer m m (turn.Over (stop.Traps code)) i (Tr
 pub give_failure : (m : Machine) (r : Turn) (answer : Answer) (i : VmInsn) → answer ≡ Fails → IsSound m → r ≡ turn.Over (stop.Undefined (m.here.row.now.first + m.here.at)) → TurnIs m m r (λ rooms h. act_there rooms m h i (writes answer (world_in m h).outer))
 give_failure m r answer i is sound failed = by_answer m m r i Fails answer is (fails_turn m r i sound failed)
 
-pub no_memory : (m new : Machine) (f : Rooms → Hidden → Next Registers) → TurnIs m new turn.NoMemory f
-no_memory m new f = record {
+pub no_memory : (m new : Machine) (f : Rooms → Hidden → Next Registers) → MemoryIsShort → TurnIs m new turn.NoMemory f
+no_memory m new f short = record {
   sound = λ goes. absurd (clash goes);
   program = λ goes. absurd (clash goes);
   place = λ waits. absurd (unwaited waits);
-  comes = λ rooms h. record {};
+  comes = λ rooms h. short;
 }
   where
     clash : (let b : Bool = false in b ≡ true) → ⊥

@@ -1,6 +1,7 @@
 -- Runs of whole programs.
 use Rattle.std.proofs.Common.{◌≡◌, ℕ, List, [], ◌++◌, map, Option, Some, None, option_map, refl, sym, ap, ◌∙◌, subst}
 use Rattle.std.proofs.lemmas.List.{append-nil}
+use Rattle.bk_memory.specs.Shortage.{MemoryIsShort}
 use Rattle.mem_model.specs.declared.value.Value.{Value}
 use Rattle.mem_model.specs.Memory.{Memory}
 use Rattle.mem_model.specs.World.{World, Rooms, meter_of}
@@ -12,10 +13,10 @@ use Rattle.suifvm_run.specs.declared.ending.VmEnding.{VmEnding}
 use Rattle.suifvm_run.specs.declared.ending.VmEnding.TheVariants as e
 use Rattle.suifvm_run.specs.declared.machine.Machine.{Machine}
 use Rattle.suifvm_run.specs.declared.machine.Stop.{Stop}
-use Rattle.suifvm_run.specs.declared.machine.Turn.TheVariants as turn
+use Rattle.suifvm_run.specs.declared.machine.NoStart.TheVariants as no_start
 use Rattle.suifvm_run.specs.declared.tables.ProgramTable.{ProgramTable}
 use Rattle.suifvm_run.specs.Run.{Steps, Traffic, VmBehaves, Stops, run_of, count_plus}
-use Rattle.suifvm_run.specs.model.Begin.{start_at, first_hidden, Begins, EndsAtOnce, IsOverAtOnce}
+use Rattle.suifvm_run.specs.model.Begin.{start_at, first_hidden, Begins, HasNoStart, IsOverAtOnce}
 use Rattle.suifvm_run.specs.model.Progress.{run_from, StandsAt, stop_ending}
 use Rattle.suifvm_run.specs.model.Stops.{IsRun, StopsAs}
 use Rattle.suifvm_run.specs.model.Tables.{functions_of}
@@ -51,7 +52,7 @@ module _ (p : ProgramTable) (main turns : ℕ) (memory : Memory) (rooms : Rooms)
     }))
 
     -- the first step ended the run
-    pub ended_at_once : (s : Stop) → EndsAtOnce p main memory turns (turn.Over s) → IsRun run turns (stop_ending turns s) told told
+    pub ended_at_once : (s : Stop) → HasNoStart p main memory turns (no_start.Over s) → IsRun run turns (stop_ending turns s) told told
     ended_at_once s ends =
         let over : IsOverAtOnce rooms p main memory turns input s = ends rooms input in record {
           last = over.last;
@@ -62,10 +63,10 @@ module _ (p : ProgramTable) (main turns : ℕ) (memory : Memory) (rooms : Rooms)
         }
 
     -- nothing was done
-    pub nothing_done : IsRun run turns e.NoMemory told told
-    nothing_done = record {
+    pub nothing_done : MemoryIsShort → IsRun run turns e.NoMemory told told
+    nothing_done short = record {
       last = first.world;
-      stops = record { steps = 0; config = first; goes = refl; world = refl };
+      stops = (record { steps = 0; config = first; goes = refl; world = refl }, short);
       left = left;
       made = uncounted told.made;
       taken = unwritten told.taken;
@@ -106,10 +107,10 @@ whole p program main memory rooms input turns ending told after functions object
     (subst (λ x. IsRun (vm_run rooms (functions_of p) main (world_with x input turns)) turns ending told after) objects r)))
 
 -- without memory for its tables or objects it is at its start
-pub not_begun : (program : VmProgram) (rooms : Rooms) (input : List ℕ) (turns : ℕ) (told : Traffic) → told.left ≡ Some input → VmBehaves rooms program input turns e.NoMemory told told
-not_begun program rooms input turns told left = record {
+pub not_begun : (program : VmProgram) (rooms : Rooms) (input : List ℕ) (turns : ℕ) (told : Traffic) → MemoryIsShort → told.left ≡ Some input → VmBehaves rooms program input turns e.NoMemory told told
+not_begun program rooms input turns told short left = record {
   last = (first_of program).world;
-  stops = record { steps = 0; config = first_of program; goes = refl; world = refl };
+  stops = (record { steps = 0; config = first_of program; goes = refl; world = refl }, short);
   left = left;
   made = uncounted told.made;
   taken = unwritten told.taken;

@@ -1,5 +1,6 @@
 -- What a run of a program does, by its meaning.
 use Rattle.std.specs.Prelude.{◌≡◌, ℕ, zero, suc, ◌+◌, List, ◌++◌, [], ◌∷◌, map, Option, Some, option_map}
+use Rattle.bk_memory.specs.Shortage.{MemoryIsShort}
 use Rattle.bk_io.specs.Outside.{next_count}
 use Rattle.mem_model.specs.World.{World, Rooms}
 use Rattle.mem_model.specs.Ending.{Done, Trap, Undefined, More}
@@ -48,7 +49,7 @@ run_of rooms program input turns =
     (start_world program.globals input turns)
 
 -- How this run stops, in its last world: it is over, as the meaning of the program has it; or a byte could not be
--- taken or put, and it stands before that step; or there was no memory, and it goes on
+-- taken or put, and it stands before that step; or memory is short, and it goes on
 abbrev pub Stops : Rooms → VmProgram → (input : List ℕ) → (turns : ℕ) → VmEnding → (last : World) → Type 0
 Stops rooms program input turns (e.Ended status) last = behave_vm rooms program input turns (Done last status)
 Stops rooms program input turns (e.Trapped code) last = behave_vm rooms program input turns (Trap last code)
@@ -56,7 +57,7 @@ Stops rooms program input turns (e.Undefined pc) last = behave_vm rooms program 
 Stops rooms program input turns (e.Budget n) last = (n ≡ turns) × behave_vm rooms program input turns (More last)
 Stops rooms program input turns e.InputFault last = TakesNext (run_of rooms program input turns) last
 Stops rooms program input turns e.WriteFault last = PutsNext (run_of rooms program input turns) last
-Stops rooms program input turns e.NoMemory last = GoesOn (run_of rooms program input turns) last
+Stops rooms program input turns e.NoMemory last = GoesOn (run_of rooms program input turns) last × MemoryIsShort
 
 -- what the input and the output tell
 pub record Traffic : Type 0 where

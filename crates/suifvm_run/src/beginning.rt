@@ -1,18 +1,40 @@
 //! The start of a run.
 
-ghost use Rattle.std.specs.Prelude.{◌≡◌, ◌≤◌, ◌^◌, length, IfOk, IfErr};
+ghost use Rattle.std.specs.Prelude.{◌≡◌, ◌+◌, ◌≤◌, ◌^◌, length, map, IfOk, IfErr, OnOk};
+ghost use Rattle.mem_model.specs.Memory as mem;
 ghost use Rattle.vm_operations.specs.Tidy.{IsTidy};
-ghost use Rattle.suifvm_run.specs.model.Begin.{Begins, EndsAtOnce};
+ghost use Rattle.suifvm_run.specs.model.Begin.{Begins, HasNoStart};
 ghost use Rattle.suifvm_run.specs.model.Tables.{AreNumbered};
 
-use crate::machine::{Call, Machine, Stop, Turn, block_at, function_at};
+use crate::machine::{Call, Machine, NoStart, Stop, block_at, function_at};
 use crate::tables::ProgramTable;
+use bk_memory::memory_is_short;
 use mem_model::memory::Mem;
-use std::alloc::Global;
+use std::alloc::{AllocError, Global};
+use suifvm_ir::function::MemoryLocal;
 use vm_operations::objects::{MOST_OBJECTS, begin_objects};
 
+/// Begins the objects of a call, where so many were made before.
+pub(crate) fn begin_locals(
+    memory: &mut Mem,
+    made: u64,
+    objects: &[MemoryLocal],
+) -> Result<(), AllocError>
+    requires { IsTidy memory.old }
+    ensures few { OnOk result (made + length objects.now ≤ 2 ^ 63) }
+    ensures value { OnOk result (memory.new ≡ mem.begin_objects memory.old (map (λ o. o.size) objects.now)) }
+    ensures tidy { OnOk result (IsTidy memory.new) }
+{
+    let count = objects.len() as u64;
+    // no memory has more objects than it can number
+    if made > MOST_OBJECTS || count > MOST_OBJECTS - made {
+        return Err(AllocError);
+    }
+    begin_objects(memory, objects)
+}
+
 /// A run at the start of a function without arguments, in a memory in which so many objects were made. Where there is
-/// none to go on with, what it came to.
+/// none, why.
 pub(crate) fn begin<'c, 'p>(
     alloc: Global,
     program: &'c ProgramTable<'p>,
@@ -20,31 +42,31 @@ pub(crate) fn begin<'c, 'p>(
     memory: Mem,
     made: u64,
     turns: u64,
-) -> Result<Machine<'c, 'p>, Turn>
+) -> Result<Machine<'c, 'p>, NoStart>
     requires tidy { IsTidy memory }
     requires made { made ≡ length memory }
     requires numbers { AreNumbered 0 program.now.functions.items program.now.end }
     ensures begins { IfOk result (λ m. Begins program.now main memory turns m) }
-    ensures ends { IfErr result (λ t. EndsAtOnce program.now main memory turns t) }
+    ensures ends { IfErr result (λ why. HasNoStart program.now main memory turns why) }
 {
     let Some(table) = function_at(program, main) else {
-        return Err(Turn::Over(Stop::Undefined(program.end)));
+        return Err(NoStart::Over(Stop::Undefined(program.end)));
     };
     let Some(row) = block_at(table, 0) else {
-        return Err(Turn::Over(Stop::Undefined(table.end)));
+        return Err(NoStart::Over(Stop::Undefined(table.end)));
     };
-    let count = table.objects.len() as u64;
-    if made > MOST_OBJECTS || count > MOST_OBJECTS - made {
-        return Err(Turn::NoMemory);
-    }
     let mut begun = memory;
-    if begin_objects(&mut begun, table.objects).is_err() {
-        return Err(Turn::NoMemory);
+    match begin_locals(&mut begun, made, table.objects) {
+        Ok(()) => {}
+        Err(error) => {
+            memory_is_short(error);
+            return Err(NoStart::NoMemory);
+        }
     }
     Ok(Machine {
         program,
         memory: begun,
-        made: made + count,
+        made: made + table.objects.len() as u64,
         stack: Vec::new(alloc),
         here: Call {
             function: main,

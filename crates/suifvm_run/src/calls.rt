@@ -1,7 +1,8 @@
 //! What calls and returns do.
 
-ghost use Rattle.std.specs.Prelude.{◌≡◌, ◌≤◌, ◌<◌, ◌++◌, ◌∷◌, [], List, Some, drop, map, length, OnOk};
+ghost use Rattle.std.specs.Prelude.{◌≡◌, ◌+◌, ◌^◌, ◌≤◌, ◌<◌, ◌++◌, ◌∷◌, [], List, Some, drop, map, length, OnOk};
 ghost use Rattle.std.specs.List.{list_all};
+ghost use Rattle.mem_model.specs.Memory as mem;
 ghost use Rattle.mem_model.specs.World.{World};
 ghost use Rattle.mem_model.specs.declared.value.Value.{Value as AnyValue};
 ghost use Rattle.machine_model.specs.Code.{Calls, Returns};
@@ -11,13 +12,18 @@ ghost use Rattle.suifvm_run.specs.model.Config as config;
 ghost use Rattle.vm_meaning.specs.Behave.{registers_of, first_or_unset, value_status};
 ghost use Rattle.vm_meaning.specs.Effect as effect;
 ghost use Rattle.vm_meaning.specs.Operations as operations;
+ghost use Rattle.vm_operations.specs.Tidy.{IsTidy};
 
+use crate::beginning::begin_locals;
 use crate::machine::{Call, Machine, Stop, Turn, block_at, function_at, register_in};
+use bk_memory::memory_is_short;
+use mem_model::memory::Mem;
 use mem_model::value::Value;
 use std::alloc::AllocError;
+use suifvm_ir::function::MemoryLocal;
 use suifvm_ir::insn::{TypedRegister, VmBuiltin, VmCallee, VmInsn};
 use vm_operations::numbers::is_value_of;
-use vm_operations::objects::{MOST_OBJECTS, begin_objects, end_objects};
+use vm_operations::objects::end_objects;
 
 /// Whether a value is set.
 fn is_set(value: Value) -> bool
@@ -74,6 +80,33 @@ fn push_registers(
     Ok(())
 }
 
+/// Puts the arguments of a call on the stack, behind the registers of the call that is to wait, begins the objects of the
+/// new one, where so many were made before, and keeps the one that is to wait.
+fn begin_call<'c, 'p>(
+    stack: &mut Vec<Value>,
+    memory: &mut Mem,
+    callers: &mut Vec<Call<'c, 'p>>,
+    here: Call<'c, 'p>,
+    made: u64,
+    objects: &[MemoryLocal],
+    arguments: &[u32],
+) -> Result<(), AllocError>
+    requires base { here.base ≤ length stack.old.items }
+    requires tidy { IsTidy memory.old }
+    ensures few { OnOk result (made + length objects.now ≤ 2 ^ 63) }
+    ensures tidy { OnOk result (IsTidy memory.new) }
+    ensures objects { OnOk result (memory.new ≡ mem.begin_objects memory.old (map (λ o. o.size) objects.now)) }
+    ensures arguments { OnOk result
+        (stack.new.items ≡ stack.old.items ++ map (registers_of (drop here.entry.base stack.old.items)) arguments.now) }
+    ensures callers { OnOk result (callers.new.items ≡ callers.old.items ++ here.entry ∷ []) }
+{
+    let end = stack.len();
+    push_registers(stack, here.base, end, arguments)?;
+    begin_locals(memory, made, objects)?;
+    callers.push(here)?;
+    Ok(())
+}
+
 /// The value of the first of the registers.
 fn first(stack: &[Value], base: usize, registers: &[u32]) -> Value
     requires { base ≤ length stack.now }
@@ -127,32 +160,34 @@ impl<'c, 'p> Machine<'c, 'p> {
         let Some(row) = block_at(table, 0) else {
             return Turn::Over(Stop::Undefined(table.end));
         };
-        let count = table.objects.len() as u64;
-        if count > MOST_OBJECTS - self.made {
-            return Turn::NoMemory;
-        }
         let base = self.stack.len();
-        let from = self.here.base;
-        if push_registers(&mut self.stack, from, base, arguments).is_err() {
-            return Turn::NoMemory;
+        match begin_call(
+            &mut self.stack,
+            &mut self.memory,
+            &mut self.callers,
+            self.here,
+            self.made,
+            table.objects,
+            arguments,
+        ) {
+            Ok(()) => {
+                self.here = Call {
+                    function,
+                    block: 0,
+                    at: 0,
+                    own: self.made,
+                    base,
+                    table,
+                    row,
+                };
+                self.made += table.objects.len() as u64;
+                Turn::Goes
+            }
+            Err(error) => {
+                memory_is_short(error);
+                Turn::NoMemory
+            }
         }
-        if begin_objects(&mut self.memory, table.objects).is_err() {
-            return Turn::NoMemory;
-        }
-        if self.callers.push(self.here).is_err() {
-            return Turn::NoMemory;
-        }
-        self.here = Call {
-            function,
-            block: 0,
-            at: 0,
-            own: self.made,
-            base,
-            table,
-            row,
-        };
-        self.made += count;
-        Turn::Goes
     }
 
     /// Ends the call, and gives a value to the one that waits for it.
@@ -176,7 +211,10 @@ impl<'c, 'p> Machine<'c, 'p> {
                 let destination = destination_of(insn);
                 match self.write(destination, value) {
                     Ok(()) => Turn::Goes,
-                    Err(_) => Turn::NoMemory,
+                    Err(error) => {
+                        memory_is_short(error);
+                        Turn::NoMemory
+                    }
                 }
             }
         }
@@ -226,7 +264,10 @@ impl<'c, 'p> Machine<'c, 'p> {
         match value {
             Value::Word(word) => match self.write(destination, Value::Word(word % 256)) {
                 Ok(()) => Turn::Puts((word % 256) as u8),
-                Err(_) => Turn::NoMemory,
+                Err(error) => {
+                    memory_is_short(error);
+                    Turn::NoMemory
+                }
             },
             Value::Address(_) => self.fail(),
             Value::Unset => self.fail(),

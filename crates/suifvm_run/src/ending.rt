@@ -15,6 +15,6 @@ pub enum VmEnding {
     InputFault,
     /// A byte of the output could not be written.
     WriteFault,
-    /// There was no memory for the run.
+    /// Memory is short for the run.
     NoMemory,
 }

@@ -53,6 +53,15 @@ pub(crate) enum Stop {
     Budget,
 }
 
+/// Why there is no machine at the start of a run.
+#[derive(Clone, Copy, Debug, PartialEq, Eq)]
+pub(crate) enum NoStart {
+    /// The first step ends the run.
+    Over(Stop),
+    /// Memory is short.
+    NoMemory,
+}
+
 /// What a turn of the machine came to.
 #[derive(Clone, Copy, Debug, PartialEq, Eq)]
 pub(crate) enum Turn {
@@ -62,7 +71,7 @@ pub(crate) enum Turn {
     Puts(u8),
     /// A byte is to be taken, and put into a register, if one is named.
     Takes(Option<u32>),
-    /// There was no memory.
+    /// Memory is short.
     NoMemory,
 }
 

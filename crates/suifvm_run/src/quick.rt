@@ -296,8 +296,8 @@ impl<'c, 'p> Machine<'c, 'p> {
         ensures kept { OnFalse result (self.new ≡ self.old) }
     {
         match address_of(self.here.own, place, plus) {
-            None => false,
-            Some(value) => self.put(destination, value),
+            Ok(value) => self.put(destination, value),
+            Err(_) => false,
         }
     }
 

@@ -18,9 +18,10 @@ ghost use Rattle.vm_operations.specs.Tidy.{IsTidy};
 use crate::beginning::begin;
 use crate::ending::VmEnding;
 use crate::indexing::program_table;
-use crate::machine::{Machine, Stop, Turn};
+use crate::machine::{Machine, NoStart, Stop, Turn};
 use crate::tables::ProgramTable;
 use bk_io::outside::{Sink, Source};
+use bk_memory::memory_is_short;
 use mem_model::memory::Mem;
 use mem_model::value::Value;
 use std::alloc::Global;
@@ -87,7 +88,10 @@ impl<'c, 'p> Machine<'c, 'p> {
                 Err(_) => Some(VmEnding::InputFault),
                 Ok(byte) => match self.write(destination, Value::Word(word_of(byte))) {
                     Ok(()) => None,
-                    Err(_) => Some(VmEnding::NoMemory),
+                    Err(error) => {
+                        memory_is_short(error);
+                        Some(VmEnding::NoMemory)
+                    }
                 },
             },
             Turn::NoMemory => Some(VmEnding::NoMemory),
@@ -202,8 +206,8 @@ fn run_table<I: Source, O: Sink>(
             let mut machine = begun;
             machine.run(turns, input, out)
         }
-        Err(Turn::Over(stop)) => ending_of(stop, turns),
-        Err(_) => VmEnding::NoMemory,
+        Err(NoStart::Over(stop)) => ending_of(stop, turns),
+        Err(NoStart::NoMemory) => VmEnding::NoMemory,
     }
 }
 
@@ -212,7 +216,7 @@ fn run_table<I: Source, O: Sink>(
 /// `Ended`, `Trapped` and `Undefined` are the ending that the meaning of the program has on these bytes with so many
 /// turns, whatever the rooms of its functions are, and `Budget` is its want of a turn. `InputFault` and `WriteFault`
 /// come where the input or the output failed, before the step that asked for it. The input is asked once for each
-/// call of `getchar`. `NoMemory` comes where memory is short.
+/// call of `getchar`. `NoMemory` comes only where memory is short.
 pub fn run_vm<I: Source, O: Sink>(
     alloc: Global,
     program: &VmProgram,
@@ -227,11 +231,19 @@ pub fn run_vm<I: Source, O: Sink>(
     ensures input_count { I.faults input.new ≡ input_faults_after result (I.faults input.old) }
     ensures output_count { O.faults out.new ≡ output_faults_after result (O.faults out.old) }
 {
-    let Ok(table) = program_table(alloc, program) else {
-        return VmEnding::NoMemory;
+    let table = match program_table(alloc, program) {
+        Ok(table) => table,
+        Err(error) => {
+            memory_is_short(error);
+            return VmEnding::NoMemory;
+        }
     };
-    let Ok(memory) = start_memory(alloc, program.globals.as_slice()) else {
-        return VmEnding::NoMemory;
+    let memory = match start_memory(alloc, program.globals.as_slice()) {
+        Ok(memory) => memory,
+        Err(error) => {
+            memory_is_short(error);
+            return VmEnding::NoMemory;
+        }
     };
     let main = main_number(program);
     let made = program.globals.len() as u64;

@@ -1,6 +1,6 @@
 //! One step of a run.
 
-ghost use Rattle.std.specs.Prelude.{◌≡◌, ◌<◌, ◌≤◌, ◌^◌, drop, length, map, slice_get, Some, IfSome, true};
+ghost use Rattle.std.specs.Prelude.{◌≡◌, ◌<◌, ◌≤◌, ◌^◌, drop, length, map, slice_get, Some, IfOk, true};
 ghost use Rattle.suifvm_ir.specs.Insns as insns;
 ghost use Rattle.suifvm_run.specs.model.Config as config;
 ghost use Rattle.suifvm_run.specs.model.Tables.{block_insns};
@@ -9,7 +9,9 @@ ghost use Rattle.vm_meaning.specs.Effect as effect;
 ghost use Rattle.vm_meaning.specs.Operations as operations;
 
 use crate::machine::{Machine, Stop, Turn};
+use bk_memory::memory_is_short;
 use mem_model::value::{Ptr, Value};
+use std::alloc::AllocError;
 use suifvm_ir::insn::{VmInsn, VmObject};
 use vm_meaning::answer::Answer;
 use vm_operations::numbers::{convert, shift, unary, when_value};
@@ -27,21 +29,21 @@ fn takes_turn(insn: &VmInsn) -> bool
     }
 }
 
-/// The address of an object, moved by so many bytes, where the number of the call's first object is given. `None`
-/// where no object has so many bytes.
-pub(crate) fn address_of(own: u64, place: VmObject, plus: u64) -> Option<Value>
+/// The address of an object, moved by so many bytes, where the number of the call's first object is given. It fails where
+/// no object has so many bytes.
+pub(crate) fn address_of(own: u64, place: VmObject, plus: u64) -> Result<Value, AllocError>
     requires { own ≤ 2 ^ 63 }
-    ensures { IfSome result (λ value. value ≡ operations.place_address own place plus) }
+    ensures { IfOk result (λ value. value ≡ operations.place_address own place plus) }
 {
     let Ok(offset) = i64::try_from(plus) else {
-        return None;
+        return Err(AllocError);
     };
     match place {
-        VmObject::Global(k) => Some(Value::Address(Ptr {
+        VmObject::Global(k) => Ok(Value::Address(Ptr {
             object: u64::from(k),
             offset,
         })),
-        VmObject::Local(k) => Some(Value::Address(Ptr {
+        VmObject::Local(k) => Ok(Value::Address(Ptr {
             object: own + u64::from(k),
             offset,
         })),
@@ -70,8 +72,11 @@ impl<'c, 'p> Machine<'c, 'p> {
                 plus,
             } => {
                 match address_of(self.here.own, *place, *plus) {
-                    None => Turn::NoMemory,
-                    Some(value) => self.give(*destination, Answer::Gives(value)),
+                    Ok(value) => self.give(*destination, Answer::Gives(value)),
+                    Err(error) => {
+                        memory_is_short(error);
+                        Turn::NoMemory
+                    }
                 }
             }
             VmInsn::Load {

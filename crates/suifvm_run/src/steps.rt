@@ -13,6 +13,7 @@ ghost use Rattle.vm_meaning.specs.Effect as effect;
 ghost use Rattle.vm_meaning.specs.Operations as operations;
 
 use crate::machine::{Call, Machine, Stop, Turn, block_at, register_in, set_register_in};
+use bk_memory::memory_is_short;
 use mem_model::value::Value;
 use std::alloc::AllocError;
 use suifvm_ir::insn::{VmBranchOp, VmInsn};
@@ -90,7 +91,10 @@ impl<'c, 'p> Machine<'c, 'p> {
         match answer {
             Answer::Gives(value) => match self.write(Some(destination), value) {
                 Ok(()) => Turn::Goes,
-                Err(_) => Turn::NoMemory,
+                Err(error) => {
+                    memory_is_short(error);
+                    Turn::NoMemory
+                }
             },
             Answer::TrapsWith(code) => Turn::Over(Stop::Traps(code)),
             Answer::Fails => self.fail(),

@@ -1,5 +1,5 @@
 -- What one stage of the compiler gives to the next.
-use Rattle.std.specs.Prelude.{◌≡◌, ℕ, ◌+◌, ◌^◌, ◌<◌, ◌≤◌, IsTrue, List, All, length, map, sum_by}
+use Rattle.std.specs.Prelude.{◌≡◌, ℕ, ◌+◌, ◌^◌, ◌<◌, ◌≤◌, IsTrue, List, All, length, sum_by}
 use Rattle.alpha_isa.specs.Behave.{IsStack}
 use Rattle.alpha_items.specs.Assembly.{Assembly, IsWhole}
 use Rattle.alpha_items.specs.Items.{is_name}

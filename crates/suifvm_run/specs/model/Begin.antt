@@ -1,5 +1,6 @@
 -- How a run begins.
 use Rattle.std.specs.Prelude.{◌≡◌, ℕ, ◌+◌, max, List, []}
+use Rattle.bk_memory.specs.Shortage.{MemoryIsShort}
 use Rattle.mem_model.specs.declared.value.Value.{Value}
 use Rattle.mem_model.specs.Memory.{Memory}
 use Rattle.mem_model.specs.World.{World, Rooms, room_of, meter_of}
@@ -7,8 +8,8 @@ use Rattle.machine_model.specs.Machine.{Config, Over, exec, start}
 use Rattle.vm_meaning.specs.Behave.{Registers, vm_code}
 use Rattle.suifvm_run.specs.declared.machine.Machine.{Machine}
 use Rattle.suifvm_run.specs.declared.machine.Stop.{Stop}
-use Rattle.suifvm_run.specs.declared.machine.Turn.{Turn}
-use Rattle.suifvm_run.specs.declared.machine.Turn.TheVariants as turn
+use Rattle.suifvm_run.specs.declared.machine.NoStart.{NoStart}
+use Rattle.suifvm_run.specs.declared.machine.NoStart.TheVariants as no_start
 use Rattle.suifvm_run.specs.declared.tables.ProgramTable.{ProgramTable}
 use Rattle.suifvm_run.specs.model.Config.{Hidden, IsSound, ShowsAs, ending_by, config_of}
 use Rattle.suifvm_run.specs.model.Tables.{functions_of}
@@ -45,8 +46,8 @@ pub record IsOverAtOnce (rooms : Rooms) (p : ProgramTable) (main : ℕ) (memory 
       ≡ Over (ending_by s last)
   pub shows : ShowsAs last (first_hidden rooms main input)
 
-abbrev pub EndsAtOnce : ProgramTable → (main : ℕ) → Memory → (turns : ℕ) → Turn → Type 0
-EndsAtOnce p main memory turns (turn.Over s) =
+-- why no machine stands at the start: the first step ends the run, or memory is short
+abbrev pub HasNoStart : ProgramTable → (main : ℕ) → Memory → (turns : ℕ) → NoStart → Type 0
+HasNoStart p main memory turns (no_start.Over s) =
     (rooms : Rooms) (input : List ℕ) → IsOverAtOnce rooms p main memory turns input s
-EndsAtOnce p main memory turns turn.NoMemory = Unit {0}
-EndsAtOnce p main memory turns _ = ⊥
+HasNoStart p main memory turns no_start.NoMemory = MemoryIsShort

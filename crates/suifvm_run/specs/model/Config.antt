@@ -1,5 +1,6 @@
 -- Where a machine stands, as a configuration of the meaning.
 use Rattle.std.specs.Prelude.{◌≡◌, ℕ, suc, ◌+◌, ◌<◌, ◌≤◌, ◌^◌, List, [], ◌∷◌, ◌++◌, take, drop, length, reverse, slice_get, Bool, true, false, Option, Some, None}
+use Rattle.bk_memory.specs.Shortage.{MemoryIsShort}
 use Rattle.mem_model.specs.declared.value.Value.{Value}
 use Rattle.mem_model.specs.declared.value.Value.TheVariants.{Word}
 use Rattle.mem_model.specs.World.{World, Rooms}
@@ -153,7 +154,7 @@ Comes rooms p (turn.Puts byte) m h next = GoesTo next (λ g. config_of m (with_b
 Comes rooms p (turn.Takes destination) m h next =
     GoesTo next
     (λ g. wrote (named_register destination) (Word (input_word (slice_get g.input 0)) ∷ []) (config_of m (with_taken g))) h
-Comes rooms p turn.NoMemory m h next = Unit {0}
+Comes rooms p turn.NoMemory m h next = MemoryIsShort
 
 -- what an instruction does where the machine stands, by what is done with its values
 abbrev pub act_there : Rooms → Machine → Hidden → VmInsn → Act Value → Next Registers

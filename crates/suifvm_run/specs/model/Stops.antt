@@ -1,5 +1,6 @@
 -- How a run from any configuration stops.
 use Rattle.std.specs.Prelude.{◌≡◌, ℕ, ◌++◌, Some, option_map}
+use Rattle.bk_memory.specs.Shortage.{MemoryIsShort}
 use Rattle.mem_model.specs.World.{World}
 use Rattle.mem_model.specs.Ending.{Ending, Done, Trap, Undefined, More}
 use Rattle.machine_model.specs.Machine.{Over}
@@ -19,7 +20,7 @@ StopsAs run turns (e.Undefined pc) last = EndsWith run (Undefined last pc)
 StopsAs run turns (e.Budget n) last = (n ≡ turns) × EndsWith run (More last)
 StopsAs run turns e.InputFault last = TakesNext run last
 StopsAs run turns e.WriteFault last = PutsNext run last
-StopsAs run turns e.NoMemory last = GoesOn run last
+StopsAs run turns e.NoMemory last = GoesOn run last × MemoryIsShort
 
 -- a run that stopped: how, and what it did to the input and the output
 pub record IsRun (run : Steps) (turns : ℕ) (ending : VmEnding) (told after : Traffic) : Type 0 where

@@ -1,4 +1,4 @@
-use Rattle.std.proofs.Common.{◌∙◌, sym}
+use Rattle.std.proofs.Common.{◌∙◌}
 use Rattle.compiler.proofs.Registers.{unit_registers}
 use Rattle.compiler.proofs.compile.code_of.Goals as goal
 

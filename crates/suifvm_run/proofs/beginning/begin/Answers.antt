@@ -22,13 +22,13 @@ returns-clause-begins c =
     let table : slice_get c.args.program.now.functions.items c.args.main ≡ Some c.in-Some.table.now = search rules in
     let row : slice_get c.in-Some.table.now.blocks.items 0 ≡ Some c.in-Some-block_at.row.now = search rules in
     let few : c.args.made + length c.in-Some.table.now.objects.now ≤ 2 ^ 63 = search rules in
-    let tidy : IsTidy c.begin_objects.new.memory = search rules in
-    let memory : c.begin_objects.new.memory ≡ begin_objects c.args.memory (map (λ o. o.size) c.in-Some.table.now.objects.now) = search rules in
+    let tidy : IsTidy c.begin_locals.new.memory = search rules in
+    let memory : c.begin_locals.new.memory ≡ begin_objects c.args.memory (map (λ o. o.size) c.in-Some.table.now.objects.now) = search rules in
     let stack : c.new.result.items ≡ [] = search rules in
     let callers : c.new-2.result.items ≡ [] = search rules in
     begins (record {
       program = c.args.program;
-      memory = c.begin_objects.new.memory;
+      memory = c.begin_locals.new.memory;
       made = c.args.made + length c.in-Some.table.now.objects.now;
       stack = c.new.result;
       here = record { function = c.args.main; block = 0; at = 0; own = c.args.made; base = 0; table = c.in-Some.table; row = c.in-Some-block_at.row };

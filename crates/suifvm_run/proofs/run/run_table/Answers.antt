@@ -1,7 +1,7 @@
 -- A run that began, ended at once, or did not begin.
 use Rattle.std.proofs.Common.{◌≡◌, refl, sym, subst, rules}
-use Rattle.suifvm_run.specs.declared.machine.Turn.TheVariants as turn
-use Rattle.suifvm_run.specs.model.Begin.{start_at, EndsAtOnce}
+use Rattle.suifvm_run.specs.declared.machine.NoStart.TheVariants as no_start
+use Rattle.suifvm_run.specs.model.Begin.{start_at, HasNoStart}
 use Rattle.suifvm_run.specs.model.Progress.{run_from}
 use Rattle.suifvm_run.specs.model.Stops.{IsRun}
 use Rattle.suifvm_run.proofs.Wholes.{began, ended_at_once, nothing_done}
@@ -15,16 +15,14 @@ returns-in-Ok-clause-run g c rooms bytes left =
 
 pub returns-in-Err-Over-clause-run : goal.returns-in-Err-Over-clause-run
 returns-in-Err-Over-clause-run g c rooms bytes left =
-    let over : c.in-Err-Over.field-0 ≡ turn.Over c.in-Err-Over.stop = search rules in
+    let over : c.in-Err-Over.field-0 ≡ no_start.Over c.in-Err-Over.stop = search rules in
     subst (λ e. IsRun (run_from rooms c.args.table.now (start_at rooms c.args.table.now c.args.main c.args.memory c.args.turns bytes)) c.args.turns e
     (record { left = g.I.Source.left c.args.input.now; made = g.I.Source.made c.args.input.now; taken = g.O.Sink.taken c.args.out.now })
     (record { left = g.I.Source.left c.args.input.now; made = g.I.Source.made c.args.input.now; taken = g.O.Sink.taken c.args.out.now }))
     (sym c.ending_of.ensures)
-    (ended_at_once c.args.table.now c.args.main c.args.turns c.args.memory rooms bytes (record { left = g.I.Source.left c.args.input.now; made = g.I.Source.made c.args.input.now; taken = g.O.Sink.taken c.args.out.now }) left c.in-Err-Over.stop (subst (λ t. EndsAtOnce c.args.table.now c.args.main c.args.memory c.args.turns t) over c.in-Err-Over.ensures.ends))
+    (ended_at_once c.args.table.now c.args.main c.args.turns c.args.memory rooms bytes (record { left = g.I.Source.left c.args.input.now; made = g.I.Source.made c.args.input.now; taken = g.O.Sink.taken c.args.out.now }) left c.in-Err-Over.stop (subst (λ t. HasNoStart c.args.table.now c.args.main c.args.memory c.args.turns t) over c.in-Err-Over.ensures.ends))
 
-pub returns-in-Err : goal.returns-in-Err
-returns-in-Err g c = record {
-  run = λ rooms bytes left. nothing_done c.args.table.now c.args.main c.args.turns c.args.memory rooms bytes (record { left = g.I.Source.left c.args.input.now; made = g.I.Source.made c.args.input.now; taken = g.O.Sink.taken c.args.out.now }) left;
-  input_count = refl;
-  output_count = refl;
-}
+pub returns-in-Err-NoMemory-clause-run : goal.returns-in-Err-NoMemory-clause-run
+returns-in-Err-NoMemory-clause-run g c rooms bytes left =
+    let short : c.in-Err-NoMemory.field-0 ≡ no_start.NoMemory = search rules in
+    nothing_done c.args.table.now c.args.main c.args.turns c.args.memory rooms bytes (record { left = g.I.Source.left c.args.input.now; made = g.I.Source.made c.args.input.now; taken = g.O.Sink.taken c.args.out.now }) left (subst (λ t. HasNoStart c.args.table.now c.args.main c.args.memory c.args.turns t) short c.in-Err-NoMemory.ensures.ends)

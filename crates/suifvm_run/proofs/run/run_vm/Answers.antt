@@ -6,11 +6,11 @@ use Rattle.suifvm_run.proofs.Ends.{table_marked}
 use Rattle.suifvm_run.proofs.Wholes.{whole, not_begun}
 use Rattle.suifvm_run.proofs.run.run_vm.Goals as goal
 
-pub returns-in_default-clause-run : goal.returns-in_default-clause-run
-returns-in_default-clause-run g c rooms bytes left = not_begun c.args.program.now rooms bytes c.args.turns (record { left = g.I.Source.left c.args.input.now; made = g.I.Source.made c.args.input.now; taken = g.O.Sink.taken c.args.out.now }) left
+pub returns-in-Err-clause-run : goal.returns-in-Err-clause-run
+returns-in-Err-clause-run g c rooms bytes left = not_begun c.args.program.now rooms bytes c.args.turns (record { left = g.I.Source.left c.args.input.now; made = g.I.Source.made c.args.input.now; taken = g.O.Sink.taken c.args.out.now }) c.memory_is_short.ensures left
 
-pub returns-in_default-start_memory-clause-run : goal.returns-in_default-start_memory-clause-run
-returns-in_default-start_memory-clause-run g c rooms bytes left = not_begun c.args.program.now rooms bytes c.args.turns (record { left = g.I.Source.left c.args.input.now; made = g.I.Source.made c.args.input.now; taken = g.O.Sink.taken c.args.out.now }) left
+pub returns-in-Err-start_memory-clause-run : goal.returns-in-Err-start_memory-clause-run
+returns-in-Err-start_memory-clause-run g c rooms bytes left = not_begun c.args.program.now rooms bytes c.args.turns (record { left = g.I.Source.left c.args.input.now; made = g.I.Source.made c.args.input.now; taken = g.O.Sink.taken c.args.out.now }) c.memory_is_short-in-Err-start_memory.ensures left
 
 pub run_table-requires-clause-marked : goal.run_table-requires-clause-marked
 run_table-requires-clause-marked g c = table_marked (functions_of c.in-Ok.table) c.args.program.now c.in-Ok.ensures.code

@@ -10,8 +10,8 @@ use Rattle.suifvm_run.proofs.machine.Machine.act.Goals as goal
 pub returns-in-LoadConstant : goal.returns-in-LoadConstant
 returns-in-LoadConstant c = constant_done c.args.self.now c.give.new.self c.give.result c.args.insn.now _ _ _ _ c.in-LoadConstant.is c.when_value.ensures (c.give.ensures (LoadConstant c.in-LoadConstant.ty c.in-LoadConstant.destination c.in-LoadConstant.word) refl)
 
-pub returns-in-Some : goal.returns-in-Some
-returns-in-Some c = address_done c.args.self.now c.give-in-Some.new.self c.give-in-Some.result c.args.insn.now _ _ _ _ c.in-LoadAddress.is c.in-Some.ensures (c.give-in-Some.ensures (LoadAddress c.in-LoadAddress.destination c.in-LoadAddress.place c.in-LoadAddress.plus) refl)
+pub returns-in-Ok : goal.returns-in-Ok
+returns-in-Ok c = address_done c.args.self.now c.give-in-Ok.new.self c.give-in-Ok.result c.args.insn.now _ _ _ _ c.in-LoadAddress.is c.in-Ok.ensures (c.give-in-Ok.ensures (LoadAddress c.in-LoadAddress.destination c.in-LoadAddress.place c.in-LoadAddress.plus) refl)
 
 pub returns-in-Load : goal.returns-in-Load
 returns-in-Load c =

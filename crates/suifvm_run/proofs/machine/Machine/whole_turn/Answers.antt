@@ -4,7 +4,7 @@ use Rattle.std.specs.Prelude.{slice_get, IfSome}
 use Rattle.mem_model.specs.declared.value.Value.TheVariants.{Word}
 use Rattle.suifvm_ir.specs.Insns.{named_register}
 use Rattle.suifvm_run.specs.model.Config.{Wrote}
-use Rattle.suifvm_run.proofs.Progress.{goes_on, over_as, put_done, put_failed, take_failed, take_done, take_no_memory, no_memory_left}
+use Rattle.suifvm_run.proofs.Progress.{goes_on, over_as, put_done, put_failed, take_failed, take_done, take_no_memory, no_memory_left, short_there}
 use Rattle.suifvm_run.proofs.Ends.{goes_falls, puts_falls, takes_falls}
 use Rattle.suifvm_run.proofs.machine.Machine.whole_turn.Goals as goal
 
@@ -31,10 +31,11 @@ returns-in-Ok-write-clause-run g c rooms start told at =
     c.in-Ok-next.ensures.left c.in-Ok-next.ensures.made refl
 
 pub returns-in-Err-write-clause-run : goal.returns-in-Err-write-clause-run
-returns-in-Err-write-clause-run g c rooms start told at = take_no_memory rooms start c.args.turns told c.args.self.now c.step.new.self _ _ c.in-Takes.destination c.in-Takes.ensures at c.in-Ok-next.ensures.left c.in-Ok-next.ensures.made refl
+returns-in-Err-write-clause-run g c rooms start told at = take_no_memory rooms start c.args.turns told c.args.self.now c.step.new.self _ _ c.in-Takes.destination c.memory_is_short.ensures c.in-Takes.ensures at c.in-Ok-next.ensures.left c.in-Ok-next.ensures.made refl
 
 pub returns-in-NoMemory-clause-run : goal.returns-in-NoMemory-clause-run
-returns-in-NoMemory-clause-run g c rooms start told at = no_memory_left rooms c.args.self.now.program.now start c.args.turns told _ c.args.self.now at
+returns-in-NoMemory-clause-run g c rooms start told at =
+    no_memory_left rooms c.args.self.now.program.now start c.args.turns told _ c.args.self.now (short_there rooms start c.args.turns told c.args.self.now c.step.new.self c.in-NoMemory.ensures _ at) at
 
 pub returns-in-Goes-clause-falls : goal.returns-in-Goes-clause-falls
 returns-in-Goes-clause-falls g c = goes_falls c.args.self.now c.step.new.self c.requires.marked c.in-Goes.ensures

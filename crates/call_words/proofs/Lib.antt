@@ -1,0 +1,4 @@
+pub mod Asked
+pub mod Gives
+pub mod LargeNumbers
+pub mod Parses

@@ -1,0 +1,57 @@
+-- What the options say, each by its value or, where it is not given, by what stands for it.
+use Rattle.std.specs.Prelude.{ℕ, Bool, not, List, Option, Some, None, is_some, if◌then◌else◌, option_map, option_and_then, codes, bytes_eq}
+use Rattle.std.specs.List.{list_all}
+use Rattle.std.specs.Option.{option_map_or}
+use Rattle.clap.specs.Words.{Row}
+use Rattle.compile_options.specs.declared.Allocator.{Allocator}
+use Rattle.compile_options.specs.declared.Allocator.TheVariants.{Plain}
+use Rattle.compile_options.specs.declared.MachineLimits.{MachineLimits}
+use Rattle.compile_options.specs.declared.Options.{Options}
+use Rattle.compile_options.specs.declared.PassName.{PassName}
+use Rattle.compile_options.specs.declared.PassName.TheVariants as pass
+use Rattle.call_words.specs.declared.request.OptionName.{OptionName}
+use Rattle.call_words.specs.declared.request.OptionName.TheVariants.{Pass, Alloc, Stack, Budget}
+use Rattle.call_words.specs.Limits.{default_stack, default_budget}
+use Rattle.call_words.specs.Line.{option_in}
+use Rattle.call_words.specs.Numbers.{stack_at, budget_at}
+
+-- none of these options is given
+abbrev pub gives_none : List OptionName → List Row → Bool
+gives_none names rows = list_all (λ name. not (is_some (option_in name rows))) names
+
+-- what is asked for, where none of these options is given
+abbrev pub unless_given : {A : Type 0} → List OptionName → List Row → Option A → Option A
+unless_given names rows asked = if gives_none names rows then asked else None
+
+-- the allocator, the pass, the stack and the budget of the words
+abbrev pub allocator_at : List ℕ → Option Allocator
+allocator_at word = if bytes_eq word (codes "plain") then Some Plain else None
+
+abbrev pub options_in : List Row → Option Options
+options_in rows =
+    option_map (λ a. record { allocator = a }) (option_map_or allocator_at (option_in Alloc rows) (Some Plain))
+
+abbrev pub pass_at : List ℕ → Option PassName
+pass_at word =
+    if bytes_eq word (codes "tree") then Some pass.Tree
+    else if bytes_eq word (codes "vm") then Some pass.Vm
+    else if bytes_eq word (codes "graph") then Some pass.Graph
+    else if bytes_eq word (codes "select") then Some pass.Select
+    else if bytes_eq word (codes "alloc") then Some pass.Alloc
+    else if bytes_eq word (codes "asm") then Some pass.Asm
+    else None
+
+abbrev pub pass_in : List Row → Option PassName
+pass_in rows = option_and_then pass_at (option_in Pass rows)
+
+abbrev pub stack_in : List Row → Option ℕ
+stack_in rows = option_map_or stack_at (option_in Stack rows) (Some default_stack)
+
+abbrev pub budget_in : List Row → Option ℕ
+budget_in rows = option_map_or budget_at (option_in Budget rows) (Some default_budget)
+
+abbrev pub with_stack : ℕ → Option ℕ → Option MachineLimits
+with_stack stack budget = option_map (λ n. record { stack = stack; budget = n }) budget
+
+abbrev pub limits_in : List Row → Option MachineLimits
+limits_in rows = option_and_then (λ stack. with_stack stack (budget_in rows)) (stack_in rows)

@@ -1,0 +1,77 @@
+-- What the words of a call ask for.
+use Rattle.std.specs.Prelude.{◌≡◌, ℕ, List, [], ◌∷◌, Option, Some, None, if◌then◌else◌, option_map, option_and_then, codes, bytes_eq}
+use Rattle.bk_memory.specs.Shortage.{MemoryIsShort}
+use Rattle.alpha_isa.specs.Behave.{IsStack}
+use Rattle.clap.specs.Words.{Row}
+use Rattle.compile_options.specs.declared.Options.{Options}
+use Rattle.call_words.specs.declared.read.WordsFault.{WordsFault}
+use Rattle.call_words.specs.declared.read.WordsFault.TheVariants as fault
+use Rattle.call_words.specs.declared.request.Command.{Command}
+use Rattle.call_words.specs.declared.request.Command.TheVariants.{Build, Run, Vm, Exec, Migrate, Assemble, Print}
+use Rattle.call_words.specs.declared.request.Request.{Request}
+use Rattle.call_words.specs.declared.request.OptionName.TheVariants.{Pass, Alloc, Stack, Budget, Seed, Size}
+use Rattle.call_words.specs.Line.{are_well, rows_in, command_in, file_in}
+use Rattle.call_words.specs.Options.{unless_given, options_in, pass_in, budget_in, limits_in}
+
+-- each command by its options; the others are none of it
+abbrev pub build_in : List Row → Option Command
+build_in rows = unless_given (Pass ∷ Stack ∷ Budget ∷ Seed ∷ Size ∷ []) rows (option_map Build (options_in rows))
+
+abbrev pub run_in : List Row → Option Command
+run_in rows =
+    unless_given (Pass ∷ Seed ∷ Size ∷ []) rows
+    (option_and_then (λ options. option_map (Run options) (limits_in rows)) (options_in rows))
+
+abbrev pub vm_in : List Row → Option Command
+vm_in rows = unless_given (Pass ∷ Alloc ∷ Stack ∷ Seed ∷ Size ∷ []) rows (option_map Vm (budget_in rows))
+
+abbrev pub exec_in : List Row → Option Command
+exec_in rows = unless_given (Pass ∷ Alloc ∷ Seed ∷ Size ∷ []) rows (option_map Exec (limits_in rows))
+
+-- a command without options
+abbrev pub alone : Command → List Row → Option Command
+alone command rows = unless_given (Pass ∷ Alloc ∷ Stack ∷ Budget ∷ Seed ∷ Size ∷ []) rows (Some command)
+
+abbrev pub print_in : List Row → Option Command
+print_in rows =
+    unless_given (Stack ∷ Budget ∷ Seed ∷ Size ∷ []) rows
+    (option_and_then (λ pass. option_map (Print pass) (options_in rows)) (pass_in rows))
+
+-- the command of a word
+abbrev pub command_of : List ℕ → List Row → Option Command
+command_of word rows =
+    if bytes_eq word (codes "build") then build_in rows
+    else if bytes_eq word (codes "run") then run_in rows
+    else if bytes_eq word (codes "vm") then vm_in rows
+    else if bytes_eq word (codes "exec") then exec_in rows
+    else if bytes_eq word (codes "migrate") then alone Migrate rows
+    else if bytes_eq word (codes "assemble") then alone Assemble rows
+    else if bytes_eq word (codes "print") then print_in rows
+    else None
+
+abbrev pub with_file : Option (List ℕ) → Option Command → Option (Command × List ℕ)
+with_file file command = option_and_then (λ c. option_map (λ f. (c, f)) file) command
+
+-- the command and its file, of what the words give
+abbrev pub request_in : List Row → Option (Command × List ℕ)
+request_in rows = with_file (file_in rows) (option_and_then (λ word. command_of word rows) (command_in rows))
+
+-- The command and its file: the words are well by the crate clap, and what they give is a command with its file and its
+-- options.
+abbrev pub request_of : List (List ℕ) → Option (Command × List ℕ)
+request_of words = if are_well words then request_in (rows_in words) else None
+
+-- a request of the code, as such a pair
+abbrev pub shown : Option Request → Option (Command × List ℕ)
+shown = option_map (λ r. (r.command, r.file.now))
+
+-- why the words are not read
+abbrev pub IsFaultOf : List (List ℕ) → WordsFault → Type 0
+IsFaultOf words fault.Usage = request_of words ≡ None
+IsFaultOf words fault.NoMemory = MemoryIsShort
+
+-- the stack of a run is one that a machine takes
+abbrev pub HasStack : Command → Type 0
+HasStack (Run options limits) = IsStack limits.stack
+HasStack (Exec limits) = IsStack limits.stack
+HasStack _ = Unit {0}

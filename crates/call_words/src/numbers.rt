@@ -1,0 +1,71 @@
+//! The numbers that words give.
+
+ghost use Rattle.std.specs.Prelude.{◌≡◌, ◌≤◌, ◌<◌, ◌^◌, IfSome};
+ghost use Rattle.std.specs.Char.{is_ascii_digit};
+ghost use Rattle.std.specs.List.{list_all};
+ghost use Rattle.alpha_isa.specs.Behave.{IsStack};
+ghost use Rattle.call_words.specs.Numbers as spec;
+
+/// The least and the greatest stack, in bytes.
+const LEAST_STACK: u64 = 4_096;
+
+const MOST_STACK: u64 = 268_435_456;
+
+/// The least and the greatest budget.
+const LEAST_BUDGET: u64 = 1;
+
+const MOST_BUDGET: u64 = 1_000_000_000_000;
+
+/// How many digits a number may have.
+const MOST_DIGITS: usize = 20;
+
+/// Whether bytes are decimal digits.
+fn are_digits(bytes: &[u8]) -> bool
+    ensures { result ≡ list_all is_ascii_digit bytes.now }
+{
+    bytes.iter().all(|byte| byte.is_ascii_digit())
+}
+
+/// Whether a text is one to twenty decimal digits.
+fn is_number(text: &str) -> bool
+    ensures { result ≡ spec.is_number text.now }
+{
+    let bytes = text.as_bytes();
+    bytes.len() >= 1 && bytes.len() <= MOST_DIGITS && are_digits(bytes)
+}
+
+/// A number, where it is from the one to the other.
+fn when_within(low: u64, high: u64, n: u64) -> Option<u64>
+    ensures { result ≡ spec.when_within low high n }
+{
+    if low <= n && n <= high { Some(n) } else { None }
+}
+
+/// The number of a text, where it is from the one to the other.
+fn number_within(low: u64, high: u64, text: &str) -> Option<u64>
+    ensures { result ≡ spec.number_within low high text.now }
+{
+    if !is_number(text) {
+        return None;
+    }
+    match text.parse::<u64>() {
+        Ok(n) => when_within(low, high, n),
+        Err(_) => None,
+    }
+}
+
+/// The stack of a text, in bytes: a multiple of 16.
+pub(crate) fn stack_at(text: &str) -> Option<u64>
+    ensures value { result ≡ spec.stack_at text.now }
+    ensures stack { IfSome result IsStack }
+{
+    let n = number_within(LEAST_STACK, MOST_STACK, text)?;
+    if n % 16 == 0 { Some(n) } else { None }
+}
+
+/// The budget of a text.
+pub(crate) fn budget_at(text: &str) -> Option<u64>
+    ensures { result ≡ spec.budget_at text.now }
+{
+    number_within(LEAST_BUDGET, MOST_BUDGET, text)
+}

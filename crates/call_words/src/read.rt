@@ -1,0 +1,177 @@
+//! The request of the words.
+
+ghost use Rattle.std.specs.Prelude.{◌≡◌, IfOk, IfErr, IfSome, Some, map, string_bytes};
+ghost use Rattle.clap.specs.Words.{found_of, rows_of};
+ghost use Rattle.call_words.specs.Request as spec;
+
+use crate::line::{command_in, file_in, matches_of};
+use crate::options::{budget_in, gives_none, limits_in, options_in, pass_in};
+use crate::request::{Command, OptionName, Request};
+use clap::ArgMatches;
+use std::alloc::Global;
+use thiserror::Error;
+
+/// Why the words are not read.
+#[derive(Clone, Copy, Debug, PartialEq, Eq, Error)]
+pub enum WordsFault {
+    /// They are none that the compiler takes.
+    #[error("the words are not those of a call")]
+    Usage,
+    /// Memory is short.
+    #[error("out of memory")]
+    NoMemory,
+}
+
+/// `build`: `--alloc`.
+fn build_in(matches: &ArgMatches<'_>) -> Option<Command>
+    ensures value { result ≡ spec.build_in (rows_of (found_of matches.now)) }
+    ensures stack { IfSome result spec.HasStack }
+{
+    let others = [
+        OptionName::Pass,
+        OptionName::Stack,
+        OptionName::Budget,
+        OptionName::Seed,
+        OptionName::Size,
+    ];
+    if !gives_none(others.as_slice(), matches) {
+        return None;
+    }
+    Some(Command::Build(options_in(matches)?))
+}
+
+/// `run`: `--alloc`, `--stack` and `--budget`.
+fn run_in(matches: &ArgMatches<'_>) -> Option<Command>
+    ensures value { result ≡ spec.run_in (rows_of (found_of matches.now)) }
+    ensures stack { IfSome result spec.HasStack }
+{
+    let others = [OptionName::Pass, OptionName::Seed, OptionName::Size];
+    if !gives_none(others.as_slice(), matches) {
+        return None;
+    }
+    let options = options_in(matches)?;
+    Some(Command::Run(options, limits_in(matches)?))
+}
+
+/// `vm`: `--budget`.
+fn vm_in(matches: &ArgMatches<'_>) -> Option<Command>
+    ensures value { result ≡ spec.vm_in (rows_of (found_of matches.now)) }
+    ensures stack { IfSome result spec.HasStack }
+{
+    let others = [
+        OptionName::Pass,
+        OptionName::Alloc,
+        OptionName::Stack,
+        OptionName::Seed,
+        OptionName::Size,
+    ];
+    if !gives_none(others.as_slice(), matches) {
+        return None;
+    }
+    let turns = budget_in(matches)?;
+    Some(Command::Vm { turns })
+}
+
+/// `exec`: `--stack` and `--budget`.
+fn exec_in(matches: &ArgMatches<'_>) -> Option<Command>
+    ensures value { result ≡ spec.exec_in (rows_of (found_of matches.now)) }
+    ensures stack { IfSome result spec.HasStack }
+{
+    let others = [
+        OptionName::Pass,
+        OptionName::Alloc,
+        OptionName::Seed,
+        OptionName::Size,
+    ];
+    if !gives_none(others.as_slice(), matches) {
+        return None;
+    }
+    Some(Command::Exec(limits_in(matches)?))
+}
+
+/// A command without options.
+fn alone(command: Command, matches: &ArgMatches<'_>) -> Option<Command>
+    ensures value { result ≡ spec.alone command (rows_of (found_of matches.now)) }
+    ensures stack { spec.HasStack command → IfSome result spec.HasStack }
+{
+    let others = [
+        OptionName::Pass,
+        OptionName::Alloc,
+        OptionName::Stack,
+        OptionName::Budget,
+        OptionName::Seed,
+        OptionName::Size,
+    ];
+    if gives_none(others.as_slice(), matches) {
+        Some(command)
+    } else {
+        None
+    }
+}
+
+/// `print`: `--pass`, which has to be given, and `--alloc`.
+fn print_in(matches: &ArgMatches<'_>) -> Option<Command>
+    ensures value { result ≡ spec.print_in (rows_of (found_of matches.now)) }
+    ensures stack { IfSome result spec.HasStack }
+{
+    let others = [
+        OptionName::Stack,
+        OptionName::Budget,
+        OptionName::Seed,
+        OptionName::Size,
+    ];
+    if !gives_none(others.as_slice(), matches) {
+        return None;
+    }
+    let pass = pass_in(matches)?;
+    Some(Command::Print(pass, options_in(matches)?))
+}
+
+/// The command of a word.
+fn command_of(word: &str, matches: &ArgMatches<'_>) -> Option<Command>
+    ensures value { result ≡ spec.command_of word.now (rows_of (found_of matches.now)) }
+    ensures stack { IfSome result spec.HasStack }
+{
+    match word {
+        "build" => build_in(matches),
+        "run" => run_in(matches),
+        "vm" => vm_in(matches),
+        "exec" => exec_in(matches),
+        "migrate" => alone(Command::Migrate, matches),
+        "assemble" => alone(Command::Assemble, matches),
+        "print" => print_in(matches),
+        _ => None,
+    }
+}
+
+/// The request of what the words give.
+fn request_in<'a>(matches: &ArgMatches<'a>) -> Option<Request<'a>>
+    ensures value { spec.shown result ≡ spec.request_in (rows_of (found_of matches.now)) }
+    ensures stack { IfSome result (λ r. spec.HasStack r.command) }
+{
+    let command = command_of(command_in(matches)?, matches)?;
+    let file = file_in(matches)?;
+    Some(Request { command, file })
+}
+
+/// The request of the words, of which the first is the program's name.
+///
+/// # Errors
+///
+/// [`WordsFault::Usage`] comes exactly where they are none that the compiler takes, unless memory is short, and
+/// [`WordsFault::NoMemory`] only where it is.
+#[tactic(auto, using(crate::proofs::Asked::refused))]
+pub fn read_words(alloc: Global, words: &[String]) -> Result<Request<'_>, WordsFault>
+    ensures request { IfOk result (λ r. spec.request_of (map string_bytes words.now) ≡ Some (r.command, r.file.now)) }
+    ensures stack { IfOk result (λ r. spec.HasStack r.command) }
+    ensures fault { IfErr result (spec.IsFaultOf (map string_bytes words.now)) }
+{
+    let matches = match matches_of(alloc, words) {
+        Ok(matches) => matches,
+        Err(fault) => return Err(fault),
+    };
+    match request_in(&matches) {
+        Some(request) => Ok(request),
+        None => Err(WordsFault::Usage),
+    }
+}

@@ -1,0 +1,40 @@
+//! What a call asks for.
+
+use compile_options::{MachineLimits, Options, PassName};
+
+/// What is asked for.
+#[derive(Clone, Copy, Debug, PartialEq, Eq)]
+pub enum Command {
+    /// To compile a C file, and write its image.
+    Build(Options),
+    /// To compile a C file, and run its image.
+    Run(Options, MachineLimits),
+    /// To make the program of a C file over virtual registers, and run it for so many turns at most.
+    Vm { turns: u64 },
+    /// To read an image, and run it.
+    Exec(MachineLimits),
+    /// To read an image, and write it in the version that is written today.
+    Migrate,
+    /// To read an assembly text, and write its image.
+    Assemble,
+    /// To compile a C file, and write the text of a pass.
+    Print(PassName, Options),
+}
+
+/// A command and the name of its file.
+#[derive(Clone, Copy, Debug, PartialEq, Eq)]
+pub struct Request<'a> {
+    pub command: Command,
+    pub file: &'a str,
+}
+
+/// The options that there are.
+#[derive(Clone, Copy, Debug, PartialEq, Eq)]
+pub(crate) enum OptionName {
+    Pass,
+    Alloc,
+    Stack,
+    Budget,
+    Seed,
+    Size,
+}

@@ -1,0 +1,4 @@
+pub mod Units
+pub mod Builds
+pub mod Runs
+pub mod Vm

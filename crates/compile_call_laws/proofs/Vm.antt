@@ -1,0 +1,64 @@
+-- What `vm` answers for a text that has a unit.
+use Rattle.std.proofs.Common.{◌≡◌, ◌≢◌, ℕ, ◌<◌, List, All, inl, inr, Some, refl, sym, ap, ◌∙◌, subst}
+use Rattle.mem_model.specs.World.{Rooms}
+use Rattle.mem_model.specs.Ending.{Ending, Done, Trap, Undefined, More}
+use Rattle.vm_meaning.specs.Behave.{behave_vm}
+use Rattle.vm_meaning.specs.Laws.{OneVmEnding}
+use Rattle.bk_io.specs.Outside.{taken_with}
+use Rattle.c_mean.specs.Behaviour as c
+use Rattle.c_mean.specs.Behaviour.{CBehaviour, output_of}
+use Rattle.c_typed_tree.specs.declared.units.TypedUnit.{TypedUnit}
+use Rattle.c_semantics.specs.Behaves.{behave_c, behaviour_of, rooms_of}
+use Rattle.suifvm_ir.specs.declared.program.VmProgram.{VmProgram}
+use Rattle.suifvm_run.specs.declared.ending.VmEnding.{VmEnding}
+use Rattle.suifvm_run.specs.declared.ending.VmEnding.TheVariants as ending
+use Rattle.suifvm_run.specs.Run.{Traffic, VmBehaves}
+use Rattle.lowering_theorem.specs.Laws.{IsCodeOf, BehavesAsUnit, BehavioursAreKept}
+use Rattle.call_outcomes.specs.declared.outcome.Outcome.{Outcome}
+use Rattle.call_outcomes.specs.declared.outcome.Outcome.TheVariants.{Ran, Trapped, Budget}
+use Rattle.compile_options.specs.declared.Allocator.{Allocator}
+use Rattle.compile_calls.specs.Compile.{IsBuilt}
+use Rattle.compile_calls.specs.Vm.{outcome_of_ending, RunsProgram}
+use Rattle.compile_call_laws.specs.Laws.{HasUnit, IsOutcomeOf, AnswersAs, TextsWithAUnitAreNotRefused, VmAnswersAsTheTextMeans}
+use Rattle.compile_call_laws.proofs.Units.{OneTree}
+use Rattle.compile_call_laws.proofs.Builds.{of_text, same_unit}
+
+module _ (text : List ℕ) (turns : ℕ) (before after : Traffic) (b : CBehaviour) where
+  -- what is answered for an ending is answered for its behaviour
+  meant : (e : Ending) (answer : Outcome) → behaviour_of e ≡ b → IsOutcomeOf turns (behaviour_of e) answer → after.taken ≡ taken_with (output_of (behaviour_of e)) before.taken
+      → AnswersAs text turns b before after answer
+  meant e answer is outcome taken = subst (λ x. AnswersAs text turns x before after answer) is (AnswersAs.as_meant outcome taken)
+
+  module _ (one_ending : OneVmEnding) (ne : b ≢ c.Undefined) (rooms : Rooms) (program : VmProgram) (input : List ℕ) (e : Ending) (means : behave_vm rooms program input turns e) (is : behaviour_of e ≡ b) where
+    -- an ending of the run is the one that is meant
+    same : (f : Ending) → behave_vm rooms program input turns f → behaviour_of f ≡ b
+    same f other = ap behaviour_of (one_ending rooms program input turns f e other means) ∙ is
+
+    by_ending : (v : VmEnding) → VmBehaves rooms program input turns v before after → AnswersAs text turns b before after (outcome_of_ending turns v)
+    by_ending (ending.Ended status) r = meant (Done r.last status) (Ran status) (same (Done r.last status) r.stops) refl r.taken
+    by_ending (ending.Trapped code) r = meant (Trap r.last code) (Trapped code) (same (Trap r.last code) r.stops) refl r.taken
+    by_ending (ending.Undefined pc) r = absurd (ne (sym (same (Undefined r.last pc) r.stops)))
+    by_ending (ending.Budget left) r = meant (More r.last) (Budget turns) (same (More r.last) r.stops.1) refl r.taken
+    by_ending ending.InputFault r = AnswersAs.input_fault refl
+    by_ending ending.WriteFault r = AnswersAs.write_fault refl
+    by_ending ending.NoMemory r = AnswersAs.no_memory refl (inl r.stops.1)
+
+module _ (one_tree : OneTree) (not_refused : TextsWithAUnitAreNotRefused) (one_ending : OneVmEnding) (kept : BehavioursAreKept) where
+  by_program : (text input : List ℕ) (unit : TypedUnit) (turns : ℕ) (answer : Outcome) (before after : Traffic) (program : VmProgram) → HasUnit text unit → IsCodeOf unit program
+      → before.left ≡ Some input → All (λ byte. byte < 256) input → behave_c unit input turns ≢ c.Undefined → RunsProgram turns program answer before after
+      → AnswersAs text turns (behave_c unit input turns) before after answer
+  by_program text input unit turns answer before after program has code told bytes ne runs =
+      let it : BehavesAsUnit unit program input turns = kept unit program has.is_unit.is_unit.lawful.typed code input turns bytes ne in
+      subst (AnswersAs text turns (behave_c unit input turns) before after) (sym runs.1)
+      (by_ending text turns before after (behave_c unit input turns) one_ending ne (rooms_of unit) program input it.ending it.ends it.behaviour runs.0 (runs.2 (rooms_of unit) input told))
+
+  pub answers : VmAnswersAsTheTextMeans
+  answers text input unit allocator turns answer before after has told bytes ne runs = elim runs [
+    | inl w ↦ elim (not_refused text unit answer has w.0) [
+      | inl file ↦ AnswersAs.file_fault file
+      | inr memory ↦ AnswersAs.no_memory memory.0 memory.1
+    ]
+    | inr m ↦
+        let is : IsBuilt text allocator m.0 = of_text text allocator m.0 m.1 in
+        by_program text input unit turns answer before after m.0.vm has (subst (λ u. IsCodeOf u m.0.vm) (same_unit one_tree text unit allocator m.0 has is) is.made.code) told bytes ne m.2
+  ]

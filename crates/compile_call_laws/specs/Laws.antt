@@ -1,0 +1,119 @@
+-- What the commands that compile answer for a text is what the text means (C99 5.1.2.3).
+use Rattle.std.specs.Prelude.{◌≡◌, ◌≢◌, ℕ, ◌<◌, ◌≤◌, ◌⊎◌, List, All, length, Option, Some}
+use Rattle.bk_memory.specs.Shortage.{MemoryIsShort}
+use Rattle.bk_io.specs.Outside.{taken_with}
+use Rattle.machine_model.specs.Laws.{IsPrefix}
+use Rattle.flat_memory.specs.Bytes.{AreBytes}
+use Rattle.alpha_isa.specs.Program.{Program, IsLawful}
+use Rattle.alpha_isa.specs.Behave.{IsStack}
+use Rattle.alpha_isa.specs.ImageFormat.{image_spelling}
+use Rattle.alpha_run.specs.Run as machine
+use Rattle.suifvm_run.specs.Run as vm
+use Rattle.c_mean.specs.Behaviour as c
+use Rattle.c_mean.specs.Behaviour.{Meaning, CBehaviour, Good, output_of}
+use Rattle.c_lexer.specs.Limits.{text_limit}
+use Rattle.c_tree.specs.declared.declarations.TranslationUnit.{TranslationUnit}
+use Rattle.c_parser.specs.Reading.{IsTooHigh}
+use Rattle.c_typed_tree.specs.declared.units.TypedUnit.{TypedUnit}
+use Rattle.c_semantics.specs.Behaves.{meaning, behave_c}
+use Rattle.call_outcomes.specs.declared.outcome.Outcome.{Outcome}
+use Rattle.call_outcomes.specs.declared.outcome.Outcome.TheVariants.{Built, Ran, Trapped, Budget, FileFault, InputFault, WriteFault, NoMemory}
+use Rattle.call_outcomes.specs.FromFile.{IsCause}
+use Rattle.call_outcomes.specs.Output.{PutsBytes}
+use Rattle.compile_options.specs.declared.Allocator.{Allocator}
+use Rattle.compile_options.specs.declared.MachineLimits.{MachineLimits}
+use Rattle.front_end.specs.Units.{IsUnitWithin}
+use Rattle.compile_calls.specs.Same.{Same}
+use Rattle.compile_calls.specs.Compile.{RefusesText}
+use Rattle.compile_calls.specs.Build.{Builds}
+use Rattle.compile_calls.specs.Run.{Runs}
+use Rattle.compile_calls.specs.Vm.{RunsText}
+
+-- the text is within the limit, and has this unit, within the limits of weight and of data
+pub record HasUnit (text : List ℕ) (unit : TypedUnit) : Type 0 where
+  pub low : length text ≤ text_limit
+  pub tree : TranslationUnit
+  pub is_unit : IsUnitWithin text tree unit
+
+-- why there is no memory for a text: it is short, or the tree of the text is higher than is taken
+abbrev pub IsShortFor : List ℕ → Type 0
+IsShortFor text = MemoryIsShort ⊎ IsTooHigh text
+
+abbrev pub TextsWithAUnitAreNotRefused : Type 0
+TextsWithAUnitAreNotRefused =
+    (text : List ℕ) (unit : TypedUnit) (answer : Outcome) → HasUnit text unit →
+    IsCause (RefusesText (Some text)) answer → (answer ≡ FileFault) ⊎ ((answer ≡ NoMemory) × IsShortFor text)
+
+-- ---- `build`
+
+-- What is written for a unit: the bytes of an image that behaves as the unit does, on every stack, or a front of them
+-- where the output fails; or the file is not read, or memory is short, and nothing is.
+pub data WritesUnit (text : List ℕ) (unit : TypedUnit) (answer : Outcome) (old new : Option (List ℕ)) : Type 0 where
+  image : (p : Program) → IsLawful p → ((stack : ℕ) → IsStack stack → Same (meaning unit) p stack) →
+      PutsBytes Built (image_spelling p) answer old new → WritesUnit text unit answer old new
+  file_fault : answer ≡ FileFault → new ≡ old → WritesUnit text unit answer old new
+  no_memory : answer ≡ NoMemory → new ≡ old → IsShortFor text → WritesUnit text unit answer old new
+
+abbrev pub BuildWritesWhatTheTextMeans : Type 0
+BuildWritesWhatTheTextMeans =
+    (text : List ℕ) (unit : TypedUnit) (allocator : Allocator) (answer : Outcome) (old new : Option (List ℕ)) →
+    HasUnit text unit → Builds allocator (Some text) answer old new → WritesUnit text unit answer old new
+
+-- ---- `run`
+
+-- a front was put of what a program puts within some number of turns
+pub record PutsFront (m : Meaning) (input : List ℕ) (before after : Option (List ℕ)) : Type 0 where
+  pub turns : ℕ
+  pub put : List ℕ
+  pub front : IsPrefix put (output_of (m.behave input turns))
+  pub taken : after ≡ taken_with put before
+
+-- What a run of so many steps may do for a program on an input: it ends or traps as the program does, and puts what that
+-- puts; or a front of that, where the steps do not suffice, or the input or the output fails; or the file is not read, or
+-- memory is short, and nothing is done.
+pub data RunsUnit (text : List ℕ) (m : Meaning) (input : List ℕ) (budget : ℕ) (before after : machine.Traffic) :
+    Outcome → Type 0 where
+  ran : (turns : ℕ) (output : List ℕ) (status : ℕ) → m.behave input turns ≡ c.Done output status →
+      after.taken ≡ taken_with output before.taken → RunsUnit text m input budget before after (Ran status)
+  trapped : (turns : ℕ) (output : List ℕ) (code : ℕ) → m.behave input turns ≡ c.Trap output code →
+      after.taken ≡ taken_with output before.taken → RunsUnit text m input budget before after (Trapped code)
+  out_of_steps : PutsFront m input before.taken after.taken → RunsUnit text m input budget before after (Budget budget)
+  input_fault : PutsFront m input before.taken after.taken → RunsUnit text m input budget before after InputFault
+  write_fault : PutsFront m input before.taken after.taken → RunsUnit text m input budget before after WriteFault
+  file_fault : after ≡ before → RunsUnit text m input budget before after FileFault
+  no_memory : after ≡ before → IsShortFor text → RunsUnit text m input budget before after NoMemory
+
+abbrev pub RunDoesWhatTheTextMeans : Type 0
+RunDoesWhatTheTextMeans =
+    (text input : List ℕ) (unit : TypedUnit) (allocator : Allocator) (limits : MachineLimits) (answer : Outcome)
+    (before after : machine.Traffic) → HasUnit text unit → IsStack limits.stack → before.left ≡ Some input →
+    AreBytes input → Good (meaning unit) input limits.stack →
+    Runs allocator limits (Some text) answer before after →
+    RunsUnit text (meaning unit) input limits.budget before after answer
+
+-- ---- `vm`
+
+-- the outcome of a behaviour within so many turns; one that is undefined has none
+abbrev pub IsOutcomeOf : (turns : ℕ) → CBehaviour → Outcome → Type 0
+IsOutcomeOf turns (c.Done output status) answer = answer ≡ Ran status
+IsOutcomeOf turns (c.Trap output code) answer = answer ≡ Trapped code
+IsOutcomeOf turns c.Undefined answer = ⊥
+IsOutcomeOf turns (c.More output) answer = answer ≡ Budget turns
+
+-- what may be answered for a unit that behaves so within so many turns: the outcome of that, where the output took all
+-- that the unit puts; or the file, the input or the output fails, or memory is short
+pub data AnswersAs (text : List ℕ) (turns : ℕ) (b : CBehaviour) (before after : vm.Traffic) (answer : Outcome) :
+    Type 0 where
+  as_meant : IsOutcomeOf turns b answer → after.taken ≡ taken_with (output_of b) before.taken →
+      AnswersAs text turns b before after answer
+  file_fault : answer ≡ FileFault → AnswersAs text turns b before after answer
+  input_fault : answer ≡ InputFault → AnswersAs text turns b before after answer
+  write_fault : answer ≡ WriteFault → AnswersAs text turns b before after answer
+  no_memory : answer ≡ NoMemory → IsShortFor text → AnswersAs text turns b before after answer
+
+abbrev pub VmAnswersAsTheTextMeans : Type 0
+VmAnswersAsTheTextMeans =
+    (text input : List ℕ) (unit : TypedUnit) (allocator : Allocator) (turns : ℕ) (answer : Outcome)
+    (before after : vm.Traffic) → HasUnit text unit → before.left ≡ Some input → All (λ byte. byte < 256) input →
+    behave_c unit input turns ≢ c.Undefined → RunsText allocator turns (Some text) answer before after →
+    AnswersAs text turns (behave_c unit input turns) before after answer

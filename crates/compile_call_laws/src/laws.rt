@@ -1,0 +1,46 @@
+//! Laws of the commands that compile, each the contract of a function that does nothing.
+
+ghost use Rattle.compile_call_laws.specs.Laws.{TextsWithAUnitAreNotRefused, BuildWritesWhatTheTextMeans, RunDoesWhatTheTextMeans, VmAnswersAsTheTextMeans};
+
+use c_parser::laws::{one_tree, read_or_refused};
+use lowering_theorem::laws::behaviours_are_kept;
+use vm_meaning::laws::one_ending;
+
+/// A text that has a unit within the limits is refused by no command that compiles it, unless the file fails or memory is
+/// short, or its tree is higher than is taken.
+pub fn texts_with_a_unit_are_not_refused()
+    ensures { TextsWithAUnitAreNotRefused }
+{
+    one_tree();
+    read_or_refused();
+}
+
+/// `build` writes for such a text the image of what behaves as the unit, on every stack, unless the outside fails or memory
+/// is short.
+pub fn build_writes_what_the_text_means()
+    ensures { BuildWritesWhatTheTextMeans }
+{
+    one_tree();
+    read_or_refused();
+}
+
+/// `run` ends or traps for such a text as the unit does, on each input of bytes that is told and on which the unit promises
+/// something with the stack of the run, unless its steps do not suffice, the outside fails or memory is short; it puts what
+/// the unit puts, or a front of that, and is never stuck.
+pub fn run_does_what_the_text_means()
+    ensures { RunDoesWhatTheTextMeans }
+{
+    one_tree();
+    read_or_refused();
+}
+
+/// `vm` answers for such a text as the unit behaves within the turns asked for, on each input of bytes that is told,
+/// wherever that is defined, and puts what the unit puts, unless the outside fails or memory is short.
+pub fn vm_answers_as_the_text_means()
+    ensures { VmAnswersAsTheTextMeans }
+{
+    one_tree();
+    read_or_refused();
+    one_ending();
+    behaviours_are_kept();
+}

@@ -1,0 +1,4 @@
+pub mod Loops
+pub mod Causes
+pub mod Told
+pub mod Runs

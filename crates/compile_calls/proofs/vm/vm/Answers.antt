@@ -1,0 +1,5 @@
+use Rattle.std.proofs.Common.{inr}
+use Rattle.compile_calls.proofs.vm.vm.Goals as goal
+
+pub returns-in-Ok-clause-answer : goal.returns-in-Ok-clause-answer
+returns-in-Ok-clause-answer g c = inr (c.in-Ok.built, c.in-Ok.ensures.built, c.run_program.ensures.answer)

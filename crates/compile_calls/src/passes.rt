@@ -1,0 +1,30 @@
+//! The text of a pass.
+
+ghost use Rattle.std.specs.Prelude.{◌≡◌, IfOk, length};
+ghost use Rattle.compile_calls.specs.Texts.{text_of_pass};
+
+use crate::allocations::allocations_text;
+use alpha_text::print::print_asm;
+use c_tree::tree_text;
+use cfg_text::graph_text;
+use compile_options::PassName;
+use compiler::Built;
+use std::alloc::{AllocError, Global};
+use suifvm_ir::vm_text;
+use temp_ir::temp_text;
+
+/// The text of a pass, of what was made of a text. It fails only where memory is short.
+pub fn pass_text(alloc: Global, built: &Built, pass: PassName) -> Result<Vec<u8>, AllocError>
+    // Each function has an allocation, as all that a compile makes has.
+    requires { length built.now.allocations.items ≡ length built.now.temps.functions }
+    ensures { IfOk result (λ text. text.items ≡ text_of_pass pass built.now) }
+{
+    match pass {
+        PassName::Tree => tree_text(alloc, &built.unit),
+        PassName::Vm => vm_text(alloc, &built.vm),
+        PassName::Graph => graph_text(alloc, &built.vm),
+        PassName::Select => temp_text(alloc, &built.temps),
+        PassName::Alloc => allocations_text(alloc, built.allocations.as_slice()),
+        PassName::Asm => print_asm(alloc, &built.asm),
+    }
+}

@@ -1,0 +1,3 @@
+pub mod ImageFronts
+pub mod MigrateImages
+pub mod RunImages

@@ -1,0 +1,4 @@
+pub mod WriteImage
+pub mod RunImage
+pub mod MigrateImage
+pub mod model

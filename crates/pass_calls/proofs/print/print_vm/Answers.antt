@@ -1,5 +1,0 @@
-use Rattle.std.proofs.Common.{inr}
-use Rattle.pass_calls.proofs.print.print_vm.Goals as goal
-
-pub returns-in-Ok-clause-answer : goal.returns-in-Ok-clause-answer
-returns-in-Ok-clause-answer g c = inr (c.in-Ok.program, c.in-Ok.ensures.program, c.write_program.ensures.answer)

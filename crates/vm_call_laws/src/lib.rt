@@ -1,4 +1,0 @@
-//! What `vm` answers for a text is what the text means.
-#![tactic(auto)]
-
-pub mod laws;
