@@ -58,7 +58,7 @@ request_in rows = with_file (file_in rows) (option_and_then (λ word. command_of
 
 -- The command and its file: the words are well by the crate clap, and what they give is a command with its file and its
 -- options.
-abbrev pub request_of : List (List ℕ) → Option (Command × List ℕ)
+unfoldable pub request_of : List (List ℕ) → Option (Command × List ℕ)
 request_of words = if are_well words then request_in (rows_in words) else None
 
 -- a request of the code, as such a pair

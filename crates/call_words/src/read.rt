@@ -1,6 +1,6 @@
 //! The request of the words.
 
-ghost use Rattle.std.specs.Prelude.{◌≡◌, IfOk, IfErr, IfSome, Some, map, string_bytes};
+ghost use Rattle.std.specs.Prelude.{◌≡◌, IfOk, IfErr, IfSome, Some, None, map, string_bytes};
 ghost use Rattle.clap.specs.Words.{found_of, rows_of};
 ghost use Rattle.call_words.specs.Request as spec;
 
@@ -154,6 +154,19 @@ fn request_in<'a>(matches: &ArgMatches<'a>) -> Option<Request<'a>>
     Some(Request { command, file })
 }
 
+/// The request of what the words give, or that they give none.
+fn asked_by<'a>(matches: &ArgMatches<'a>) -> Result<Request<'a>, WordsFault>
+    ensures request { IfOk result (λ r. spec.request_in (rows_of (found_of matches.now)) ≡ Some (r.command, r.file.now)) }
+    ensures stack { IfOk result (λ r. spec.HasStack r.command) }
+    ensures fault { IfErr result (λ f. (f ≡ WordsFault.Usage)
+        × (spec.request_in (rows_of (found_of matches.now)) ≡ None)) }
+{
+    match request_in(matches) {
+        Some(request) => Ok(request),
+        None => Err(WordsFault::Usage),
+    }
+}
+
 /// The request of the words, of which the first is the program's name.
 ///
 /// # Errors
@@ -166,12 +179,8 @@ pub fn read_words(alloc: Global, words: &[String]) -> Result<Request<'_>, WordsF
     ensures stack { IfOk result (λ r. spec.HasStack r.command) }
     ensures fault { IfErr result (spec.IsFaultOf (map string_bytes words.now)) }
 {
-    let matches = match matches_of(alloc, words) {
-        Ok(matches) => matches,
-        Err(fault) => return Err(fault),
-    };
-    match request_in(&matches) {
-        Some(request) => Ok(request),
-        None => Err(WordsFault::Usage),
+    match matches_of(alloc, words) {
+        Ok(matches) => asked_by(&matches),
+        Err(fault) => Err(fault),
     }
 }

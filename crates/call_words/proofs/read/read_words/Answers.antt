@@ -1,11 +1,15 @@
 -- The words have matches, which ask for something or for nothing.
-use Rattle.std.proofs.Common.{map, Some, None}
+use Rattle.std.proofs.Common.{map}
 use Rattle.std.specs.Prelude.{string_bytes}
-use Rattle.call_words.proofs.Asked.{asked}
+use Rattle.call_words.proofs.Asked.{when_ok, when_err}
 use Rattle.call_words.proofs.read.read_words.Goals as goal
 
-pub returns-in-Some-clause-request : goal.returns-in-Some-clause-request
-returns-in-Some-clause-request c = asked (map string_bytes c.args.words.now) c.in-Ok.matches (Some (c.in-Some.request.command, c.in-Some.request.file.now)) c.in-Ok.ensures.matched c.in-Some.ensures.value
+pub returns-in-Ok-clause-request : goal.returns-in-Ok-clause-request
+returns-in-Ok-clause-request c =
+    when_ok (λ r. (r.command, r.file.now)) (map string_bytes c.args.words.now) c.in-Ok.matches c.in-Ok.ensures.matched
+    c.asked_by.result c.asked_by.ensures.request
 
-pub returns-clause-fault : goal.returns-clause-fault
-returns-clause-fault c = asked (map string_bytes c.args.words.now) c.in-Ok.matches None c.in-Ok.ensures.matched c.in-None.ensures.value
+pub returns-in-Ok-clause-fault : goal.returns-in-Ok-clause-fault
+returns-in-Ok-clause-fault c =
+    when_err (map string_bytes c.args.words.now) c.in-Ok.matches c.in-Ok.ensures.matched c.asked_by.result
+    c.asked_by.ensures.fault
