@@ -8,7 +8,7 @@ use Rattle.alloc_model.specs.Temporaries.{code_of}
 use Rattle.alloc_model.specs.Places.{plan_of, functions_of}
 use Rattle.alloc_model.specs.Faithful.{Faithful}
 use Rattle.flat_frames.specs.Shapes.{frame_size}
-use Rattle.function_shapes.specs.Shapes.{shape_of}
+use Rattle.frame_bounds.specs.Shapes.{shape_of}
 use Rattle.frame_bounds.proofs.Rooms.{is_few}
 use Rattle.program_assembly.specs.Programs.{plans_of}
 use Rattle.program_assembly.specs.Layouts.{FitsProgram}

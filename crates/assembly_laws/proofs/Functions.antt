@@ -16,16 +16,16 @@ use Rattle.alloc_model.specs.declared.allocation.Allocation.{Allocation}
 use Rattle.alloc_model.specs.Places.{Plan, plan_of}
 use Rattle.flat_frames.specs.Shapes.{frame_size}
 use Rattle.function_items.specs.Items.{function_items}
-use Rattle.function_shapes.specs.Shapes.{shape_of}
-use Rattle.frame_emitter.specs.Settings.{near_insn, near_blocks, near_plan, setting_of}
-use Rattle.frame_layout.specs.Names.{CallsBelow}
-use Rattle.frame_layout.proofs.Soundness.{near_length, near_widest}
+use Rattle.frame_bounds.specs.Shapes.{shape_of}
+use Rattle.frame_bounds.specs.Settings.{near_insn, near_blocks, near_plan, setting_of}
+use Rattle.program_assembly.specs.Names.{CallsBelow}
+use Rattle.program_assembly.proofs.Soundness.{near_length, near_widest}
 use Rattle.frame_bounds.proofs.Rooms.{is_few}
 use Rattle.frame_labels.specs.Labels.{IsCalled, IsUsable, UsesOnly}
 use Rattle.frame_labels.proofs.Used.{function_uses}
-use Rattle.frame_ranges.specs.Ranges.{HasRegisters}
-use Rattle.frame_ranges.proofs.Items.{function_in_range}
-use Rattle.frame_ranges.proofs.Numbers.{numbers_fit}
+use Rattle.program_assembly.specs.Ranges.{HasRegisters}
+use Rattle.program_assembly.proofs.Items.{function_in_range}
+use Rattle.program_assembly.proofs.Numbers.{numbers_fit}
 use Rattle.program_assembly.specs.Assemblies.{final_items}
 use Rattle.program_assembly.specs.Layouts.{first_label, label_count, FitsProgram, FunctionIsLaidOut, FollowFrom}
 use Rattle.assembly_laws.specs.Laws.{CanBeAssembled}

@@ -10,8 +10,8 @@ use Rattle.alpha_items.specs.Assembly.{labels}
 use Rattle.data_object.specs.declared.DataObject.{DataObject}
 use Rattle.alloc_model.specs.declared.allocation.Allocation.{Allocation}
 use Rattle.alloc_model.specs.Places.{plan_of}
-use Rattle.frame_emitter.specs.Settings.{near_plan}
-use Rattle.frame_layout.proofs.Soundness.{near_length}
+use Rattle.frame_bounds.specs.Settings.{near_plan}
+use Rattle.program_assembly.proofs.Soundness.{near_length}
 use Rattle.frame_labels.specs.Labels.{own_labels}
 use Rattle.frame_labels.proofs.Named.{function_named}
 use Rattle.program_assembly.specs.Assemblies.{final_items}

@@ -16,8 +16,8 @@ use Rattle.alloc_model.specs.Temporaries as model
 use Rattle.alloc_model.specs.Places.{Plan, plan_of}
 use Rattle.instruction_items.specs.Items.{ItemSetting}
 use Rattle.function_items.specs.Items.{function_items}
-use Rattle.function_shapes.specs.Shapes.{shape_of}
-use Rattle.frame_emitter.specs.Settings.{near_plan, setting_of, place_in}
+use Rattle.frame_bounds.specs.Shapes.{shape_of}
+use Rattle.frame_bounds.specs.Settings.{near_plan, setting_of, place_in}
 use Rattle.frame_bounds.specs.Near.{IsNear}
 use Rattle.frame_bounds.proofs.Near.{plan_same}
 use Rattle.frame_bounds.proofs.Fronts.{function_front}

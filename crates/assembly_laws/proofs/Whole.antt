@@ -17,7 +17,7 @@ use Rattle.data_object.specs.Layout.{data_end}
 use Rattle.flat_globals.proofs.LaidOut.{lawful_ones_are_laid_out}
 use Rattle.global_data.specs.GlobalBytes.{global_bytes}
 use Rattle.alloc_model.specs.declared.allocation.Allocation.{Allocation}
-use Rattle.call_exits.specs.Leaving.{ending_items}
+use Rattle.program_assembly.specs.Leaving.{ending_items}
 use Rattle.program_assembly.specs.Programs.{start_items}
 use Rattle.program_assembly.specs.Assemblies.{final_items, is_main, main_of, gathered}
 use Rattle.program_assembly.specs.Layouts.{first_label, label_count, FollowFrom, FunctionsAreLaidOut}

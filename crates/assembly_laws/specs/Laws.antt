@@ -18,13 +18,13 @@ use Rattle.temp_ir.specs.Insns.{targets_of, flows_on_of}
 use Rattle.alpha_rt.specs.Calls.{scratch_size}
 use Rattle.alloc_model.specs.Temporaries.{code_of}
 use Rattle.flat_frames.specs.Shapes.{frame_size}
-use Rattle.function_shapes.specs.Shapes.{shape_of}
+use Rattle.frame_bounds.specs.Shapes.{shape_of}
 use Rattle.alloc_model.specs.declared.allocation.Allocation.{Allocation}
 use Rattle.alloc_model.specs.Places.{Plan}
 use Rattle.instruction_items.specs.Items.{ItemSetting}
 use Rattle.frame_bounds.specs.Near.{IsNear}
-use Rattle.frame_emitter.specs.Settings.{setting_of}
-use Rattle.frame_ranges.specs.Ranges.{IsSmall}
+use Rattle.frame_bounds.specs.Settings.{setting_of}
+use Rattle.program_assembly.specs.Ranges.{IsSmall}
 use Rattle.program_assembly.specs.Programs.{Placing, HasItemsOf, IsAllocated, plans_of, start_items}
 use Rattle.program_assembly.specs.Assemblies.{final_items, gathered, main_of}
 use Rattle.program_assembly.specs.Layouts.{first_label, label_count, FitsProgram, FunctionsAreLaidOut}

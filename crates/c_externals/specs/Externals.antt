@@ -18,7 +18,7 @@ use Rattle.c_definitions.specs.declared.names.Definitions.{Definitions}
 use Rattle.c_checks.specs.Checks.{each}
 use Rattle.c_judgements.specs.Types.{State, type_named}
 use Rattle.c_tag_bodies.specs.Bodies.{Scope, declared_type}
-use Rattle.c_initialisers.specs.Unfit.{judge_init}
+use Rattle.c_declarations.specs.Unfit.{judge_init}
 use Rattle.c_statements.specs.declared.functions.FunctionType.{FunctionType}
 use Rattle.c_statements.specs.Functions.{function}
 use Rattle.c_unit_names.specs.declared.names.NameDeclaration.{NameDeclaration}

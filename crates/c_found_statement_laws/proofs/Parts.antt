@@ -34,7 +34,7 @@ use Rattle.c_checks.specs.Scopes.{with_name, stands_here}
 use Rattle.c_judgements.specs.Leaves.{leaf}
 use Rattle.c_judgements.specs.Types.{State, parameter_type}
 use Rattle.c_expressions.specs.Expressions.{judge, derive}
-use Rattle.c_tag_bodies.specs.Members.{is_member}
+use Rattle.c_statement_rules.specs.Members.{is_member}
 use Rattle.c_statement_rules.specs.declared.jumps.Jumps.{Jumps}
 use Rattle.c_statement_rules.specs.declared.labels.Labels.{Labels}
 use Rattle.c_statement_rules.specs.declared.locals.NewLocal.{NewLocal}

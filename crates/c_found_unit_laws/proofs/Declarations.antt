@@ -39,7 +39,7 @@ use Rattle.c_declarations.specs.declared.walk.UnitSoFar.{UnitSoFar}
 use Rattle.c_declarations.specs.Walk.{Walk, in_notes, with_notes, declare, with_names, is_main, main_checked, add_object, with_object, keep_cells, fill, keep_function, body_kept}
 use Rattle.c_declarations.specs.Objects.{no_object, object_type, type_there, array_type, init_judged, init_filled, object_declared, faulty_object, object_of, array_object, value_object}
 use Rattle.c_declarations.specs.Functions.{function_type, function_declared, function_of, function_with_type, init_refused, optional_refused, name_judged, name_row, type_where, defined_type, with_main, main_seen, refusal_of}
-use Rattle.c_externals.specs.Externals.{typedef_of, prototype, type_with, type_of_function, body_judged, definition_with}
+use Rattle.c_units.specs.Externals.{typedef_of, prototype, type_with, type_of_function, body_judged, definition_with}
 use Rattle.c_found_laws.specs.Laws.{is_sound, are_sound_names, IsSound, Tells, IsFound, Finds}
 use Rattle.c_found_laws.proofs.Forms.{no_true, also, holds, meaning_sound, tells_none, tells_fault, tells_as, tells_then, tells_both, tells_never, tells_named, type_named_tells}
 use Rattle.c_found_statement_laws.specs.Laws.{fits}

@@ -29,7 +29,7 @@ use Rattle.c_declarations.specs.declared.walk.UnitSoFar.{UnitSoFar}
 use Rattle.c_declarations.specs.Walk.{with_names, add_numbered, next_object, object_at, add_object, fill_numbered, keep_cells, function_called, function_by, function_at, add_function, keep_function}
 use Rattle.c_declarations.specs.Functions.{function_declared}
 use Rattle.c_declarations.specs.Objects.{object_declared}
-use Rattle.c_externals.specs.Externals.{typedef_of}
+use Rattle.c_units.specs.Externals.{typedef_of}
 use Rattle.c_units.specs.Units.{no_names, builtin_declared, builtins, start}
 use Rattle.c_type_laws.proofs.Truth.{no_true, front, back, also, either_left, either_right}
 use Rattle.c_found_unit_laws.specs.Laws.{is_kept}

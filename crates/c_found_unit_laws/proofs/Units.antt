@@ -26,7 +26,7 @@ use Rattle.c_tag_bodies.specs.Bodies.{Scope}
 use Rattle.c_unit_names.specs.declared.names.UnitNames.{UnitNames}
 use Rattle.c_declarations.specs.declared.walk.UnitFunction.{UnitFunction}
 use Rattle.c_declarations.specs.declared.walk.UnitSoFar.{UnitSoFar}
-use Rattle.c_externals.specs.Externals.{externals}
+use Rattle.c_units.specs.Externals.{externals}
 use Rattle.c_units.specs.Undefined.{add_number, with_use, with_uses, undefined_noted}
 use Rattle.c_units.specs.Units.{start, main_missed, end_notes, whole_unit, faults_of}
 use Rattle.c_type_laws.proofs.Truth.{no_true, front, back, also}

@@ -1,2 +1,4 @@
 pub mod Laws
 pub mod Steps
+pub use Rattle.c_units.specs.Units
+pub use Rattle.c_units.specs.Externals

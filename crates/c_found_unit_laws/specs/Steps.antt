@@ -24,7 +24,7 @@ use Rattle.c_declarations.specs.declared.walk.UnitSoFar.{UnitSoFar}
 use Rattle.c_declarations.specs.Walk.{with_names, add_object, keep_cells, keep_function}
 use Rattle.c_declarations.specs.Functions.{with_main, function_declared}
 use Rattle.c_declarations.specs.Objects.{object_declared}
-use Rattle.c_externals.specs.Externals.{typedef_of}
+use Rattle.c_units.specs.Externals.{typedef_of}
 
 -- a name that is declared for the first time, or again
 pub data IsDeclared (ds : Definitions) (name : List ℕ) (new : NameDeclaration) : UnitNames → Env → UnitNames → Env → Type 0 where

@@ -26,7 +26,7 @@ use Rattle.c_declared_types.specs.declared.declared.DeclaredType.{DeclaredType}
 use Rattle.c_declared_types.specs.declared.declared.DeclaredType.TheVariants as d
 use Rattle.c_declared_types.specs.Declarators.{parameter_value, parameter_of}
 use Rattle.c_declared_types.specs.Depth.{is_deep_at_most}
-use Rattle.c_tag_bodies.specs.Members.{is_member}
+use Rattle.c_statement_rules.specs.Members.{is_member}
 use Rattle.c_type_faults.specs.declared.faults.Kind.TheVariants.{BadType, BadInit, Redeclared}
 use Rattle.c_type_rules.specs.declared.typed.TypedExpression.{TypedExpression}
 use Rattle.c_operators.specs.Null.{take_value}

@@ -27,8 +27,8 @@ use Rattle.c_signature_laws.proofs.Functions.{function_has_type}
 use Rattle.c_step_laws.proofs.Statements.{function_steps}
 use Rattle.c_struct_laws.proofs.Growth.{grow_then}
 use Rattle.c_body_laws.specs.Notes.{IsWellDeclared}
-use Rattle.c_found_unit_laws.specs.Steps.{declared_as}
-use Rattle.c_unit_walk_laws.specs.Walks.{IsGivenType, WalkSteps, Stays, Follows, AddsConstant, AddsNotes, DeclaresType, DeclaresFunction, DefinesFunction, DeclaresObject, InitialisesObject}
+use Rattle.c_object_count_laws.specs.Steps.{declared_as}
+use Rattle.c_unit_object_laws.specs.Walks.{IsGivenType, WalkSteps, Stays, Follows, AddsConstant, AddsNotes, DeclaresType, DeclaresFunction, DefinesFunction, DeclaresObject, InitialisesObject}
 use Rattle.c_unit_object_laws.proofs.Goes.{goes_steps, declared, function_plain, steps_go}
 use Rattle.c_unit_object_laws.proofs.Types.{callable_stays}
 use Rattle.c_typed_unit_laws.proofs.Contexts.{context_with}

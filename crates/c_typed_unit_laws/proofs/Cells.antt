@@ -43,14 +43,14 @@ use Rattle.c_struct_laws.specs.Growth.{Grow}
 use Rattle.c_struct_laws.proofs.Growth.{grow_then}
 use Rattle.c_body_laws.specs.Notes.{of_structs, IsWellDeclared}
 use Rattle.c_body_laws.proofs.Notes.{typedefs_grow, noted_known}
-use Rattle.c_found_unit_laws.specs.Steps.{declared_as}
+use Rattle.c_object_count_laws.specs.Steps.{declared_as}
 use Rattle.c_global_laws.specs.Laws.{IsLawfulIn, AreLawfulIn}
-use Rattle.c_unit_walk_laws.specs.Walks.{IsInitialiserIn, IsObjectType, WalkSteps, Stays, Follows, AddsConstant, AddsNotes, DeclaresType, DeclaresFunction, DefinesFunction, DeclaresObject, InitialisesObject}
-use Rattle.c_unit_walk_laws.proofs.Texts.{stands_then}
-use Rattle.c_unit_meaning_laws.specs.Meanings.{Keeps, IsValueOf, AgreesWith, HasTypes}
-use Rattle.c_unit_meaning_laws.proofs.Names.{none_some, some_same, keeps_then, steps_mean}
-use Rattle.c_unit_meaning_laws.proofs.Types.{declared_types, steps_types}
-use Rattle.c_unit_meaning_laws.proofs.Functions.{agrees_here}
+use Rattle.c_unit_object_laws.specs.Walks.{IsInitialiserIn, IsObjectType, WalkSteps, Stays, Follows, AddsConstant, AddsNotes, DeclaresType, DeclaresFunction, DefinesFunction, DeclaresObject, InitialisesObject}
+use Rattle.c_unit_object_laws.proofs.Texts.{stands_then}
+use Rattle.c_unit_object_laws.specs.Meanings.{Keeps, IsValueOf, AgreesWith, HasTypes}
+use Rattle.c_unit_object_laws.proofs.Names.{none_some, some_same, keeps_then, steps_mean}
+use Rattle.c_unit_object_laws.proofs.CUnitMeaningLawsTypes.{declared_types, steps_types}
+use Rattle.c_unit_object_laws.proofs.Functions.{agrees_here}
 use Rattle.c_unit_object_laws.specs.Meant.{GoesTo, IsOfType, HasObjects}
 use Rattle.c_unit_object_laws.proofs.Goes.{goes_steps, declared, object_plain, steps_go}
 use Rattle.c_unit_object_laws.proofs.Types.{object_stays}

@@ -34,8 +34,8 @@ use Rattle.c_judgement_laws.proofs.Structs.{object_depth, object_fits}
 use Rattle.c_body_laws.specs.Notes.{of_structs}
 use Rattle.c_global_laws.specs.Laws.{HasObject, HasTextObject, AreThere, IsText, AreTexts}
 use Rattle.c_global_laws.proofs.Places.{all_there}
-use Rattle.c_unit_meaning_laws.specs.Meanings.{Keeps, IsNamed, AreNamed, HasNamedFunctions}
-use Rattle.c_unit_meaning_laws.proofs.Names.{none_some, some_same}
+use Rattle.c_unit_object_laws.specs.Meanings.{Keeps, IsNamed, AreNamed, HasNamedFunctions}
+use Rattle.c_unit_object_laws.proofs.Names.{none_some, some_same}
 use Rattle.c_unit_object_laws.specs.Meant.{IsCallable, IsOwnType, IsMeant, AreMeant, IsOfType, HasObjects}
 use Rattle.c_unit_object_laws.proofs.Types.{result_fits, result_plain, parameters_fit}
 use Rattle.c_typed_unit_laws.specs.Made.{IsKeptAs, IsMadeOf}

@@ -20,8 +20,8 @@ use Rattle.c_checks.specs.Scopes.{meaning_of}
 use Rattle.c_tag_bodies.specs.Bodies.{Scope}
 use Rattle.c_declarations.specs.declared.walk.UnitSoFar.{UnitSoFar}
 use Rattle.c_type_laws.proofs.Truth.{no_true, also}
-use Rattle.c_unit_meaning_laws.specs.Meanings.{IsStart, IsNamed, HasNamedFunctions}
-use Rattle.c_unit_meaning_laws.proofs.Names.{none_some, some_same}
+use Rattle.c_unit_object_laws.specs.Meanings.{IsStart, IsNamed, HasNamedFunctions}
+use Rattle.c_unit_object_laws.proofs.Names.{none_some, some_same}
 use Rattle.c_typed_unit_laws.specs.Made.{IsMadeOf}
 use Rattle.c_typed_unit_laws.proofs.Contexts.{kept_name, function_of}
 

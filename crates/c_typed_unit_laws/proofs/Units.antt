@@ -28,18 +28,18 @@ use Rattle.c_judgement_laws.specs.Covers.{HasNames, HaveTexts, IsLawfulContext}
 use Rattle.c_struct_laws.specs.Growth.{Grow}
 use Rattle.c_struct_laws.proofs.Growth.{grow_itself}
 use Rattle.c_body_laws.specs.Notes.{IsWellDeclared}
-use Rattle.c_unit_struct_laws.proofs.Units.{unit_declared}
+use Rattle.c_unit_object_laws.proofs.CUnitStructLawsUnits.{unit_declared}
 use Rattle.c_object_count_laws.proofs.Units.{objects_counted}
 use Rattle.c_function_name_laws.proofs.Names.{unit_names}
 use Rattle.c_layout_laws.proofs.Truth.{all_at}
 use Rattle.c_global_laws.specs.Laws.{AreTexts, AreLawfulIn}
 use Rattle.c_global_laws.proofs.Lawful.{all_lawful}
-use Rattle.c_unit_walk_laws.specs.Walks.{WalkSteps}
-use Rattle.c_unit_walk_laws.proofs.Texts.{stands_itself}
-use Rattle.c_unit_walk_laws.proofs.Units.{start_declared, unit_walk}
-use Rattle.c_unit_meaning_laws.specs.Meanings.{HasNamedFunctions}
-use Rattle.c_unit_meaning_laws.proofs.Names.{none_some, some_same}
-use Rattle.c_unit_meaning_laws.proofs.Functions.{start_types, unit_named, unit_main}
+use Rattle.c_unit_object_laws.specs.Walks.{WalkSteps}
+use Rattle.c_unit_object_laws.proofs.Texts.{stands_itself}
+use Rattle.c_unit_object_laws.proofs.Units.{start_declared, unit_walk}
+use Rattle.c_unit_object_laws.specs.Meanings.{HasNamedFunctions}
+use Rattle.c_unit_object_laws.proofs.Names.{none_some, some_same}
+use Rattle.c_unit_object_laws.proofs.Functions.{start_types, unit_named, unit_main}
 use Rattle.c_unit_object_laws.specs.Meant.{HasObjects}
 use Rattle.c_unit_object_laws.proofs.Goes.{steps_go}
 use Rattle.c_unit_object_laws.proofs.Meant.{start_meant, steps_meant}

@@ -13,7 +13,7 @@ use Rattle.c_units.specs.Units.{whole_unit}
 use Rattle.c_function_name_laws.specs.Laws.{passes}
 use Rattle.c_initial_value_laws.specs.Cells.{AreBytes}
 use Rattle.c_initialiser_laws.specs.Laws.{HoldsBytes}
-use Rattle.c_unit_walk_laws.specs.Walks.{IsInitialiserIn}
+use Rattle.c_unit_object_laws.specs.Walks.{IsInitialiserIn}
 
 -- a function was kept with this number
 pub record IsKeptAs (fs : List UnitFunction) (k : ℕ) (f : TypedFn) : Type 0 where

@@ -1,1 +1,2 @@
 pub mod Units
+pub use Rattle.c_units.specs.Units as CUnits

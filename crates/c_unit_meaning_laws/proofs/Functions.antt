@@ -40,7 +40,7 @@ use Rattle.c_units.specs.Undefined.{undefined_noted}
 use Rattle.c_units.specs.Units.{no_names, builtin_declared, builtins, start, main_missed, whole_unit}
 use Rattle.c_type_laws.proofs.Truth.{no_true, front, back, either}
 use Rattle.c_type_laws.proofs.Types.{integer_is}
-use Rattle.c_found_unit_laws.specs.Steps.{IsDeclared, First, Again, declared_as}
+use Rattle.c_unit_walk_laws.specs.Steps.{IsDeclared, First, Again, declared_as}
 use Rattle.c_signature_laws.specs.Laws.{HasItsType}
 use Rattle.c_signature_laws.proofs.Functions.{function_has_type}
 use Rattle.c_unit_walk_laws.specs.Walks.{WalkSteps, Stays, Follows, AddsConstant, AddsNotes, DeclaresType, DeclaresFunction, DefinesFunction, DeclaresObject, InitialisesObject}

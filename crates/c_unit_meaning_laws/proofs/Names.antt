@@ -23,7 +23,7 @@ use Rattle.c_declarations.specs.Functions.{function_declared}
 use Rattle.c_declarations.specs.Objects.{object_declared}
 use Rattle.c_externals.specs.Externals.{typedef_of}
 use Rattle.c_type_laws.proofs.Truth.{no_true}
-use Rattle.c_found_unit_laws.specs.Steps.{IsDeclared, First, Again, declared_as}
+use Rattle.c_unit_walk_laws.specs.Steps.{IsDeclared, First, Again, declared_as}
 use Rattle.c_unit_walk_laws.specs.Walks.{WalkSteps, Stays, Follows, AddsConstant, AddsNotes, DeclaresType, DeclaresFunction, DefinesFunction, DeclaresObject, InitialisesObject}
 use Rattle.c_unit_meaning_laws.specs.Meanings.{Keeps}
 

@@ -35,9 +35,9 @@ use Rattle.c_step_laws.proofs.Initialisers.{cells_steps}
 use Rattle.c_struct_laws.proofs.Growth.{grow_itself, grow_then}
 use Rattle.c_body_laws.specs.Notes.{of_structs, KeepsNoted, IsWellDeclared}
 use Rattle.c_body_laws.proofs.Notes.{typedefs_grow, steps_keep}
-use Rattle.c_found_unit_laws.specs.Steps.{IsDeclared, First, Again, declared_as}
-use Rattle.c_unit_walk_laws.specs.Walks.{GoesOn, WalkSteps, Stays, Follows, AddsConstant, AddsNotes, DeclaresType, DeclaresFunction, DefinesFunction, DeclaresObject, InitialisesObject}
-use Rattle.c_unit_walk_laws.proofs.Texts.{stands_itself, stands_then}
+use Rattle.c_unit_meaning_laws.specs.Steps.{IsDeclared, First, Again, declared_as}
+use Rattle.c_unit_meaning_laws.specs.Walks.{GoesOn, WalkSteps, Stays, Follows, AddsConstant, AddsNotes, DeclaresType, DeclaresFunction, DefinesFunction, DeclaresObject, InitialisesObject}
+use Rattle.c_unit_meaning_laws.proofs.Texts.{stands_itself, stands_then}
 use Rattle.c_unit_object_laws.specs.Meant.{GoesTo}
 
 goes_itself : (s : State) → GoesTo s s

@@ -2,3 +2,9 @@ pub mod Goes
 pub mod Types
 pub mod Meant
 pub mod Objects
+pub use Rattle.c_unit_meaning_laws.proofs.Functions
+pub use Rattle.c_unit_meaning_laws.proofs.Names
+pub use Rattle.c_unit_meaning_laws.proofs.Types as CUnitMeaningLawsTypes
+pub use Rattle.c_unit_meaning_laws.proofs.Texts
+pub use Rattle.c_unit_meaning_laws.proofs.Units
+pub use Rattle.c_unit_meaning_laws.proofs.CUnitStructLawsUnits

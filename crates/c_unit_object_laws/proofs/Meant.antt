@@ -31,8 +31,8 @@ use Rattle.c_externals.specs.Externals.{typedef_of}
 use Rattle.c_units.specs.Units.{builtins, start}
 use Rattle.c_struct_laws.specs.Growth.{Grow}
 use Rattle.c_struct_laws.proofs.Growth.{grow_then}
-use Rattle.c_found_unit_laws.specs.Steps.{IsDeclared, First, Again, declared_as}
-use Rattle.c_unit_walk_laws.specs.Walks.{IsObjectType, IsGivenType, WalkSteps, Stays, Follows, AddsConstant, AddsNotes, DeclaresType, DeclaresFunction, DefinesFunction, DeclaresObject, InitialisesObject}
+use Rattle.c_unit_meaning_laws.specs.Steps.{IsDeclared, First, Again, declared_as}
+use Rattle.c_unit_meaning_laws.specs.Walks.{IsObjectType, IsGivenType, WalkSteps, Stays, Follows, AddsConstant, AddsNotes, DeclaresType, DeclaresFunction, DefinesFunction, DeclaresObject, InitialisesObject}
 use Rattle.c_unit_meaning_laws.proofs.Names.{none_some, meant_by}
 use Rattle.c_unit_object_laws.specs.Meant.{IsCallable, IsMeant, AreMeant}
 use Rattle.c_unit_object_laws.proofs.Goes.{steps_go}

@@ -18,12 +18,12 @@ use Rattle.c_type_laws.proofs.Truth.{no_true, front, back, also, three, along, e
 use Rattle.c_type_laws.proofs.Types.{known_object}
 use Rattle.c_expression_laws.specs.Types.{AreTypes}
 use Rattle.c_judgement_laws.proofs.Structs.{object_fits}
-use Rattle.c_statement_laws.specs.Laws.{is_parameter}
+use Rattle.c_unit_meaning_laws.specs.CStatementLaws.{is_parameter}
 use Rattle.c_struct_laws.specs.Growth.{Grow}
 use Rattle.c_struct_laws.proofs.Lawful.{same_depth}
 use Rattle.c_struct_laws.proofs.Growth.{type_stays}
-use Rattle.c_unit_walk_laws.specs.Shapes.{is_word_type, is_parameter_type, is_result_type}
-use Rattle.c_unit_walk_laws.specs.Walks.{IsObjectType, IsGivenType}
+use Rattle.c_unit_meaning_laws.specs.Shapes.{is_word_type, is_parameter_type, is_result_type}
+use Rattle.c_unit_meaning_laws.specs.Walks.{IsObjectType, IsGivenType}
 use Rattle.c_unit_object_laws.specs.Meant.{IsCallable}
 
 -- ---- objects

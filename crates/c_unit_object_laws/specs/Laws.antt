@@ -5,7 +5,7 @@ use Rattle.c_tree.specs.declared.declarations.External.{External}
 use Rattle.c_definitions.specs.declared.names.Definitions.{Definitions}
 use Rattle.c_declarations.specs.Walk.{Walk}
 use Rattle.c_struct_laws.specs.Growth.{Grow}
-use Rattle.c_unit_walk_laws.specs.Walks.{WalkSteps}
+use Rattle.c_unit_meaning_laws.specs.Walks.{WalkSteps}
 use Rattle.c_unit_object_laws.specs.Meant.{GoesTo, AreMeant, HasObjects}
 
 abbrev pub WalksGoOn : Type 0

@@ -18,7 +18,7 @@ use Rattle.c_checks.specs.Scopes.{meaning_of}
 use Rattle.c_judgements.specs.Types.{State}
 use Rattle.c_globals.specs.declared.objects.UnitObject.{UnitObject}
 use Rattle.c_declarations.specs.declared.walk.UnitSoFar.{UnitSoFar}
-use Rattle.c_statement_laws.specs.Laws.{is_parameter}
+use Rattle.c_unit_meaning_laws.specs.CStatementLaws.{is_parameter}
 use Rattle.c_note_laws.specs.Steps.{is_sized}
 use Rattle.c_note_laws.specs.Laws.{StandsFirst}
 use Rattle.c_struct_laws.specs.Growth.{Grow}

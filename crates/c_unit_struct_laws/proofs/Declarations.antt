@@ -33,7 +33,7 @@ use Rattle.c_unit_names.specs.declared.names.NameDeclaration.{NameDeclaration}
 use Rattle.c_declarations.specs.Walk.{Walk, in_notes, with_notes, declare, is_static, is_main, main_checked, with_object}
 use Rattle.c_declarations.specs.Objects.{no_object, object_type, type_there, array_type, init_judged, init_filled, object_declared, faulty_object, object_of, object_with_type, array_object, value_object}
 use Rattle.c_declarations.specs.Functions.{function_type, function_declared, function_of, function_with_type, refusal_of, init_refused, optional_refused, name_row, defined_type}
-use Rattle.c_externals.specs.Externals.{typedef_of, typedef_declared, prototype, object_with, with_main_in, with_definition, type_of_function, definition, end_judged, function_typed}
+use Rattle.c_units.specs.Externals.{typedef_of, typedef_declared, prototype, object_with, with_main_in, with_definition, type_of_function, definition, end_judged, function_typed}
 use Rattle.c_judgement_laws.specs.Covers.{IsLawfulContext}
 use Rattle.c_expression_laws.specs.Types.{IsTypeIn}
 use Rattle.c_statement_laws.proofs.Functions.{function_leaves}

@@ -10,7 +10,7 @@ use Rattle.c_definitions.specs.Definitions.{definitions}
 use Rattle.c_judgements.specs.Types.{State}
 use Rattle.c_tag_bodies.specs.Bodies.{Scope}
 use Rattle.c_declarations.specs.declared.walk.UnitSoFar.{UnitSoFar}
-use Rattle.c_externals.specs.Externals.{typedef_declared, object_with, function_typed, type_of, external, externals}
+use Rattle.c_units.specs.Externals.{typedef_declared, object_with, function_typed, type_of, external, externals}
 use Rattle.c_units.specs.Units.{start, end_notes, whole_unit}
 use Rattle.c_struct_laws.proofs.Growth.{grow_then}
 use Rattle.c_body_laws.specs.Notes.{IsWellDeclared, LeadsOn}

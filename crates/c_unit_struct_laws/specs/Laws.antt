@@ -5,7 +5,7 @@ use Rattle.c_tree.specs.declared.declarations.TranslationUnit.{TranslationUnit}
 use Rattle.c_definitions.specs.declared.names.Definitions.{Definitions}
 use Rattle.c_declarations.specs.declared.walk.UnitSoFar.{UnitSoFar}
 use Rattle.c_tag_bodies.specs.Bodies.{Scope}
-use Rattle.c_externals.specs.Externals.{externals}
+use Rattle.c_units.specs.Externals.{externals}
 use Rattle.c_units.specs.Units.{whole_unit}
 use Rattle.c_body_laws.specs.Notes.{IsWellDeclared, LeadsOn}
 

@@ -35,10 +35,10 @@ use Rattle.c_declarations.specs.declared.walk.UnitSoFar.{UnitSoFar}
 use Rattle.c_declarations.specs.Walk.{Walk, in_notes, declare, with_names, main_checked, add_object, keep_cells}
 use Rattle.c_declarations.specs.Objects.{no_object, object_type, type_there, array_type, init_judged, object_declared, faulty_object, object_of, array_object, value_object}
 use Rattle.c_declarations.specs.Functions.{function_declared, function_with_type, refusal_of, init_refused}
-use Rattle.c_externals.specs.Externals.{typedef_of, typedef_declared, prototype, object_with, type_with}
+use Rattle.c_found_unit_laws.specs.Externals.{typedef_of, typedef_declared, prototype, object_with, type_with}
 use Rattle.c_type_laws.proofs.Truth.{also}
 use Rattle.c_expression_laws.specs.Types.{IsTypeIn}
-use Rattle.c_body_laws.specs.Notes.{of_structs}
+use Rattle.c_unit_struct_laws.specs.Notes.{of_structs}
 use Rattle.c_found_laws.specs.Laws.{is_sound, Tells, IsFound}
 use Rattle.c_found_laws.proofs.Forms.{no_true, tells_none, tells_fault, tells_as, tells_then, tells_both}
 use Rattle.c_found_unit_laws.specs.Steps.{IsDeclared}

@@ -41,10 +41,10 @@ use Rattle.c_declarations.specs.declared.walk.UnitSoFar.{UnitSoFar}
 use Rattle.c_declarations.specs.Walk.{Walk, in_notes, declare, with_names, main_checked, keep_function, body_kept}
 use Rattle.c_declarations.specs.Functions.{function_declared, function_with_type, name_judged, name_row, type_where, defined_type, main_seen, init_refused}
 use Rattle.c_declarations.specs.Objects.{object_declared}
-use Rattle.c_externals.specs.Externals.{typedef_of, typedef_declared, prototype, object_with, type_with, with_main_in, with_definition, definition_with, definition, function_with, end_judged, function_typed, type_of, external, externals}
+use Rattle.c_found_unit_laws.specs.Externals.{typedef_of, typedef_declared, prototype, object_with, type_with, with_main_in, with_definition, definition_with, definition, function_with, end_judged, function_typed, type_of, external, externals}
 use Rattle.c_expression_laws.specs.Types.{IsTypeIn, HasTypedefs}
-use Rattle.c_body_laws.specs.Notes.{of_structs, IsWellDeclared, LeadsOn}
-use Rattle.c_body_laws.proofs.Bodies.{declared_found}
+use Rattle.c_unit_struct_laws.specs.Notes.{of_structs, IsWellDeclared, LeadsOn}
+use Rattle.c_unit_struct_laws.proofs.Bodies.{declared_found}
 use Rattle.c_unit_struct_laws.proofs.Units.{external_leads}
 use Rattle.c_found_laws.specs.Laws.{are_sound_names, is_sound, Tells, IsFound}
 use Rattle.c_found_laws.proofs.Forms.{no_true, front, back, tells_none, tells_fault, tells_as, tells_then, tells_both}

@@ -5,3 +5,4 @@ pub mod Names
 pub mod Declarations
 pub mod Externals
 pub mod Units
+pub use Rattle.c_unit_struct_laws.proofs.Units as CUnitStructLawsUnits

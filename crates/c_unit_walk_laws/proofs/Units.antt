@@ -14,9 +14,9 @@ use Rattle.c_definitions.specs.Definitions.{nothing_defined, definitions}
 use Rattle.c_checks.specs.declared.env.Env.{Env}
 use Rattle.c_checks.specs.Scopes.{with_name}
 use Rattle.c_checks.specs.declared.meanings.NameMeaning.TheVariants as m
-use Rattle.c_body_laws.specs.Notes.{IsWellDeclared}
-use Rattle.c_externals.specs.Externals.{externals}
-use Rattle.c_units.specs.Units.{builtins, start, whole_unit}
+use Rattle.c_unit_struct_laws.specs.Notes.{IsWellDeclared}
+use Rattle.c_found_unit_laws.specs.Externals.{externals}
+use Rattle.c_found_unit_laws.specs.Units.{builtins, start, whole_unit}
 use Rattle.c_found_unit_laws.proofs.Units.{clean_unit}
 use Rattle.c_unit_walk_laws.specs.Shapes.{is_shaped, HasShapes}
 use Rattle.c_unit_walk_laws.specs.Walks.{WalkSteps}

@@ -5,8 +5,8 @@ use Rattle.c_tree.specs.declared.declarations.TranslationUnit.{TranslationUnit}
 use Rattle.c_type_faults.specs.Faults.{head}
 use Rattle.c_definitions.specs.Definitions.{definitions}
 use Rattle.c_tag_bodies.specs.Bodies.{Scope, declared_type}
-use Rattle.c_externals.specs.Externals.{externals}
-use Rattle.c_units.specs.Units.{start, faults_of}
+use Rattle.c_found_unit_laws.specs.Externals.{externals}
+use Rattle.c_found_unit_laws.specs.Units.{start, faults_of}
 use Rattle.c_unit_walk_laws.specs.Shapes.{is_shaped, HasShapes}
 use Rattle.c_unit_walk_laws.specs.Walks.{WalkSteps}
 

@@ -32,11 +32,11 @@ use Rattle.c_declarations.specs.declared.walk.UnitSoFar.{UnitSoFar}
 use Rattle.c_declarations.specs.Walk.{Walk, with_names, add_object, keep_cells, keep_function}
 use Rattle.c_declarations.specs.Functions.{main_seen, function_declared}
 use Rattle.c_declarations.specs.Objects.{object_declared}
-use Rattle.c_externals.specs.Externals.{typedef_of}
+use Rattle.c_found_unit_laws.specs.Externals.{typedef_of}
 use Rattle.c_expression_laws.specs.Types.{IsTypeIn}
 use Rattle.c_note_laws.specs.Steps.{is_sized}
 use Rattle.c_note_laws.specs.Laws.{StandsFirst}
-use Rattle.c_body_laws.specs.Notes.{of_structs, LeadsOn}
+use Rattle.c_unit_struct_laws.specs.Notes.{of_structs, LeadsOn}
 use Rattle.c_found_unit_laws.specs.Steps.{IsDeclared, declared_as}
 use Rattle.c_unit_walk_laws.specs.Shapes.{is_shaped}
 

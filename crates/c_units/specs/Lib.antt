@@ -1,2 +1,3 @@
 pub mod Undefined
 pub mod Units
+pub use Rattle.c_externals.specs.Externals

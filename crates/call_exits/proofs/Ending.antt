@@ -26,7 +26,7 @@ use Rattle.frame_accesses.specs.Laws.{IsAt}
 use Rattle.frame_accesses.proofs.Runs.{stands, word-written, register_moves}
 use Rattle.frame_transfers.specs.Laws.{Call, FitsTheStack, StandsFor}
 use Rattle.call_parts.specs.Items.{exit_part}
-use Rattle.instruction_items.specs.Laws.{usable, HasOuter, IsOver}
+use Rattle.call_stacks.specs.InstructionItemsLaws.{usable, HasOuter, IsOver}
 use Rattle.call_stacks.specs.Stacks.{Start, StackIs}
 use Rattle.call_exits.specs.Leaving.{returned, ending_items}
 use Rattle.call_exits.proofs.Leaving.{returned-is, left}

@@ -25,8 +25,8 @@ use Rattle.frame_transfers.specs.Laws.{Call, FitsTheStack, StandsFor}
 use Rattle.call_parts.specs.Items.{exit_part}
 use Rattle.call_parts.specs.Laws.{ExitDone}
 use Rattle.call_parts.proofs.Exits.{exits_are_done}
-use Rattle.instruction_items.specs.Laws.{usable, HasOuter, ArgumentsAre}
-use Rattle.instruction_items.proofs.Runs.{usable-low}
+use Rattle.call_stacks.specs.InstructionItemsLaws.{usable, HasOuter, ArgumentsAre}
+use Rattle.call_stacks.proofs.Runs.{usable-low}
 use Rattle.call_stacks.specs.Stacks.{Waiting, call_of, view_above, Start, CallersAre, StackIs, KeepsCallers}
 use Rattle.call_stacks.proofs.Stays.{frame-owned, frame-stays, argument-stays, saved-stays, callers_stay}
 use Rattle.call_exits.specs.Leaving.{returned, resumed, left_owner, caller_of, ExitIs}

@@ -21,7 +21,7 @@ use Rattle.flat_memory.specs.Relation.{Owners, Nobody}
 use Rattle.flat_frames.specs.Shapes.{frame_size}
 use Rattle.frame_transfers.specs.Laws.{Call, FitsTheStack, StandsFor}
 use Rattle.call_parts.specs.Items.{exit_part}
-use Rattle.instruction_items.specs.Laws.{usable, HasOuter, IsOver, store_behind}
+use Rattle.call_stacks.specs.InstructionItemsLaws.{usable, HasOuter, IsOver, store_behind}
 use Rattle.call_stacks.specs.Stacks.{Waiting, call_of, Start, StackIs}
 
 -- what a call returns, and what the call that waited holds then

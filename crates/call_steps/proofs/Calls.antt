@@ -19,12 +19,12 @@ use Rattle.alloc_model.specs.Temporaries.{status_of}
 use Rattle.alloc_model.specs.Places.{Places, Plan, placed_site, do_all, places_read_at}
 use Rattle.frame_transfers.specs.Items.{items_of_transfers}
 use Rattle.frame_transfers.specs.Laws.{Call, FitsTheStack, StandsFor}
-use Rattle.instruction_items.specs.Items.{ItemSetting, function_label, insn_items}
-use Rattle.instruction_items.specs.Laws.{usable, HasOuter, IsOver}
-use Rattle.instruction_items.proofs.Runs.{jumps_are_done}
+use Rattle.call_entries.specs.Items.{ItemSetting, function_label, insn_items}
+use Rattle.call_entries.specs.Laws.{usable, HasOuter, IsOver}
+use Rattle.call_entries.proofs.Runs.{jumps_are_done}
 use Rattle.call_parts.specs.Items.{exit_part}
-use Rattle.call_stacks.specs.Stacks.{Waiting, Start, StackIs}
-use Rattle.call_stacks.proofs.Stays.{stacks_stay}
+use Rattle.call_entries.specs.Stacks.{Waiting, Start, StackIs}
+use Rattle.call_entries.proofs.Stays.{stacks_stay}
 use Rattle.call_entries.specs.Entering.{passed, entry_places, called, HasRoom, EntryIs}
 use Rattle.call_entries.proofs.Entering.{calls_are_entered}
 use Rattle.call_exits.specs.Leaving.{returned, caller_of, resumed, ending_items, ExitIs}
@@ -33,8 +33,8 @@ use Rattle.call_exits.proofs.Ending.{runs_are_ended}
 use Rattle.edge_steps.specs.Points.{AllMayTransfer, PointIsLeft}
 use Rattle.edge_steps.proofs.Points.{can-transfer-all}
 use Rattle.edge_steps.proofs.Edges.{edges_are_done, label-passed}
-use Rattle.function_items.specs.Items.{top_transfers, block_items, blocks_items, exit_items}
-use Rattle.function_items.specs.Laws.{FunctionStands}
+use Rattle.edge_steps.specs.Items.{top_transfers, block_items, blocks_items, exit_items}
+use Rattle.edge_steps.specs.Laws.{FunctionStands}
 use Rattle.call_steps.specs.Calls.{first_items}
 
 -- the blocks of a function begin with its first one

@@ -14,14 +14,14 @@ use Rattle.alloc_model.specs.Temporaries.{status_of}
 use Rattle.alloc_model.specs.Places.{Places, Plan, placed_site, do_all}
 use Rattle.frame_transfers.specs.Items.{items_of_transfers}
 use Rattle.frame_transfers.specs.Laws.{Call, FitsTheStack, StandsFor}
-use Rattle.instruction_items.specs.Items.{ItemSetting, insn_items}
-use Rattle.instruction_items.specs.Laws.{usable, HasOuter, IsOver}
-use Rattle.call_stacks.specs.Stacks.{Waiting, Start, StackIs}
+use Rattle.call_entries.specs.Items.{ItemSetting, insn_items}
+use Rattle.call_entries.specs.Laws.{usable, HasOuter, IsOver}
+use Rattle.call_entries.specs.Stacks.{Waiting, Start, StackIs}
 use Rattle.call_entries.specs.Entering.{entry_places, called, HasRoom, EntryIs}
 use Rattle.call_exits.specs.Leaving.{caller_of, resumed, ending_items, ExitIs}
 use Rattle.edge_steps.specs.Points.{AllMayTransfer}
-use Rattle.function_items.specs.Items.{top_transfers, insns_items, end_transfers, blocks_items, exit_items}
-use Rattle.function_items.specs.Laws.{FunctionStands}
+use Rattle.edge_steps.specs.Items.{top_transfers, insns_items, end_transfers, blocks_items, exit_items}
+use Rattle.edge_steps.specs.Laws.{FunctionStands}
 
 -- the items of the first block of a function from its first instruction on, where nothing stands at its top
 abbrev pub first_items : Plan → ItemSetting → List TempInsn → (behind : List AsmItem) → List AsmItem

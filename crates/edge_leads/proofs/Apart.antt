@@ -6,7 +6,7 @@ use Rattle.suifvm_ir.specs.Functions.{last_of, successors_after, successors_of}
 use Rattle.temp_ir.specs.declared.insn.TempInsn.{TempInsn}
 use Rattle.temp_ir.specs.declared.insn.TempInsn.TheVariants as i
 use Rattle.temp_ir.specs.Insns.{targets_of, flows_on_of}
-use Rattle.function_items.specs.Items.{is_branch, ends_with_branch}
+use Rattle.flat_steps.specs.Items.{is_branch, ends_with_branch}
 use Rattle.cfg.specs.Edges.{successors_from, edges_to, edges_from, sources_of}
 use Rattle.cfg_edges.specs.Critical.{NoneCritical}
 use Rattle.edge_leads.specs.Leads.{IsEdge, BranchesGoApart}

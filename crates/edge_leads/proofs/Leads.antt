@@ -11,7 +11,7 @@ use Rattle.alloc_model.specs.declared.allocation.EdgeCode.{EdgeCode}
 use Rattle.alloc_model.specs.Temporaries.{goes_on, flows_out}
 use Rattle.alloc_model.specs.Places.{Plan, edge_transfers, code_in}
 use Rattle.alloc_model.specs.Faithful.{HasLists}
-use Rattle.function_items.specs.Items.{is_branch, ends_with_branch, top_transfers, end_transfers}
+use Rattle.flat_steps.specs.Items.{is_branch, ends_with_branch, top_transfers, end_transfers}
 use Rattle.flat_steps.proofs.Tops.{test-or-not, get-some, all-edges, all-unmapped}
 use Rattle.flat_steps.specs.Builds.{EdgesLead}
 use Rattle.edge_leads.specs.Leads.{AreBlocks, IsEdge, BranchesGoApart}

@@ -6,7 +6,7 @@ use Rattle.temp_ir.specs.declared.insn.TempInsn.{TempInsn}
 use Rattle.temp_ir.specs.Insns.{targets_of, flows_on_of}
 use Rattle.alloc_model.specs.Places.{Plan}
 use Rattle.alloc_model.specs.Faithful.{HasLists}
-use Rattle.function_items.specs.Items.{ends_with_branch}
+use Rattle.flat_steps.specs.Items.{ends_with_branch}
 use Rattle.flat_steps.specs.Builds.{EdgesLead}
 
 -- the blocks of a function: targets are blocks other than the entry, what goes elsewhere stands last in its block, and

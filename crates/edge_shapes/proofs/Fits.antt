@@ -17,7 +17,7 @@ use Rattle.alloc_model.specs.Faithful.{Held, stands, MovesAsk, before, given_reg
 use Rattle.flat_frames.specs.Shapes.{FrameShape}
 use Rattle.flat_frames.specs.Frames.{with_known}
 use Rattle.frame_transfers.specs.Laws.{IsWritable, CanTransferAll}
-use Rattle.instruction_items.specs.Laws.{usable}
+use Rattle.function_items.specs.InstructionItemsLaws.{usable}
 use Rattle.function_items.specs.Items.{ends_with_branch, end_transfers}
 use Rattle.function_shapes.specs.Shapes.{names_in, shape_of}
 use Rattle.edge_shapes.proofs.Holding.{either, known_place, Knows, knows-stands, knows-before}

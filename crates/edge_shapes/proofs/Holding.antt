@@ -20,7 +20,7 @@ use Rattle.alloc_model.specs.Effect.{Holder, Temp, Fixed, Incoming, Outgoing, ho
 use Rattle.alloc_model.specs.Places.{Place, Reg, Slot, In, Out, home_of, places_written_at, is_ended, target_of, moved_temp, Plan, linear_number, transfers_at, registers_at}
 use Rattle.alloc_model.specs.Needs.{place_of, named_place}
 use Rattle.alloc_model.specs.Faithful.{Held, stands, forget, end_all, write_all, move_all, behind_insn, at_top, at_entry, at_start, before, given_registers, IsGiven, IsOwnPlace, IsStanding, IsTransfer, HasLists}
-use Rattle.instruction_items.specs.Laws.{usable}
+use Rattle.function_items.specs.InstructionItemsLaws.{usable}
 
 -- ---- lists and tests
 

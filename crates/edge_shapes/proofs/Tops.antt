@@ -12,7 +12,7 @@ use Rattle.alloc_model.specs.Temporaries.{goes_on, flows_out}
 use Rattle.alloc_model.specs.Places.{Plan, edge_transfers, code_in}
 use Rattle.alloc_model.specs.Faithful.{MovesAsk, before, rising, edges_from, Faithful}
 use Rattle.frame_transfers.specs.Laws.{CanTransferAll}
-use Rattle.instruction_items.specs.Laws.{usable}
+use Rattle.function_items.specs.InstructionItemsLaws.{usable}
 use Rattle.function_items.specs.Items.{ends_with_branch, top_transfers}
 use Rattle.function_shapes.specs.Shapes.{shape_of}
 use Rattle.edge_shapes.proofs.Holding.{either}

@@ -7,7 +7,7 @@ use Rattle.temp_ir.specs.Insns.{targets_of}
 use Rattle.alloc_model.specs.Places.{Plan, edge_transfers}
 use Rattle.alloc_model.specs.Faithful.{Faithful}
 use Rattle.frame_transfers.specs.Laws.{CanTransferAll}
-use Rattle.instruction_items.specs.Laws.{usable}
+use Rattle.function_items.specs.InstructionItemsLaws.{usable}
 use Rattle.function_items.specs.Items.{top_transfers, end_transfers}
 use Rattle.function_shapes.specs.Shapes.{shape_of}
 

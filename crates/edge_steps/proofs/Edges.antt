@@ -19,11 +19,11 @@ use Rattle.alloc_model.specs.Places.{Places, Plan, placed_site, do_all}
 use Rattle.frame_transfers.specs.Items.{items_of_transfers}
 use Rattle.frame_transfers.specs.Laws.{Call, FitsTheStack, StandsFor, known_after, known_behind, CanTransferAll}
 use Rattle.frame_transfers.proofs.Runs.{transfers_are_done}
-use Rattle.instruction_items.specs.Items.{ItemSetting}
-use Rattle.instruction_items.specs.Laws.{usable, HasOuter}
-use Rattle.instruction_items.proofs.Runs.{usable-values, nothing-ended, jumps_are_done}
-use Rattle.call_stacks.specs.Stacks.{Waiting, Start, StackIs}
-use Rattle.call_stacks.proofs.Stays.{stacks_stay}
+use Rattle.function_items.specs.InstructionItems.{ItemSetting}
+use Rattle.function_items.specs.InstructionItemsLaws.{usable, HasOuter}
+use Rattle.function_items.proofs.Runs.{usable-values, nothing-ended, jumps_are_done}
+use Rattle.placed_steps.specs.Stacks.{Waiting, Start, StackIs}
+use Rattle.placed_steps.proofs.Stays.{stacks_stay}
 use Rattle.placed_steps.specs.Points.{AllMayTransfer, PointIsPassed, PointIsLeft}
 use Rattle.placed_steps.proofs.Points.{can-transfer-all, all-in}
 use Rattle.function_items.specs.Items.{top_transfers, insns_items, end_transfers, blocks_items, exit_items}

@@ -14,9 +14,9 @@ use Rattle.alloc_model.specs.declared.allocation.Transfer.{Transfer}
 use Rattle.alloc_model.specs.Places.{Places, Plan, placed_site, do_all}
 use Rattle.frame_transfers.specs.Items.{items_of_transfers}
 use Rattle.frame_transfers.specs.Laws.{Call, FitsTheStack, StandsFor, CanTransferAll}
-use Rattle.instruction_items.specs.Items.{ItemSetting}
-use Rattle.instruction_items.specs.Laws.{usable, HasOuter}
-use Rattle.call_stacks.specs.Stacks.{Waiting, Start, StackIs}
+use Rattle.function_items.specs.InstructionItems.{ItemSetting}
+use Rattle.function_items.specs.InstructionItemsLaws.{usable, HasOuter}
+use Rattle.placed_steps.specs.Stacks.{Waiting, Start, StackIs}
 use Rattle.placed_steps.specs.Points.{AllMayTransfer, PointIsPassed, PointIsLeft}
 use Rattle.function_items.specs.Items.{top_transfers, insns_items, end_transfers, blocks_items, exit_items}
 use Rattle.function_items.specs.Laws.{FunctionStands}

@@ -12,7 +12,7 @@ use Rattle.machine_model.specs.Machine.{Config, Next, Goes, Over, go_on}
 use Rattle.machine_model.proofs.Peaks.{peak_rises}
 use Rattle.alloc_model.specs.Contents.{Content}
 use Rattle.alloc_model.specs.Places.{Places, placed_code}
-use Rattle.instruction_items.specs.Laws.{IsOver}
+use Rattle.flat_steps.specs.Laws.{IsOver}
 use Rattle.flat_steps.specs.Builds.{Build, IsBuilt}
 use Rattle.flat_steps.specs.Matching.{Matches, FitsStack, StepIsDone, step_of}
 use Rattle.flat_steps.proofs.Steps.{steps_are_done}

@@ -10,7 +10,7 @@ use Rattle.machine_model.specs.Laws.{IsPrefix, KeepsOutput, next_world}
 use Rattle.machine_model.proofs.Outputs.{output_grows}
 use Rattle.alloc_model.specs.Contents.{Content}
 use Rattle.alloc_model.specs.Places.{Places, Plan, placed_code}
-use Rattle.instruction_items.specs.Laws.{IsOver}
+use Rattle.flat_steps.specs.Laws.{IsOver}
 use Rattle.flat_steps.specs.Builds.{Build, IsBuilt}
 use Rattle.flat_steps.specs.Matching.{place_of, Matches, IsFollowed, FitsStack, StepIsDone, step_of}
 use Rattle.flat_steps.proofs.Steps.{steps_are_done}

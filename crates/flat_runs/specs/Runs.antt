@@ -9,7 +9,7 @@ use Rattle.machine_model.specs.Laws.{IsPrefix}
 use Rattle.suifvm_ir.specs.Functions.{count_of}
 use Rattle.alloc_model.specs.Contents.{Content}
 use Rattle.alloc_model.specs.Places.{Places, Plan, placed_code}
-use Rattle.instruction_items.specs.Laws.{IsOver}
+use Rattle.flat_steps.specs.Laws.{IsOver}
 use Rattle.flat_steps.specs.Builds.{Build, IsBuilt}
 use Rattle.flat_steps.specs.Matching.{Matches, FitsStack}
 

@@ -37,10 +37,10 @@ use Rattle.call_parts.specs.Laws.{IsFrameAt, EntryDone}
 use Rattle.call_parts.proofs.Entries.{entries_are_done}
 use Rattle.instruction_items.specs.Items.{function_label}
 use Rattle.instruction_items.specs.Laws.{usable}
-use Rattle.call_stacks.specs.Stacks.{StackIs}
-use Rattle.call_entries.specs.Entering.{extents_from}
-use Rattle.call_entries.proofs.Begins.{get-behind, sizes-are, extent-of, size-of, before-whole}
-use Rattle.function_items.specs.Items.{block_items, blocks_items, exit_items}
+use Rattle.flat_runs.specs.Stacks.{StackIs}
+use Rattle.flat_runs.specs.Entering.{extents_from}
+use Rattle.flat_runs.proofs.Begins.{get-behind, sizes-are, extent-of, size-of, before-whole}
+use Rattle.flat_runs.specs.Items.{block_items, blocks_items, exit_items}
 use Rattle.flat_runs.proofs.Edges.{label-passed}
 use Rattle.flat_runs.specs.Builds.{Build, FunctionIsBuilt, IsBuilt}
 use Rattle.flat_runs.specs.Matching.{items_from, FitsStack}

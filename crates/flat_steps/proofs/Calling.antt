@@ -15,9 +15,9 @@ use Rattle.alloc_model.specs.Places.{Places, Plan, transfers_at, registers_at, f
 use Rattle.flat_memory.proofs.Objects.{extents_grow}
 use Rattle.flat_frames.specs.Shapes.{FrameShape, frame_size, objects_at}
 use Rattle.frame_transfers.specs.Laws.{StandsFor}
-use Rattle.instruction_items.specs.Items.{ItemSetting}
-use Rattle.instruction_items.specs.Laws.{usable, HasOuter, store_behind}
-use Rattle.instruction_items.proofs.Runs.{no-registers}
+use Rattle.stack_rooms.specs.Items.{ItemSetting}
+use Rattle.stack_rooms.specs.Laws.{usable, HasOuter, store_behind}
+use Rattle.stack_rooms.proofs.Runs.{no-registers}
 use Rattle.call_steps.specs.Stacks.{Waiting, StackIs}
 use Rattle.stack_rooms.specs.Entering.{extents_from, called_sp, called, waits, HasRoom, EntryIs}
 use Rattle.call_steps.specs.Leaving.{caller_of, resumed, ExitIs}

@@ -18,11 +18,11 @@ use Rattle.alloc_model.specs.Temporaries.{flows_out, is_left_at, next_if}
 use Rattle.alloc_model.specs.Places.{Places, Plan, edge_transfers, edge_in, transfers_at, registers_at, do_all, placed_site, placed_code}
 use Rattle.frame_transfers.specs.Items.{items_of_transfers}
 use Rattle.frame_transfers.specs.Laws.{StandsFor, CanTransferAll}
-use Rattle.instruction_items.specs.Items.{ItemSetting, insn_items}
-use Rattle.instruction_items.specs.Laws.{usable}
-use Rattle.instruction_items.proofs.Runs.{no-registers}
+use Rattle.stack_rooms.specs.Items.{ItemSetting, insn_items}
+use Rattle.stack_rooms.specs.Laws.{usable}
+use Rattle.stack_rooms.proofs.Runs.{no-registers}
 use Rattle.call_steps.proofs.Edges.{edges_are_done, ends_are_done, jumps_are_done_here}
-use Rattle.function_items.specs.Items.{top_transfers, end_transfers, insns_items, block_items, blocks_items, exit_items}
+use Rattle.edge_shapes.specs.Items.{top_transfers, end_transfers, insns_items, block_items, blocks_items, exit_items}
 use Rattle.edge_shapes.proofs.Fits.{targets_fit, ends_fit}
 use Rattle.edge_shapes.proofs.Tops.{tops_fit}
 use Rattle.flat_steps.specs.Builds.{Build, IsBuilt}

@@ -9,3 +9,5 @@ pub mod Calling
 pub mod Steps
 pub use Rattle.call_steps.proofs.Edges
 pub use Rattle.edge_shapes.proofs.Tops
+pub use Rattle.stack_rooms.proofs.Begins
+pub use Rattle.edge_shapes.proofs.Standing

@@ -13,7 +13,7 @@ use Rattle.alloc_model.specs.Places.{Places, edge_transfers, edge_in, transfers_
 use Rattle.edge_shapes.specs.Points.{is_local, PointIsLeft, PointIsDone}
 use Rattle.edge_shapes.proofs.Points.{points_are_done}
 use Rattle.stack_rooms.proofs.Rooms.{scratch_is_there}
-use Rattle.function_items.specs.Items.{top_transfers, jump_transfers}
+use Rattle.edge_shapes.specs.Items.{top_transfers, jump_transfers}
 use Rattle.flat_steps.specs.Builds.{Build, IsBuilt}
 use Rattle.flat_steps.specs.Matching.{Matches, FitsStack, StepIsDone, step_of}
 use Rattle.flat_steps.proofs.Lists.{get-below}

@@ -12,12 +12,12 @@ use Rattle.alloc_model.specs.Effect.{widest_call}
 use Rattle.alloc_model.specs.Places.{Places, Plan, transfers_at, registers_at, do_all}
 use Rattle.frame_transfers.specs.Items.{items_of_transfers}
 use Rattle.frame_transfers.specs.Laws.{StandsFor, CanTransferAll}
-use Rattle.instruction_items.specs.Items.{insn_items}
-use Rattle.instruction_items.specs.Laws.{usable, IsStated, HasOuter}
+use Rattle.stack_rooms.specs.Items.{insn_items}
+use Rattle.stack_rooms.specs.Laws.{usable, IsStated, HasOuter}
 use Rattle.call_steps.specs.Stacks.{StackIs}
 use Rattle.edge_shapes.specs.Points.{AllMayTransfer, PointIsLeft}
 use Rattle.call_steps.proofs.Edges.{edges_are_done}
-use Rattle.function_items.specs.Items.{top_transfers, jump_transfers, end_transfers, point_items, insns_items, block_items, blocks_items, exit_items}
+use Rattle.edge_shapes.specs.Items.{top_transfers, jump_transfers, end_transfers, point_items, insns_items, block_items, blocks_items, exit_items}
 use Rattle.edge_shapes.specs.Shapes.{PlanFits}
 use Rattle.edge_shapes.proofs.FunctionShapesFits.{plans_fit}
 use Rattle.edge_shapes.proofs.Tops.{tops_fit}

@@ -7,7 +7,7 @@ use Rattle.suifvm_ir.specs.declared.insn.VmObject.TheVariants.{Global, Local}
 use Rattle.temp_ir.specs.declared.insn.TempInsn.{TempInsn}
 use Rattle.temp_ir.specs.declared.insn.TempInsn.TheVariants as i
 use Rattle.alloc_model.specs.Places.{Places}
-use Rattle.instruction_items.specs.Laws.{IsThere}
+use Rattle.stack_rooms.specs.Laws.{IsThere}
 use Rattle.flat_steps.specs.Builds.{Build, any_call, IsBuilt}
 use Rattle.flat_steps.specs.Matching.{Matches}
 use Rattle.flat_steps.proofs.Matched.{same-shape}

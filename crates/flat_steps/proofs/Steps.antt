@@ -13,7 +13,7 @@ use Rattle.alloc_model.specs.Effect.{widest_call, takes_turn}
 use Rattle.alloc_model.specs.Temporaries.{is_left_at, site_or_next}
 use Rattle.alloc_model.specs.Places.{Places, edge_transfers, transfers_at, registers_at, placed_site, placed_code}
 use Rattle.edge_shapes.specs.Points.{is_local}
-use Rattle.function_items.specs.Items.{top_transfers, jump_transfers}
+use Rattle.edge_shapes.specs.Items.{top_transfers, jump_transfers}
 use Rattle.flat_steps.specs.Builds.{Build, IsBuilt}
 use Rattle.flat_steps.specs.Matching.{Matches, FitsStack, StepIsDone, step_of}
 use Rattle.flat_steps.proofs.Lists.{none-stands, one-stands}

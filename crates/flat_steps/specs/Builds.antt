@@ -17,13 +17,13 @@ use Rattle.alloc_model.specs.Faithful.{Faithful}
 use Rattle.flat_memory.specs.Relation.{Extents, Nobody}
 use Rattle.flat_frames.specs.Shapes.{frame_size}
 use Rattle.frame_transfers.specs.Laws.{Call}
-use Rattle.instruction_items.specs.Items.{ItemSetting}
-use Rattle.instruction_items.specs.Laws.{IsThere}
+use Rattle.stack_rooms.specs.Items.{ItemSetting}
+use Rattle.stack_rooms.specs.Laws.{IsThere}
 use Rattle.call_steps.specs.Stacks.{Start}
 use Rattle.call_steps.specs.Leaving.{ending_items}
 use Rattle.edge_shapes.specs.Divisions.{RoutinesStand}
-use Rattle.function_items.specs.Items.{top_transfers, end_transfers}
-use Rattle.function_items.specs.Laws.{FunctionStands}
+use Rattle.edge_shapes.specs.Items.{top_transfers, end_transfers}
+use Rattle.edge_shapes.specs.Laws.{FunctionStands}
 use Rattle.edge_shapes.specs.Shapes.{shape_of}
 
 -- ---- edges

@@ -18,9 +18,9 @@ use Rattle.alloc_model.specs.Places.{Places, Plan, linear_number, transfers_at, 
 use Rattle.flat_memory.specs.Laws.{MoreExtents}
 use Rattle.frame_transfers.specs.Items.{items_of_transfers}
 use Rattle.frame_transfers.specs.Laws.{Call, FitsTheStack, StandsFor}
-use Rattle.instruction_items.specs.Laws.{usable, HasOuter, IsOver}
+use Rattle.stack_rooms.specs.Laws.{usable, HasOuter, IsOver}
 use Rattle.call_steps.specs.Stacks.{Waiting, StackIs}
-use Rattle.function_items.specs.Items.{insns_items, end_transfers, blocks_items, exit_items}
+use Rattle.edge_shapes.specs.Items.{insns_items, end_transfers, blocks_items, exit_items}
 use Rattle.edge_shapes.specs.Shapes.{shape_of}
 use Rattle.flat_steps.specs.Builds.{Build, IsBuilt}
 

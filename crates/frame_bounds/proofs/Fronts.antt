@@ -12,8 +12,8 @@ use Rattle.flat_frames.specs.Shapes.{FrameShape, frame_size, return_at, saved_at
 use Rattle.frame_accesses.specs.Items.{near_size, frame_store, frame_load}
 use Rattle.frame_transfers.specs.Items.{transfer_items, items_of_transfers}
 use Rattle.call_parts.specs.Items.{lower_stack, raise_stack, save_if, save_registers, restore_if, restore_registers, entry_part, exit_part}
-use Rattle.instruction_items.specs.Items.{ItemSetting, function_label, insn_items}
-use Rattle.function_items.specs.Items.{jump_transfers, top_transfers, end_transfers, point_items, insns_items, block_items, blocks_items, exit_items, function_items}
+use Rattle.frame_emitter.specs.InstructionItems.{ItemSetting, function_label, insn_items}
+use Rattle.frame_emitter.specs.Items.{jump_transfers, top_transfers, end_transfers, point_items, insns_items, block_items, blocks_items, exit_items, function_items}
 
 transfers-front : (s : FrameShape) (xs : List Transfer) (a b : List AsmItem) → items_of_transfers s xs a ++ b ≡ items_of_transfers s xs (a ++ b)
 transfers-front s [] a b = refl

@@ -8,7 +8,7 @@ use Rattle.temp_ir.specs.declared.insn.TempInsn.TheVariants as i
 use Rattle.alloc_model.specs.Effect.{width_of, widest_in, widest_call}
 use Rattle.alloc_model.specs.Places.{Plan}
 use Rattle.flat_frames.specs.Shapes.{FrameShape}
-use Rattle.function_shapes.specs.Shapes.{is_named, shape_of}
+use Rattle.frame_emitter.specs.Shapes.{is_named, shape_of}
 use Rattle.frame_emitter.specs.Settings.{most_arguments, near_insn, near_blocks, with_blocks, near_plan}
 use Rattle.frame_bounds.specs.Near.{IsNear}
 

@@ -3,7 +3,7 @@ use Rattle.std.proofs.Common.{◌≡◌, ℕ, zero, suc, ◌+◌, ◌*◌, ◌/�
 use Rattle.alloc_model.specs.Effect.{widest_call}
 use Rattle.alloc_model.specs.Places.{Plan}
 use Rattle.flat_frames.specs.Shapes.{frame_size, bytes_before, object_at, objects_size}
-use Rattle.function_shapes.specs.Shapes.{shape_of}
+use Rattle.frame_emitter.specs.Shapes.{shape_of}
 
 pub fits_room : (a : Plan) (weight bytes : ℕ) → a.temps ≤ 7 * weight + 16 → widest_call a.function.blocks ≤ weight →
     objects_size a.function.sizes ≤ bytes → frame_size (shape_of a) + 32 ≤ 256 + 64 * weight + bytes

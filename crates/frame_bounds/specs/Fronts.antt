@@ -2,8 +2,8 @@
 use Rattle.std.specs.Prelude.{◌≡◌, ℕ, List, [], ◌++◌}
 use Rattle.alpha_items.specs.declared.item.AsmItem.{AsmItem}
 use Rattle.alloc_model.specs.Places.{Plan}
-use Rattle.instruction_items.specs.Items.{ItemSetting}
-use Rattle.function_items.specs.Items.{function_items}
+use Rattle.frame_emitter.specs.InstructionItems.{ItemSetting}
+use Rattle.frame_emitter.specs.Items.{function_items}
 
 abbrev pub ItemsStandInFront : Type 0
 ItemsStandInFront =

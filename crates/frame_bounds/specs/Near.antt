@@ -4,7 +4,7 @@ use Rattle.suifvm_ir.specs.Functions.{AllInsns}
 use Rattle.temp_ir.specs.declared.insn.TempInsn.{TempInsn}
 use Rattle.temp_ir.specs.declared.insn.TempInsn.TheVariants as i
 use Rattle.alloc_model.specs.Places.{Plan}
-use Rattle.function_shapes.specs.Shapes.{shape_of}
+use Rattle.frame_emitter.specs.Shapes.{shape_of}
 use Rattle.frame_emitter.specs.Settings.{most_arguments, near_plan}
 
 abbrev pub IsNear : TempInsn → Type 0

@@ -24,7 +24,7 @@ use Rattle.frame_accesses.specs.Items.{near_size, frame_item, frame_load, frame_
 use Rattle.frame_transfers.specs.Items.{transfer_items, items_of_transfers}
 use Rattle.call_parts.specs.Items.{lower_stack, raise_stack, save_if, save_registers, restore_if, restore_registers, entry_part, exit_part}
 use Rattle.instruction_items.specs.Items.{ItemSetting, function_label, insn_items}
-use Rattle.function_items.specs.Items.{jump_transfers, top_transfers, end_transfers, point_items, insns_items, block_items, blocks_items, exit_items, function_items}
+use Rattle.frame_emitter.specs.Items.{jump_transfers, top_transfers, end_transfers, point_items, insns_items, block_items, blocks_items, exit_items, function_items}
 use Rattle.frame_emitter.specs.Settings.{setting_of}
 use Rattle.frame_labels.specs.Labels.{own_labels}
 

@@ -10,7 +10,7 @@ use Rattle.temp_ir.specs.declared.insn.TempInsn.TheVariants.{Call}
 use Rattle.temp_ir.specs.Insns.{targets_of}
 use Rattle.alloc_model.specs.Places.{Plan}
 use Rattle.instruction_items.specs.Items.{function_label}
-use Rattle.function_items.specs.Items.{function_items}
+use Rattle.frame_emitter.specs.Items.{function_items}
 use Rattle.frame_emitter.specs.Settings.{setting_of}
 
 -- the label of its entry, and from a first one on those of its blocks and of its exit part

@@ -13,7 +13,7 @@ use Rattle.temp_ir.specs.declared.insn.TempInsn.TheVariants as i
 use Rattle.alloc_model.specs.declared.allocation.EdgeCode.{EdgeCode}
 use Rattle.alloc_model.specs.Temporaries.{flows_out, goes_on}
 use Rattle.alloc_model.specs.Places.{Plan, code_in, edge_transfers}
-use Rattle.function_items.specs.Items.{is_branch, ends_with_branch, top_transfers}
+use Rattle.frame_emitter.specs.Items.{is_branch, ends_with_branch, top_transfers}
 use Rattle.frame_layout.specs.model.Edges.{no_block, next_after, next_behind, next_in, top_key, end_key}
 
 -- ---- tests of numbers

@@ -10,7 +10,7 @@ use Rattle.alloc_model.specs.declared.allocation.Transfer.{Transfer}
 use Rattle.alloc_model.specs.declared.allocation.EdgeCode.{EdgeCode}
 use Rattle.alloc_model.specs.Temporaries.{flows_out}
 use Rattle.alloc_model.specs.Places.{code_in, edge_transfers}
-use Rattle.function_items.specs.Items.{ends_with_branch, top_transfers, end_transfers, jump_transfers}
+use Rattle.frame_emitter.specs.Items.{ends_with_branch, top_transfers, end_transfers, jump_transfers}
 use Rattle.frame_emitter.specs.declared.layout.FrameLayout.{FrameLayout}
 use Rattle.frame_emitter.specs.Layouts.{plan_in}
 use Rattle.frame_emitter.specs.Moves.{IsMove}

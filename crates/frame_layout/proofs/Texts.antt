@@ -9,7 +9,7 @@ use Rattle.suifvm_ir.specs.Functions.{count_of}
 use Rattle.temp_ir.specs.declared.insn.TempInsn.{TempInsn}
 use Rattle.alloc_model.specs.Places.{Plan}
 use Rattle.instruction_items.specs.Items.{ItemSetting}
-use Rattle.function_items.specs.Items.{point_items, insns_items, block_items, blocks_items}
+use Rattle.frame_emitter.specs.Items.{point_items, insns_items, block_items, blocks_items}
 use Rattle.frame_emitter.specs.declared.layout.FrameLayout.{FrameLayout}
 use Rattle.frame_emitter.specs.Layouts.{setting_in}
 use Rattle.frame_emitter.specs.Settings.{IsFit}

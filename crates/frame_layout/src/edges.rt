@@ -4,7 +4,7 @@ ghost use Rattle.std.specs.Prelude.{◌≡◌, ◌≢◌, ℕ, ◌+◌, ◌<◌,
 ghost use Rattle.std.specs.List.{position_or_len};
 ghost use Rattle.suifvm_ir.specs.Functions.{last_of};
 ghost use Rattle.alloc_model.specs.Places.{code_in};
-ghost use Rattle.function_items.specs.Items.{ends_with_branch};
+ghost use Rattle.frame_emitter.specs.Items.{ends_with_branch};
 ghost use Rattle.frame_layout.specs.model.Edges.{next_after, next_in, top_key, end_key};
 
 use alloc_model::allocation::{EdgeCode, Transfer};

@@ -8,7 +8,7 @@ ghost use Rattle.alloc_model.specs.Effect.{widest_call};
 ghost use Rattle.alloc_model.specs.Places.{plan_of};
 ghost use Rattle.alloc_model.specs.Faithful.{Faithful};
 ghost use Rattle.flat_frames.specs.Shapes.{frame_size, objects_size};
-ghost use Rattle.function_items.specs.Items.{function_items};
+ghost use Rattle.frame_emitter.specs.Items.{function_items};
 ghost use Rattle.frame_emitter.specs.Shapes.{shape_of};
 ghost use Rattle.frame_emitter.specs.Settings.{near_plan, near_blocks, setting_of, with_blocks};
 ghost use Rattle.frame_emitter.specs.Layouts.{plan_in, setting_in};

@@ -2,7 +2,7 @@
 
 ghost use Rattle.std.specs.Prelude.{◌≡◌, ◌<◌, [], All, length, slice_get, slice_index_or, Some};
 ghost use Rattle.alloc_model.specs.Temporaries.{flows_out};
-ghost use Rattle.function_items.specs.Items.{top_transfers, end_transfers, jump_transfers};
+ghost use Rattle.frame_emitter.specs.Items.{top_transfers, end_transfers, jump_transfers};
 ghost use Rattle.frame_emitter.specs.Layouts.{plan_in};
 ghost use Rattle.frame_emitter.specs.Moves.{IsMove};
 ghost use Rattle.frame_layout.specs.model.Sound.{IsSound, GoesNext};

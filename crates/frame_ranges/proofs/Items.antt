@@ -34,8 +34,8 @@ use Rattle.frame_accesses.specs.Items.{near_size, frame_item, frame_load, frame_
 use Rattle.frame_transfers.specs.Items.{transfer_items, items_of_transfers}
 use Rattle.call_parts.specs.Items.{high_below, lower_stack, raise_stack, save_if, save_registers, restore_if, restore_registers, entry_part, exit_part}
 use Rattle.instruction_items.specs.Items.{ItemSetting, function_label, service_function, insn_items, source_register}
-use Rattle.function_items.specs.Items.{ends_with_branch, jump_transfers, top_transfers, end_transfers, point_items, insns_items, block_items, blocks_items, exit_items, function_items}
-use Rattle.function_shapes.specs.Shapes.{shape_of}
+use Rattle.frame_layout.specs.Items.{ends_with_branch, jump_transfers, top_transfers, end_transfers, point_items, insns_items, block_items, blocks_items, exit_items, function_items}
+use Rattle.frame_layout.specs.Shapes.{shape_of}
 use Rattle.frame_ranges.specs.Ranges.{IsInRange, HasRegisters}
 use Rattle.frame_ranges.proofs.Fields.{scratch_small, given_small, stated_small, source_small, operand_small, fixed_small, first_any, first_extend, rest_fits, all_at}
 

@@ -19,7 +19,7 @@ use Rattle.alloc_model.specs.Places.{Plan, plan_of}
 use Rattle.flat_frames.specs.Shapes.{frame_size, object_at}
 use Rattle.flat_frames.proofs.Shapes.{pieces_of}
 use Rattle.instruction_items.specs.Items.{ItemSetting}
-use Rattle.function_shapes.specs.Shapes.{shape_of}
+use Rattle.frame_layout.specs.Shapes.{shape_of}
 use Rattle.frame_layout.specs.Settings.{place_in, near_insn, near_blocks, near_plan, setting_of}
 use Rattle.frame_layout.specs.Names.{NamesObjects}
 use Rattle.frame_ranges.specs.Ranges.{IsInRange, IsSmall}

@@ -15,8 +15,8 @@ use Rattle.alloc_model.specs.Faithful.{IsGiven, IsGivenOrScratch, IsTransfer}
 use Rattle.flat_frames.specs.Shapes.{frame_size, object_at}
 use Rattle.instruction_items.specs.Items.{ItemSetting}
 use Rattle.instruction_items.specs.Laws.{IsSmallOperand}
-use Rattle.function_items.specs.Items.{function_items}
-use Rattle.function_shapes.specs.Shapes.{shape_of}
+use Rattle.frame_layout.specs.Items.{function_items}
+use Rattle.frame_layout.specs.Shapes.{shape_of}
 use Rattle.frame_layout.specs.Settings.{most_arguments, near_blocks, near_plan, setting_of}
 use Rattle.frame_layout.specs.Names.{NamesObjects}
 

@@ -8,7 +8,7 @@ use Rattle.c_parser.specs.Limits.{most_nesting}
 use Rattle.c_parser.specs.Reading.{IsRead, HasNoReading, IsTooHigh}
 use Rattle.c_type_faults.specs.declared.faults.Kind.{Kind}
 use Rattle.c_type_faults.specs.Faults.{head}
-use Rattle.c_units.specs.Units.{faults_of}
+use Rattle.c_types.specs.CUnits.{faults_of}
 use Rattle.c_typed_tree.specs.declared.units.TypedUnit.{TypedUnit}
 use Rattle.c_typed_tree.specs.Lawful.{IsLawful}
 use Rattle.c_typed_tree.specs.Weight.{unit_weight}

@@ -1,1 +1,2 @@
 pub mod Standing
+pub use Rattle.instruction_items.proofs.Runs

@@ -1,1 +1,2 @@
 pub mod Near
+pub use Rattle.frame_bounds.specs.Near as FrameBoundsNear

@@ -7,7 +7,7 @@ use Rattle.temp_ir.specs.Insns.{targets_of, with_block, flows_on_of}
 use Rattle.cfg.specs.Contents.{KeepsBlocks}
 use Rattle.selection_code.specs.Functions.{function_blocks}
 use Rattle.alloc_model.specs.Places.{Plan}
-use Rattle.frame_emitter.specs.Settings.{near_plan}
+use Rattle.frame_bounds.specs.Settings.{near_plan}
 use Rattle.frame_bounds.specs.Near.{IsNear}
 
 -- a selected function names none that is numbered past 2 ^ 24, since its size is at most that

@@ -1,1 +1,2 @@
 pub mod Points
+pub use Rattle.division_calls.proofs.Stays

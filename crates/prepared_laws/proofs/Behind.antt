@@ -19,7 +19,7 @@ use Rattle.value_tests.proofs.Functions.{tested_function, size_kept}
 use Rattle.selection_code.specs.Functions.{function_blocks}
 use Rattle.lowering.specs.Lowered.{IsLowered, AreLowered, IsWithinWeight, AreWithinWeight}
 use Rattle.alpha_select.specs.Selection.{IsSelectedFunction, AreSelected, CostLittle}
-use Rattle.frame_bounds.specs.Near.{IsNear}
+use Rattle.near_arguments.specs.FrameBoundsNear.{IsNear}
 use Rattle.near_arguments.specs.Near.{SelectedFunctionsAreNear, NearBlocksStayNear}
 use Rattle.selected_widths.specs.Widths.{PassedFunctionsHaveWidths}
 use Rattle.program_passes.specs.Prepared.{IsPrepared, ArePrepared}

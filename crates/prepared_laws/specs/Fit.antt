@@ -17,7 +17,7 @@ use Rattle.cfg_edges.specs.Critical.{NoneCritical}
 use Rattle.lowering.specs.Lowered.{IsLowered, AreLowered, IsWithinWeight, AreWithinWeight}
 use Rattle.alpha_select.specs.Selection.{AreSelected, CostLittle}
 use Rattle.program_passes.specs.Prepared.{ArePrepared}
-use Rattle.frame_bounds.specs.Near.{IsNear}
+use Rattle.near_arguments.specs.FrameBoundsNear.{IsNear}
 use Rattle.selected_widths.specs.Widths.{HasWidths}
 
 -- A function was lowered, selected and prepared of a function of a unit. It has four temporaries more than the code

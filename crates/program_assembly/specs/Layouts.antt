@@ -12,8 +12,8 @@ use Rattle.alloc_model.specs.Places.{plan_of}
 use Rattle.alloc_model.specs.Faithful.{Faithful}
 use Rattle.flat_frames.specs.Shapes.{objects_size}
 use Rattle.instruction_items.specs.Items.{function_label}
-use Rattle.function_items.specs.Items.{function_items}
-use Rattle.frame_emitter.specs.Settings.{near_plan, setting_of}
+use Rattle.program_images.specs.Items.{function_items}
+use Rattle.frame_layout.specs.Settings.{near_plan, setting_of}
 use Rattle.frame_layout.specs.Names.{NamesObjects, CallsBelow}
 
 -- ---- what is asked

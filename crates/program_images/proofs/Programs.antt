@@ -28,11 +28,11 @@ use Rattle.flat_frames.specs.Shapes.{FrameShape}
 use Rattle.frame_transfers.specs.Items.{items_of_transfers}
 use Rattle.instruction_items.specs.Items.{function_label}
 use Rattle.instruction_items.specs.Laws.{IsThere}
-use Rattle.call_exits.specs.Leaving.{ending_items}
-use Rattle.division_calls.specs.Divisions.{RoutinesStand}
-use Rattle.function_items.specs.Items.{top_transfers, end_transfers, insns_items, blocks_items, exit_items}
-use Rattle.function_items.specs.Laws.{FunctionStands}
-use Rattle.function_items.proofs.Standing.{functions_stand}
+use Rattle.edge_leads.specs.Leaving.{ending_items}
+use Rattle.routine_places.specs.Divisions.{RoutinesStand}
+use Rattle.edge_leads.specs.Items.{top_transfers, end_transfers, insns_items, blocks_items, exit_items}
+use Rattle.edge_leads.specs.Laws.{FunctionStands}
+use Rattle.edge_leads.proofs.Standing.{functions_stand}
 use Rattle.image_runs.specs.Builds.{Build, any_call, EdgesLead, FunctionIsBuilt}
 use Rattle.edge_leads.specs.Leads.{AreBlocks, BranchesGoApart}
 use Rattle.edge_leads.proofs.Apart.{split_branches_go_apart}

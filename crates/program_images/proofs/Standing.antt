@@ -16,7 +16,7 @@ use Rattle.alloc_model.specs.Places.{Plan, transfers_at, registers_at}
 use Rattle.flat_frames.specs.Shapes.{FrameShape}
 use Rattle.frame_transfers.specs.Items.{transfer_items, items_of_transfers}
 use Rattle.instruction_items.specs.Items.{ItemSetting, insn_items}
-use Rattle.function_items.specs.Items.{jump_transfers, insns_items}
+use Rattle.edge_leads.specs.Items.{jump_transfers, insns_items}
 
 -- items stand from some word on
 pub record Somewhere (p : Program) (there : Labels) (items : List AsmItem) (end : ℕ) : Type 0 where

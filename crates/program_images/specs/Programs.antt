@@ -24,9 +24,9 @@ use Rattle.alloc_model.specs.Laws.{AllFaithful}
 use Rattle.flat_memory.specs.Bytes.{AreBytes}
 use Rattle.flat_frames.specs.Shapes.{frame_size}
 use Rattle.instruction_items.specs.Items.{ItemSetting, function_label}
-use Rattle.call_exits.specs.Leaving.{ending_items}
-use Rattle.function_items.specs.Items.{function_items}
-use Rattle.function_shapes.specs.Shapes.{shape_of}
+use Rattle.edge_leads.specs.Leaving.{ending_items}
+use Rattle.edge_leads.specs.Items.{function_items}
+use Rattle.edge_leads.specs.Shapes.{shape_of}
 use Rattle.image_runs.specs.Runs.{turns_for}
 use Rattle.global_data.specs.GlobalBytes.{global_bytes, global_fixes}
 use Rattle.image_runs.specs.Images.{HasBehaviour, AgreesWith}

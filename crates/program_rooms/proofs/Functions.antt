@@ -16,7 +16,7 @@ use Rattle.alloc_model.specs.declared.allocation.Allocation.{Allocation}
 use Rattle.alloc_model.specs.Effect.{widest_call}
 use Rattle.alloc_model.specs.Places.{plan_of}
 use Rattle.flat_frames.specs.Shapes.{objects_size, frame_size}
-use Rattle.function_shapes.specs.Shapes.{shape_of}
+use Rattle.frame_rooms.specs.Shapes.{shape_of}
 use Rattle.frame_rooms.proofs.Frames.{objects_are, frames_fit_rooms}
 use Rattle.unit_words.proofs.Placed.{planned}
 use Rattle.plain_programs.specs.Allocations.{IsAllocationOf}

@@ -11,7 +11,7 @@ use Rattle.alpha_rt.specs.Calls.{scratch_size}
 use Rattle.alloc_model.specs.declared.allocation.Allocation.{Allocation}
 use Rattle.alloc_model.specs.Places.{Plan}
 use Rattle.flat_frames.specs.Shapes.{frame_size}
-use Rattle.function_shapes.specs.Shapes.{shape_of}
+use Rattle.frame_rooms.specs.Shapes.{shape_of}
 use Rattle.unit_words.specs.Programs.{plans_of}
 use Rattle.plain_programs.specs.Allocations.{AreAllocationsOf}
 use Rattle.unit_words.specs.Fit.{ArePreparedOf}

@@ -1,1 +1,2 @@
 pub mod Places
+pub use Rattle.division_calls.specs.Divisions

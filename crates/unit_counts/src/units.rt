@@ -1,7 +1,7 @@
 //! Units.
 
 ghost use Rattle.std.specs.Prelude.{◌≡◌, ◌<◌, ◌≤◌, ◌^◌, IsTrue, length, nat_lt};
-ghost use Rattle.std.specs.Bool.{OnTrue};
+ghost use Rattle.std.specs.Bool.{OnFalse, OnTrue};
 ghost use Rattle.std.specs.List.{list_all};
 ghost use Rattle.c_typed_tree.specs.Lawful.{unit_nodes};
 ghost use Rattle.unit_counts.specs.Counts as spec;
@@ -31,6 +31,7 @@ fn has_few_parts(unit: &TypedUnit) -> bool
     ensures structs { OnTrue result (length unit.now.structs < 2 ^ 32) }
     ensures functions { OnTrue result (length unit.now.functions < 2 ^ 32) }
     ensures globals { OnTrue result (length unit.now.globals < 2 ^ 32) }
+    ensures more { OnFalse result (spec.CanBeCounted unit.now → ⊥) }
 {
     if unit.structs.len() >= 1 << 32 || unit.functions.len() >= 1 << 32 {
         return false;
@@ -40,7 +41,8 @@ fn has_few_parts(unit: &TypedUnit) -> bool
 
 /// Whether there are at most 2^40 statements, expressions and locals.
 fn has_few_nodes(unit: &TypedUnit) -> bool
-    ensures { OnTrue result (unit_nodes unit.now ≤ 2 ^ 40) }
+    ensures few { OnTrue result (unit_nodes unit.now ≤ 2 ^ 40) }
+    ensures more { OnFalse result (spec.CanBeCounted unit.now → ⊥) }
 {
     unit_nodes(unit) <= 1 << 40
 }
@@ -49,7 +51,8 @@ fn has_few_nodes(unit: &TypedUnit) -> bool
 /// locals of each function, and at most 2^40 statements, expressions and locals.
 #[tactic(auto, using(crate::proofs::Counts::counted))]
 pub fn can_be_counted(unit: &TypedUnit) -> bool
-    ensures { OnTrue result (spec.CanBeCounted unit.now) }
+    ensures yes { OnTrue result (spec.CanBeCounted unit.now) }
+    ensures no { OnFalse result (spec.CanBeCounted unit.now → ⊥) }
 {
     if !has_few_parts(unit) || !have_few_locals(unit.functions.as_slice()) {
         return false;

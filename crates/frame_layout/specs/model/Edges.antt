@@ -4,7 +4,7 @@ use Rattle.suifvm_ir.specs.Functions.{last_of}
 use Rattle.temp_ir.specs.declared.insn.TempInsn.{TempInsn}
 use Rattle.temp_ir.specs.declared.insn.TempInsn.TheVariants.{Branch, Jump, Return}
 use Rattle.alloc_model.specs.declared.allocation.EdgeCode.{EdgeCode}
-use Rattle.function_items.specs.Items.{ends_with_branch}
+use Rattle.frame_emitter.specs.Items.{ends_with_branch}
 
 -- no block has this number
 abbrev pub no_block : ℕ

@@ -1,5 +1,5 @@
 use Rattle.std.proofs.Common.{◌-◌, ◌∙◌, ap, arith}
-use Rattle.function_items.specs.Items.{point_items}
+use Rattle.frame_emitter.specs.Items.{point_items}
 use Rattle.frame_emitter.specs.Layouts.{plan_in, setting_in}
 use Rattle.frame_layout.proofs.Texts.{insns_turn}
 use Rattle.frame_layout.proofs.blocks.insns_items.Goals as goal

@@ -1,6 +1,6 @@
 -- The items of the instructions from one on.
 use Rattle.std.proofs.Common.{◌≡◌, drop}
-use Rattle.function_items.specs.Items.{insns_items}
+use Rattle.frame_emitter.specs.Items.{insns_items}
 use Rattle.frame_emitter.specs.Layouts.{plan_in, setting_in}
 use Rattle.frame_layout.proofs.blocks.insns_items.Given as goal
 

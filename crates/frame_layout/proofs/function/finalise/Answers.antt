@@ -2,7 +2,7 @@ use Rattle.std.proofs.Common.{◌∷◌, [], ◌∙◌, ap, arith}
 use Rattle.alpha_items.specs.declared.item.AsmItem.TheVariants as item
 use Rattle.alloc_model.specs.Effect.{widest_call}
 use Rattle.alloc_model.specs.Places.{plan_of}
-use Rattle.function_items.specs.Items.{function_items}
+use Rattle.frame_emitter.specs.Items.{function_items}
 use Rattle.frame_emitter.specs.Settings.{near_blocks, near_plan, with_blocks, setting_of}
 use Rattle.frame_emitter.specs.Layouts.{setting_in}
 use Rattle.frame_layout.proofs.Soundness.{near_widest, sound_of}
