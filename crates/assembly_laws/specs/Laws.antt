@@ -29,7 +29,8 @@ use Rattle.program_assembly.specs.Programs.{Placing, HasItemsOf, IsAllocated, pl
 use Rattle.program_assembly.specs.Assemblies.{final_items, gathered, main_of}
 use Rattle.program_assembly.specs.Layouts.{first_label, label_count, FitsProgram, FunctionsAreLaidOut}
 
--- an allocation of one of so many functions fits, its name is one, and the numbers in its instructions have their ranges
+-- an allocation of one of so many functions fits, its name is one, and the numbers in its instructions have their
+-- ranges
 pub record CanBeAssembled (functions : ℕ) (globals : List DataObject) (a : Allocation) : Type 0 where
   pub fit : FitsProgram functions globals a
   pub name : IsTrue (is_name a.func.name)

@@ -1,5 +1,5 @@
 -- Each object of static storage is lawful.
-use Rattle.std.proofs.Common.{◌≡◌, ℕ, zero, suc, ◌+◌, ◌*◌, ◌^◌, ◌<◌, ◌≤◌, nat_le, arith, Bool, true, false, ◌&&◌, ◌||◌, ◌==◌, IsTrue, List, [], ◌∷◌, map, length, slice_get, Option, Some, None, refl, sym, ap, ◌∙◌, subst, if◌then◌else◌, is_some, eqb-true, leb-true, le_trans}
+use Rattle.std.proofs.Common.{◌≡◌, ℕ, zero, suc, ◌*◌, ◌^◌, ◌<◌, ◌≤◌, nat_le, arith, Bool, true, false, ◌&&◌, ◌==◌, IsTrue, List, [], ◌∷◌, map, length, slice_get, Option, Some, None, refl, sym, ap, subst, if◌then◌else◌, is_some, eqb-true, leb-true, le_trans}
 use Rattle.std.specs.Prelude.{All}
 use Rattle.std.proofs.lemmas.List.Elements.{All-nil, All-cons}
 use Rattle.c_arithmetic.specs.declared.integer_type.IntegerType.{IntegerType}
@@ -18,8 +18,8 @@ use Rattle.c_typed_tree.specs.View.{type_view}
 use Rattle.c_typed_tree.specs.Lawful.{IsStruct, IsLawfulStruct}
 use Rattle.c_globals.specs.declared.objects.UnitObject.{UnitObject}
 use Rattle.c_globals.specs.Globals.{object_at, text_at, globals}
-use Rattle.c_layout_laws.proofs.Truth.{no_true, front, back, all_at}
-use Rattle.c_initial_value_laws.specs.Cells.{IsCellIn, AreCells, AreBytes}
+use Rattle.c_layout_laws.proofs.Truth.{no_true, back, all_at}
+use Rattle.c_initial_value_laws.specs.Cells.{IsCellIn, AreBytes}
 use Rattle.c_global_laws.specs.Laws.{IsLawfulIn, AreLawfulIn, AreTexts}
 use Rattle.c_global_laws.proofs.Places.{after, laid_texts, laid, all_laid, all_lie}
 

@@ -1,19 +1,15 @@
 -- The functions of a typed unit are those that were kept, each at its number.
 use Rattle.std.proofs.Common.{◌≡◌, ℕ, zero, suc, List, [], ◌∷◌, ◌++◌, length, map, slice_get, slice_set, replicate, Option, Some, None, refl, sym, ap, ◌∙◌, subst, append_assoc}
-use Rattle.std.specs.Option.{option_map}
 use Rattle.std.proofs.lemmas.List.{length-set}
 use Rattle.c_tree.specs.declared.declarations.TranslationUnit.{TranslationUnit}
-use Rattle.c_typed_tree.specs.declared.types.StructDef.{StructDef}
 use Rattle.c_typed_tree.specs.declared.units.TypedFn.{TypedFn}
 use Rattle.c_typed_tree.specs.declared.units.TypedUnit.{TypedUnit}
-use Rattle.c_checks.specs.Checks.{append_part}
-use Rattle.c_globals.specs.declared.objects.UnitObject.{UnitObject}
 use Rattle.c_globals.specs.Globals.{globals}
 use Rattle.c_tag_bodies.specs.Bodies.{Scope}
 use Rattle.c_declarations.specs.declared.walk.UnitFunction.{UnitFunction}
 use Rattle.c_declarations.specs.declared.walk.UnitSoFar.{UnitSoFar}
 use Rattle.c_units.specs.Units.{whole_unit}
-use Rattle.c_types.specs.Units.{with_trees, functions_in, append_functions, typed_from, unit_of, typed_unit}
+use Rattle.c_types.specs.Units.{with_trees, functions_in, append_functions, typed_from, typed_unit}
 use Rattle.c_typed_unit_laws.specs.Made.{IsKeptAs, IsMadeOf}
 
 none_some : {A X : Type 0} {a : A} → None ≡ Some a → X

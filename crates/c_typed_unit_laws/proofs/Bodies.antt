@@ -1,5 +1,5 @@
 -- The functions of a unit are well typed.
-use Rattle.std.proofs.Common.{◌≡◌, ℕ, ◌<◌, ◌^◌, ◌==◌, Bool, true, false, IsTrue, List, [], ◌∷◌, ◌++◌, length, Option, Some, None, IfSome, refl, sym, ap, ◌∙◌, subst}
+use Rattle.std.proofs.Common.{◌≡◌, ℕ, ◌<◌, ◌^◌, ◌==◌, Bool, true, false, IsTrue, List, [], ◌∷◌, ◌++◌, length, Option, Some, None, IfSome, subst}
 use Rattle.c_tree.specs.declared.types.Declaration.{Declaration}
 use Rattle.c_tree.specs.declared.statements.Stmt.{Stmt}
 use Rattle.c_tree.specs.declared.declarations.External.{External}
@@ -8,7 +8,7 @@ use Rattle.c_typed_tree.specs.declared.types.CType.{CType}
 use Rattle.c_typed_tree.specs.declared.units.Local.{Local}
 use Rattle.c_typed_tree.specs.declared.units.TypedFn.{TypedFn}
 use Rattle.c_typed_tree.specs.declared.units.TypedUnit.{TypedUnit}
-use Rattle.c_typed_tree.specs.Lawful.{is_identifier, context_of, IsTypedFn}
+use Rattle.c_typed_tree.specs.Lawful.{is_identifier, IsTypedFn}
 use Rattle.c_checks.specs.declared.env.Env.{Env}
 use Rattle.c_checks.specs.declared.notes.Notes.{Notes}
 use Rattle.c_judgements.specs.Types.{State}
@@ -25,7 +25,6 @@ use Rattle.c_statement_laws.proofs.Functions.{function_typed}
 use Rattle.c_signature_laws.specs.Laws.{HasItsType}
 use Rattle.c_signature_laws.proofs.Functions.{function_has_type}
 use Rattle.c_step_laws.proofs.Statements.{function_steps}
-use Rattle.c_struct_laws.proofs.Growth.{grow_then}
 use Rattle.c_body_laws.specs.Notes.{IsWellDeclared}
 use Rattle.c_object_count_laws.specs.Steps.{declared_as}
 use Rattle.c_unit_object_laws.specs.Walks.{IsGivenType, WalkSteps, Stays, Follows, AddsConstant, AddsNotes, DeclaresType, DeclaresFunction, DefinesFunction, DeclaresObject, InitialisesObject}

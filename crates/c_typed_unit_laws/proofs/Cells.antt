@@ -1,6 +1,5 @@
 -- The cells of the objects of a unit are lawful.
-use Rattle.std.proofs.Common.{◌≡◌, ℕ, zero, suc, ◌≤◌, ◌==◌, nat_le, arith, Bool, true, false, ◌&&◌, IsTrue, List, [], ◌∷◌, ◌++◌, length, slice_get, slice_set, Option, Some, None, IfSome, refl, sym, ap, ◌∙◌, subst}
-use Rattle.std.specs.Prelude.{All}
+use Rattle.std.proofs.Common.{◌≡◌, ℕ, zero, suc, ◌≤◌, ◌==◌, nat_le, arith, Bool, true, false, ◌&&◌, IsTrue, List, [], ◌∷◌, ◌++◌, length, slice_get, slice_set, Option, Some, None, IfSome, refl, sym, ◌∙◌, subst}
 use Rattle.data_object.specs.declared.DataCell.{DataCell}
 use Rattle.data_object.specs.declared.DataObject.{DataObject}
 use Rattle.c_tree.specs.declared.declarations.Init.{Init}
@@ -14,7 +13,6 @@ use Rattle.c_typed_tree.specs.declared.units.TypedUnit.{TypedUnit}
 use Rattle.c_typed_tree.specs.Layout.{is_object, size_of}
 use Rattle.c_typed_tree.specs.Typing.{Context, is_type, depth_of, most_depth}
 use Rattle.c_typed_tree.specs.View.{type_view}
-use Rattle.c_typed_tree.specs.Lawful.{is_object_type}
 use Rattle.c_declared_types.specs.Depth.{is_deep_at_most}
 use Rattle.c_checks.specs.declared.env.Env.{Env}
 use Rattle.c_checks.specs.declared.notes.Notes.{Notes}
@@ -25,10 +23,9 @@ use Rattle.c_judgements.specs.Types.{State}
 use Rattle.c_globals.specs.declared.objects.UnitObject.{UnitObject}
 use Rattle.c_globals.specs.Globals.{with_cells, replace_cells, set_cells}
 use Rattle.c_initialisers.specs.Initialisers.{object_cells}
-use Rattle.c_unit_names.specs.declared.names.UnitNames.{UnitNames}
 use Rattle.c_declarations.specs.declared.walk.UnitSoFar.{UnitSoFar}
 use Rattle.c_declarations.specs.Walk.{Walk, with_names, object_by, object_at, add_numbered, next_object, add_object, fill_numbered, function_at, add_function}
-use Rattle.c_declarations.specs.Functions.{main_seen, function_declared}
+use Rattle.c_declarations.specs.Functions.{main_seen}
 use Rattle.c_declarations.specs.Objects.{object_declared}
 use Rattle.c_type_laws.specs.Typed.{may_be_memory}
 use Rattle.c_type_laws.proofs.Truth.{front, back}
@@ -37,7 +34,7 @@ use Rattle.c_expression_laws.specs.Laws.{HasScope}
 use Rattle.c_note_laws.specs.Laws.{StandsFirst}
 use Rattle.c_step_laws.proofs.Initialisers.{cells_steps}
 use Rattle.c_initial_value_laws.specs.Cells.{AreCells}
-use Rattle.c_initialiser_laws.specs.Laws.{HoldsBytes, IsInitialisedIn}
+use Rattle.c_initialiser_laws.specs.Laws.{HoldsBytes}
 use Rattle.c_initialiser_laws.proofs.Walks.{object_lawful}
 use Rattle.c_struct_laws.specs.Growth.{Grow}
 use Rattle.c_struct_laws.proofs.Growth.{grow_then}
@@ -47,7 +44,7 @@ use Rattle.c_object_count_laws.specs.Steps.{declared_as}
 use Rattle.c_global_laws.specs.Laws.{IsLawfulIn, AreLawfulIn}
 use Rattle.c_unit_object_laws.specs.Walks.{IsInitialiserIn, IsObjectType, WalkSteps, Stays, Follows, AddsConstant, AddsNotes, DeclaresType, DeclaresFunction, DefinesFunction, DeclaresObject, InitialisesObject}
 use Rattle.c_unit_object_laws.proofs.Texts.{stands_then}
-use Rattle.c_unit_object_laws.specs.Meanings.{Keeps, IsValueOf, AgreesWith, HasTypes}
+use Rattle.c_unit_object_laws.specs.Meanings.{Keeps, AgreesWith, HasTypes}
 use Rattle.c_unit_object_laws.proofs.Names.{none_some, some_same, keeps_then, steps_mean}
 use Rattle.c_unit_object_laws.proofs.CUnitMeaningLawsTypes.{declared_types, steps_types}
 use Rattle.c_unit_object_laws.proofs.Functions.{agrees_here}

@@ -1,5 +1,5 @@
 -- A typed unit has what the names of file scope mean, and the texts.
-use Rattle.std.proofs.Common.{◌≡◌, ℕ, zero, suc, ◌+◌, ◌*◌, ◌<◌, ◌==◌, nat_le, arith, Bool, true, false, ◌&&◌, IsTrue, List, [], ◌∷◌, ◌++◌, length, map, slice_get, Option, Some, None, refl, sym, ap, ◌∙◌, subst, le-leb}
+use Rattle.std.proofs.Common.{◌≡◌, ℕ, zero, suc, ◌+◌, ◌*◌, ◌<◌, ◌==◌, nat_le, arith, ◌&&◌, IsTrue, List, [], ◌∷◌, ◌++◌, length, map, slice_get, Option, Some, None, refl, sym, ap, ◌∙◌, subst, le-leb}
 use Rattle.std.proofs.lemmas.Bool.Decides.{Decides-eqb}
 use Rattle.data_object.specs.declared.TheConstants.{MOST_DATA}
 use Rattle.data_object.specs.declared.DataObject.{DataObject}
@@ -14,7 +14,7 @@ use Rattle.c_typed_tree.specs.declared.expressions.Callee.{Callee}
 use Rattle.c_typed_tree.specs.declared.expressions.Callee.TheVariants as c
 use Rattle.c_typed_tree.specs.model.View.{opens}
 use Rattle.c_typed_tree.specs.Layout.{is_object, size_of}
-use Rattle.c_typed_tree.specs.Typing.{Context, Signature, callee_signature, has_global_type, is_type, depth_of, most_depth}
+use Rattle.c_typed_tree.specs.Typing.{Context, callee_signature, has_global_type, is_type, depth_of, most_depth}
 use Rattle.c_typed_tree.specs.View.{type_view}
 use Rattle.c_typed_tree.specs.Lawful.{is_object_type, signature_of}
 use Rattle.c_primary_rules.specs.Primary.{text_type}
@@ -23,22 +23,21 @@ use Rattle.c_checks.specs.declared.meanings.NameMeaning.{NameMeaning}
 use Rattle.c_checks.specs.declared.meanings.NameMeaning.TheVariants as m
 use Rattle.c_checks.specs.Scopes.{meaning_of}
 use Rattle.c_globals.specs.declared.objects.UnitObject.{UnitObject}
-use Rattle.c_globals.specs.Globals.{object_at, text_at, globals}
+use Rattle.c_globals.specs.Globals.{text_at, globals}
 use Rattle.c_tag_bodies.specs.Bodies.{Scope}
 use Rattle.c_declarations.specs.declared.walk.UnitFunction.{UnitFunction}
 use Rattle.c_declarations.specs.declared.walk.UnitSoFar.{UnitSoFar}
-use Rattle.c_type_laws.specs.Typed.{IsFunctionOf}
-use Rattle.c_type_laws.proofs.Truth.{front, back, also, three}
-use Rattle.c_judgement_laws.specs.Covers.{IsPlaceType, IsObjectOfType, IsMeaningIn, IsNameIn, HasNames, HasText, HaveTexts}
+use Rattle.c_type_laws.proofs.Truth.{front, back, also}
+use Rattle.c_judgement_laws.specs.Covers.{IsMeaningIn, IsNameIn, HasNames, HasText, HaveTexts}
 use Rattle.c_judgement_laws.proofs.Structs.{object_depth, object_fits}
 use Rattle.c_body_laws.specs.Notes.{of_structs}
-use Rattle.c_global_laws.specs.Laws.{HasObject, HasTextObject, AreThere, IsText, AreTexts}
+use Rattle.c_global_laws.specs.Laws.{HasTextObject, AreTexts}
 use Rattle.c_global_laws.proofs.Places.{all_there}
 use Rattle.c_unit_object_laws.specs.Meanings.{Keeps, IsNamed, AreNamed, HasNamedFunctions}
 use Rattle.c_unit_object_laws.proofs.Names.{none_some, some_same}
-use Rattle.c_unit_object_laws.specs.Meant.{IsCallable, IsOwnType, IsMeant, AreMeant, IsOfType, HasObjects}
+use Rattle.c_unit_object_laws.specs.Meant.{IsOwnType, IsMeant, AreMeant, IsOfType, HasObjects}
 use Rattle.c_unit_object_laws.proofs.Types.{result_fits, result_plain, parameters_fit}
-use Rattle.c_typed_unit_laws.specs.Made.{IsKeptAs, IsMadeOf}
+use Rattle.c_typed_unit_laws.specs.Made.{IsMadeOf}
 
 -- what the numbers in a unit name, with these locals
 abbrev pub context_with : TypedUnit → List Local → Context

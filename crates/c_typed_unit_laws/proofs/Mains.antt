@@ -1,5 +1,5 @@
 -- Exactly one function is `main`.
-use Rattle.std.proofs.Common.{◌≡◌, ℕ, zero, suc, ◌≤◌, ◌==◌, arith, Bool, true, false, ◌&&◌, IsTrue, List, [], ◌∷◌, length, map, take, slice_get, codes, bytes_eq, Option, Some, None, refl, sym, ap, ◌∙◌, subst, if◌then◌else◌}
+use Rattle.std.proofs.Common.{◌≡◌, ℕ, zero, suc, ◌≤◌, ◌==◌, arith, Bool, true, false, IsTrue, List, [], ◌∷◌, length, map, take, slice_get, codes, Option, Some, None, refl, sym, ap, ◌∙◌, subst, if◌then◌else◌}
 use Rattle.std.specs.Prelude.{filter}
 use Rattle.std.specs.List.{list_all}
 use Rattle.std.proofs.lemmas.Slice.Eq.{bytes_eq-Decides}
@@ -9,7 +9,6 @@ use Rattle.c_typed_tree.specs.declared.units.Local.{Local}
 use Rattle.c_typed_tree.specs.declared.units.TypedFn.{TypedFn}
 use Rattle.c_typed_tree.specs.declared.units.TypedUnit.{TypedUnit}
 use Rattle.c_typed_tree.specs.declared.expressions.Callee.TheVariants as c
-use Rattle.c_typed_tree.specs.Types.{PlainType}
 use Rattle.c_typed_tree.specs.Typing.{is_same_type, int}
 use Rattle.c_typed_tree.specs.View.{type_view}
 use Rattle.c_typed_tree.specs.Lawful.{type_of_local, is_main, is_start, HasMain}
@@ -19,7 +18,7 @@ use Rattle.c_checks.specs.declared.meanings.NameMeaning.TheVariants as m
 use Rattle.c_checks.specs.Scopes.{meaning_of}
 use Rattle.c_tag_bodies.specs.Bodies.{Scope}
 use Rattle.c_declarations.specs.declared.walk.UnitSoFar.{UnitSoFar}
-use Rattle.c_type_laws.proofs.Truth.{no_true, also}
+use Rattle.c_type_laws.proofs.Truth.{also}
 use Rattle.c_unit_object_laws.specs.Meanings.{IsStart, IsNamed, HasNamedFunctions}
 use Rattle.c_unit_object_laws.proofs.Names.{none_some, some_same}
 use Rattle.c_typed_unit_laws.specs.Made.{IsMadeOf}

@@ -1,5 +1,5 @@
 -- The typed unit that is made of a unit without faults is well typed.
-use Rattle.std.proofs.Common.{◌≡◌, ℕ, zero, suc, ◌<◌, ◌^◌, nat_le, Bool, true, false, IsTrue, List, [], ◌∷◌, length, slice_get, Option, Some, None, refl, sym, ap, ◌∙◌, subst, leb-true, ltb-true}
+use Rattle.std.proofs.Common.{◌≡◌, ℕ, zero, suc, ◌<◌, ◌^◌, nat_le, Bool, true, false, IsTrue, List, [], ◌∷◌, length, slice_get, Some, refl, sym, ap, ◌∙◌, subst, leb-true, ltb-true}
 use Rattle.std.specs.Prelude.{All}
 use Rattle.std.proofs.lemmas.List.Elements.{All-nil, All-cons}
 use Rattle.std.specs.List.{list_all}
@@ -8,26 +8,22 @@ use Rattle.data_object.specs.Globals.{AreLawful}
 use Rattle.c_tree.specs.declared.declarations.TranslationUnit.{TranslationUnit}
 use Rattle.c_definitions.specs.declared.names.Definitions.{Definitions}
 use Rattle.c_definitions.specs.Definitions.{definitions}
-use Rattle.c_typed_tree.specs.declared.types.StructDef.{StructDef}
 use Rattle.c_typed_tree.specs.declared.units.Local.{Local}
 use Rattle.c_typed_tree.specs.declared.units.TypedFn.{TypedFn}
 use Rattle.c_typed_tree.specs.declared.units.TypedUnit.{TypedUnit}
 use Rattle.c_typed_tree.specs.Lawful.{is_identifier, IsLawfulStruct, IsTypedFn, IsTypedUnit}
 use Rattle.c_checks.specs.declared.notes.Notes.{Notes}
-use Rattle.c_judgements.specs.Types.{State}
 use Rattle.c_globals.specs.Globals.{globals}
 use Rattle.c_tag_bodies.specs.Bodies.{Scope}
 use Rattle.c_declarations.specs.declared.walk.UnitFunction.{UnitFunction}
 use Rattle.c_declarations.specs.declared.walk.UnitSoFar.{UnitSoFar}
-use Rattle.c_declarations.specs.Walk.{Walk}
 use Rattle.c_externals.specs.Externals.{externals}
 use Rattle.c_units.specs.Units.{start, end_notes, whole_unit}
 use Rattle.c_type_laws.proofs.Truth.{front, back}
 use Rattle.c_note_laws.specs.Steps.{is_sized}
-use Rattle.c_judgement_laws.specs.Covers.{HasNames, HaveTexts, IsLawfulContext}
+use Rattle.c_judgement_laws.specs.Covers.{HasNames, HaveTexts}
 use Rattle.c_struct_laws.specs.Growth.{Grow}
 use Rattle.c_struct_laws.proofs.Growth.{grow_itself}
-use Rattle.c_body_laws.specs.Notes.{IsWellDeclared}
 use Rattle.c_unit_object_laws.proofs.CUnitStructLawsUnits.{unit_declared}
 use Rattle.c_object_count_laws.proofs.Units.{objects_counted}
 use Rattle.c_function_name_laws.proofs.Names.{unit_names}

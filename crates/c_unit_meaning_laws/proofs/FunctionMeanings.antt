@@ -1,5 +1,5 @@
 -- A name that was declared as a function, and that the unit defines as one, means a function.
-use Rattle.std.proofs.Common.{◌≡◌, ℕ, Bool, true, false, not, ◌&&◌, ◌||◌, IsTrue, List, [], ◌∷◌, bytes_eq, Option, Some, None, is_some, refl, sym, ap, ◌∙◌, subst, if◌then◌else◌}
+use Rattle.std.proofs.Common.{◌≡◌, ℕ, Bool, true, false, not, ◌&&◌, ◌||◌, IsTrue, List, Option, Some, None, is_some, refl, sym, ap, ◌∙◌, subst, if◌then◌else◌}
 use Rattle.std.specs.Bool.{beq}
 use Rattle.c_tree.specs.declared.declarations.External.{External}
 use Rattle.c_scopes.specs.Names.{find}

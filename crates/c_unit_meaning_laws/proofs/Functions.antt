@@ -1,5 +1,5 @@
 -- The names of functions that were kept, and `main`.
-use Rattle.std.proofs.Common.{◌≡◌, ℕ, ◌+◌, ◌<◌, ◌≤◌, arith, Bool, true, false, not, ◌&&◌, ◌||◌, ◌==◌, IsTrue, List, [], ◌∷◌, ◌++◌, length, map, bytes_eq, codes, Option, Some, None, IfSome, is_some, refl, sym, ap, ◌∙◌, subst, if◌then◌else◌}
+use Rattle.std.proofs.Common.{◌≡◌, ℕ, ◌+◌, ◌<◌, ◌≤◌, arith, Bool, true, false, ◌&&◌, ◌||◌, ◌==◌, IsTrue, List, [], ◌∷◌, ◌++◌, length, map, bytes_eq, codes, Option, Some, None, IfSome, is_some, refl, sym, ap, ◌∙◌, subst, if◌then◌else◌}
 use Rattle.std.specs.Prelude.{IsFalse}
 use Rattle.std.proofs.lemmas.Slice.Eq.{bytes_eq-Decides}
 use Rattle.c_arithmetic.specs.declared.integer_type.IntegerType.TheVariants.{Int}
@@ -24,7 +24,6 @@ use Rattle.c_checks.specs.declared.env.Env.{Env}
 use Rattle.c_checks.specs.declared.notes.Notes.{Notes}
 use Rattle.c_checks.specs.declared.meanings.NameMeaning.{NameMeaning}
 use Rattle.c_checks.specs.declared.meanings.NameMeaning.TheVariants as m
-use Rattle.c_checks.specs.Notes.{with_fault}
 use Rattle.c_checks.specs.Scopes.{with_name, meaning_of}
 use Rattle.c_statements.specs.declared.functions.FunctionType.{FunctionType}
 use Rattle.c_unit_names.specs.declared.names.NameDeclaration.{NameDeclaration}
@@ -32,7 +31,7 @@ use Rattle.c_unit_names.specs.declared.names.UnitNames.{UnitNames}
 use Rattle.c_unit_names.specs.UnitNames.{object_name, function_name, value_name, first_meaning, with_declared, with_value}
 use Rattle.c_declarations.specs.declared.walk.UnitFunction.{UnitFunction}
 use Rattle.c_declarations.specs.declared.walk.UnitSoFar.{UnitSoFar}
-use Rattle.c_declarations.specs.Walk.{Walk, with_names, is_main, add_numbered, next_object, object_at, add_object, fill_numbered, function_by, function_at, add_function, keep_function}
+use Rattle.c_declarations.specs.Walk.{Walk, with_names, is_main, add_numbered, next_object, object_at, add_object, fill_numbered, function_by, function_at, add_function}
 use Rattle.c_declarations.specs.Functions.{main_seen, function_declared, is_start}
 use Rattle.c_declarations.specs.Objects.{object_declared}
 use Rattle.c_externals.specs.Externals.{typedef_of, externals}
@@ -45,7 +44,7 @@ use Rattle.c_signature_laws.specs.Laws.{HasItsType}
 use Rattle.c_signature_laws.proofs.Functions.{function_has_type}
 use Rattle.c_unit_walk_laws.specs.Walks.{WalkSteps, Stays, Follows, AddsConstant, AddsNotes, DeclaresType, DeclaresFunction, DefinesFunction, DeclaresObject, InitialisesObject}
 use Rattle.c_unit_walk_laws.proofs.Units.{unit_walk}
-use Rattle.c_unit_meaning_laws.specs.Meanings.{Keeps, IsFunctionLike, Agrees, AgreesWith, HasTypes, IsNamed, AreNamed, IsStart, HasNamedFunctions}
+use Rattle.c_unit_meaning_laws.specs.Meanings.{Keeps, AgreesWith, HasTypes, IsNamed, AreNamed, IsStart, HasNamedFunctions}
 use Rattle.c_unit_meaning_laws.proofs.Names.{none_some, own_meaning, other_meaning, meant_by, free_name, keeps_name, declared_by}
 use Rattle.c_unit_meaning_laws.proofs.Types.{declared_types, steps_types}
 use Rattle.c_unit_meaning_laws.proofs.FunctionMeanings.{is_function, means_function, HasKinds, declared_kinds, steps_kinds}

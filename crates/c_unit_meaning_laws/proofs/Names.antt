@@ -1,5 +1,5 @@
 -- A name that is added changes no other one.
-use Rattle.std.proofs.Common.{◌≡◌, ℕ, Bool, true, false, IsTrue, List, [], ◌∷◌, length, bytes_eq, Option, Some, None, is_some, refl, sym, ap, ◌∙◌, subst, ◌==◌, if◌then◌else◌}
+use Rattle.std.proofs.Common.{◌≡◌, ℕ, Bool, true, false, List, length, bytes_eq, Option, Some, None, is_some, refl, sym, ap, ◌∙◌, ◌==◌, if◌then◌else◌}
 use Rattle.std.specs.Option.{option_map}
 use Rattle.std.proofs.lemmas.Slice.Eq.{bytes_eq-Decides}
 use Rattle.data_object.specs.declared.DataCell.{DataCell}

@@ -1,5 +1,5 @@
 -- The declarations of a name have one type, that of what it means.
-use Rattle.std.proofs.Common.{◌≡◌, ℕ, Bool, true, false, not, ◌&&◌, ◌||◌, IsTrue, List, [], ◌∷◌, map, bytes_eq, Option, Some, None, is_some, refl, sym, ap, ◌∙◌, subst, if◌then◌else◌}
+use Rattle.std.proofs.Common.{◌≡◌, ℕ, Bool, true, false, not, ◌&&◌, ◌||◌, IsTrue, List, [], ◌∷◌, map, Option, Some, None, is_some, refl, sym, ap, ◌∙◌, subst, if◌then◌else◌}
 use Rattle.std.specs.Bool.{beq}
 use Rattle.c_tree.specs.declared.declarations.External.{External}
 use Rattle.c_scopes.specs.Names.{find}
@@ -16,8 +16,7 @@ use Rattle.c_checks.specs.Scopes.{with_name, meaning_of}
 use Rattle.c_unit_names.specs.declared.names.NameDeclaration.{NameDeclaration}
 use Rattle.c_unit_names.specs.declared.names.UnitNames.{UnitNames}
 use Rattle.c_unit_names.specs.UnitNames.{are_same, is_same_declared, may_follow, object_name, function_name, value_name, first_meaning, with_declared, with_value}
-use Rattle.c_declarations.specs.declared.walk.UnitSoFar.{UnitSoFar}
-use Rattle.c_declarations.specs.Walk.{Walk, with_names, add_object, keep_cells, keep_function}
+use Rattle.c_declarations.specs.Walk.{Walk, with_names, add_object}
 use Rattle.c_declarations.specs.Functions.{main_seen, function_declared}
 use Rattle.c_declarations.specs.Objects.{object_declared}
 use Rattle.c_externals.specs.Externals.{typedef_of}

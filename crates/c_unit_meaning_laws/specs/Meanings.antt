@@ -1,5 +1,5 @@
 -- What names of file scope mean, against how they were declared, and against the functions that were kept.
-use Rattle.std.specs.Prelude.{◌≡◌, ℕ, ◌<◌, Bool, true, false, IsTrue, IsFalse, List, [], ◌∷◌, map, Option, Some, None, codes}
+use Rattle.std.specs.Prelude.{◌≡◌, ℕ, ◌<◌, IsTrue, IsFalse, List, [], ◌∷◌, map, Option, Some, None, codes}
 use Rattle.c_scopes.specs.Names.{find}
 use Rattle.c_typed_tree.specs.declared.types.CType.{CType}
 use Rattle.c_typed_tree.specs.declared.expressions.Builtin.{Builtin}

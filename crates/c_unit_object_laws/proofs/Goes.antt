@@ -1,14 +1,8 @@
 -- Structs grow along declarations, and texts are only added.
-use Rattle.std.proofs.Common.{◌≡◌, ℕ, Bool, true, false, IsTrue, List, [], ◌∷◌, ◌++◌, Option, Some, None, is_some, refl, sym, ap, ◌∙◌, subst, append_assoc, if◌then◌else◌}
-use Rattle.std.proofs.lemmas.List.Elements.{All-nil}
+use Rattle.std.proofs.Common.{ℕ, Bool, true, false, List, Some, is_some, refl, ◌∙◌}
 use Rattle.c_tree.specs.declared.declarations.External.{External}
 use Rattle.c_scopes.specs.Names.{find}
 use Rattle.c_definitions.specs.declared.names.Definitions.{Definitions}
-use Rattle.c_tree.specs.declared.declarations.Init.{Init}
-use Rattle.c_tree.specs.declared.types.Declaration.{Declaration}
-use Rattle.c_tree.specs.declared.statements.Stmt.{Stmt}
-use Rattle.c_declared_types.specs.declared.declared.DeclaredType.{DeclaredType}
-use Rattle.c_declared_types.specs.declared.declared.DeclaredType.TheVariants as d
 use Rattle.c_typed_tree.specs.declared.types.CType.{CType}
 use Rattle.c_checks.specs.declared.env.Env.{Env}
 use Rattle.c_checks.specs.declared.notes.Notes.{Notes}
@@ -26,17 +20,16 @@ use Rattle.c_declarations.specs.Walk.{Walk}
 use Rattle.c_declarations.specs.Functions.{function_declared}
 use Rattle.c_declarations.specs.Objects.{object_declared}
 use Rattle.c_externals.specs.Externals.{typedef_of}
-use Rattle.c_expression_laws.specs.Types.{IsTypeIn, IsTypedefIn, HasTypedefs}
+use Rattle.c_expression_laws.specs.Types.{IsTypedefIn}
 use Rattle.c_note_laws.specs.Steps.{Steps}
-use Rattle.c_note_laws.specs.Laws.{StandsFirst}
 use Rattle.c_note_laws.proofs.Added.{steps_add}
 use Rattle.c_step_laws.proofs.Statements.{function_steps}
 use Rattle.c_step_laws.proofs.Initialisers.{cells_steps}
 use Rattle.c_struct_laws.proofs.Growth.{grow_itself, grow_then}
-use Rattle.c_body_laws.specs.Notes.{of_structs, KeepsNoted, IsWellDeclared}
+use Rattle.c_body_laws.specs.Notes.{of_structs}
 use Rattle.c_body_laws.proofs.Notes.{typedefs_grow, steps_keep}
 use Rattle.c_unit_meaning_laws.specs.Steps.{IsDeclared, First, Again, declared_as}
-use Rattle.c_unit_meaning_laws.specs.Walks.{GoesOn, WalkSteps, Stays, Follows, AddsConstant, AddsNotes, DeclaresType, DeclaresFunction, DefinesFunction, DeclaresObject, InitialisesObject}
+use Rattle.c_unit_meaning_laws.specs.Walks.{WalkSteps, Stays, Follows, AddsConstant, AddsNotes, DeclaresType, DeclaresFunction, DefinesFunction, DeclaresObject, InitialisesObject}
 use Rattle.c_unit_meaning_laws.proofs.Texts.{stands_itself, stands_then}
 use Rattle.c_unit_object_laws.specs.Meant.{GoesTo}
 

@@ -1,25 +1,20 @@
 -- Each name of file scope means something that is there.
-use Rattle.std.proofs.Common.{◌≡◌, ℕ, Bool, true, false, IsTrue, List, [], ◌∷◌, map, Option, Some, None, is_some, codes, refl, sym, ap, ◌∙◌, subst, if◌then◌else◌}
-use Rattle.std.specs.List.{list_all}
+use Rattle.std.proofs.Common.{ℕ, Bool, true, false, List, [], ◌∷◌, is_some, refl, subst}
 use Rattle.c_tree.specs.declared.declarations.External.{External}
 use Rattle.c_scopes.specs.Names.{find}
 use Rattle.c_definitions.specs.declared.names.Definitions.{Definitions}
-use Rattle.c_declared_types.specs.declared.declared.DeclaredType.{DeclaredType}
-use Rattle.c_declared_types.specs.declared.declared.DeclaredType.TheVariants as d
 use Rattle.c_typed_tree.specs.declared.types.CType.{CType}
 use Rattle.c_typed_tree.specs.declared.types.CType as t
 use Rattle.c_typed_tree.specs.declared.types.StructDef.{StructDef}
-use Rattle.c_typed_tree.specs.declared.expressions.Builtin.{Builtin}
 use Rattle.c_typed_tree.specs.declared.expressions.Builtin.TheVariants as b
 use Rattle.c_typed_tree.specs.declared.expressions.Callee.{Callee}
 use Rattle.c_typed_tree.specs.declared.expressions.Callee.TheVariants as c
 use Rattle.c_typed_tree.specs.model.View.{opens}
 use Rattle.c_type_rules.specs.Values.{int}
 use Rattle.c_checks.specs.declared.env.Env.{Env}
-use Rattle.c_checks.specs.declared.notes.Notes.{Notes}
 use Rattle.c_checks.specs.declared.meanings.NameMeaning.{NameMeaning}
 use Rattle.c_checks.specs.declared.meanings.NameMeaning.TheVariants as m
-use Rattle.c_checks.specs.Scopes.{with_name, meaning_of}
+use Rattle.c_checks.specs.Scopes.{with_name}
 use Rattle.c_statements.specs.declared.functions.FunctionType.{FunctionType}
 use Rattle.c_unit_names.specs.declared.names.NameDeclaration.{NameDeclaration}
 use Rattle.c_unit_names.specs.declared.names.UnitNames.{UnitNames}
@@ -34,7 +29,7 @@ use Rattle.c_struct_laws.proofs.Growth.{grow_then}
 use Rattle.c_unit_meaning_laws.specs.Steps.{IsDeclared, First, Again, declared_as}
 use Rattle.c_unit_meaning_laws.specs.Walks.{IsObjectType, IsGivenType, WalkSteps, Stays, Follows, AddsConstant, AddsNotes, DeclaresType, DeclaresFunction, DefinesFunction, DeclaresObject, InitialisesObject}
 use Rattle.c_unit_meaning_laws.proofs.Names.{none_some, meant_by}
-use Rattle.c_unit_object_laws.specs.Meant.{IsCallable, IsMeant, AreMeant}
+use Rattle.c_unit_object_laws.specs.Meant.{IsMeant, AreMeant}
 use Rattle.c_unit_object_laws.proofs.Goes.{steps_go}
 use Rattle.c_unit_object_laws.proofs.Types.{object_stays, callable_stays}
 

@@ -1,5 +1,5 @@
 -- Types that were judged are lawful among structs that have grown.
-use Rattle.std.proofs.Common.{◌≡◌, ℕ, ◌≤◌, nat_le, Bool, true, false, ◌&&◌, ◌||◌, IsTrue, List, [], ◌∷◌, map, refl, sym, ap, ◌∙◌, subst, arith, leb-true, le-leb, le_trans}
+use Rattle.std.proofs.Common.{◌≡◌, ℕ, nat_le, ◌&&◌, IsTrue, List, [], ◌∷◌, refl, leb-true, le-leb, le_trans}
 use Rattle.std.specs.Prelude.{IsFalse}
 use Rattle.std.specs.List.{list_all}
 use Rattle.c_typed_tree.specs.declared.types.CType.{CType}
@@ -7,12 +7,11 @@ use Rattle.c_typed_tree.specs.declared.types.StructDef.{StructDef}
 use Rattle.c_typed_tree.specs.Types.{PlainType, Void, Int, Pointer, Array, Struct}
 use Rattle.c_typed_tree.specs.Constants.{is_integer}
 use Rattle.c_typed_tree.specs.Layout.{is_object}
-use Rattle.c_typed_tree.specs.Typing.{is_void, is_pointer, is_scalar, is_array, is_type, is_fit, depth_of, depth_behind, most_depth}
+use Rattle.c_typed_tree.specs.Typing.{is_void, is_pointer, is_scalar, is_array, is_type, is_fit, depth_of, most_depth}
 use Rattle.c_typed_tree.specs.View.{type_view}
 use Rattle.c_typed_tree.specs.Lawful.{is_object_type, is_result}
 use Rattle.c_declared_types.specs.declared.declared.DeclaredType.TheVariants as d
 use Rattle.c_declared_types.specs.Depth.{is_deep_at_most}
-use Rattle.c_tag_bodies.specs.Members.{is_member}
 use Rattle.c_type_laws.specs.Typed.{AreFit}
 use Rattle.c_type_laws.proofs.Truth.{no_true, front, back, also, three, along, either, either_left, either_right}
 use Rattle.c_type_laws.proofs.Types.{known_object}

@@ -11,7 +11,6 @@ use Rattle.c_typed_tree.specs.Typing.{callee_signature}
 use Rattle.c_typed_tree.specs.View.{type_view}
 use Rattle.c_typed_tree.specs.Lawful.{is_object_type, is_result}
 use Rattle.c_checks.specs.declared.env.Env.{Env}
-use Rattle.c_checks.specs.declared.notes.Notes.{Notes}
 use Rattle.c_checks.specs.declared.meanings.NameMeaning.{NameMeaning}
 use Rattle.c_checks.specs.declared.meanings.NameMeaning.TheVariants as m
 use Rattle.c_checks.specs.Scopes.{meaning_of}

@@ -1,7 +1,6 @@
 -- Each function with a body is among those that the unit defines.
 use Rattle.std.proofs.Common.{◌≡◌, ℕ, Bool, true, false, IsTrue, List, [], ◌∷◌, length, bytes_eq, Option, Some, None, is_some, refl, if◌then◌else◌}
 use Rattle.std.proofs.lemmas.Slice.Eq.{bytes_eq-Decides}
-use Rattle.c_tree.specs.declared.declarations.Storage.{Storage}
 use Rattle.c_tree.specs.declared.declarations.Init.{Init}
 use Rattle.c_tree.specs.declared.declarations.FunctionEnd.{FunctionEnd}
 use Rattle.c_tree.specs.declared.declarations.FunctionEnd.TheVariants as f
@@ -10,7 +9,7 @@ use Rattle.c_tree.specs.declared.declarations.External.TheVariants as x
 use Rattle.c_tree.specs.declared.types.Declaration.{Declaration}
 use Rattle.c_scopes.specs.Names.{find}
 use Rattle.c_definitions.specs.declared.names.Definitions.{Definitions}
-use Rattle.c_definitions.specs.Definitions.{Names, with_name, with_function_type, with_object, is_function, typedef_seen, is_definition, object_seen, see, defined_behind}
+use Rattle.c_definitions.specs.Definitions.{Names, with_name, with_function_type, with_object, is_function, is_definition, see, defined_behind}
 use Rattle.c_type_laws.proofs.Truth.{no_true}
 use Rattle.c_unit_walk_laws.specs.Walks.{IsInitialiserIn, Here, There}
 

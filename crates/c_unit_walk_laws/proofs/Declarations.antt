@@ -1,5 +1,5 @@
 -- A declaration at file scope without a fault takes the steps that are said, or something is noted.
-use Rattle.std.proofs.Common.{◌≡◌, ℕ, Bool, true, false, ◌&&◌, IsTrue, List, [], ◌∷◌, Option, Some, None, IfSome, is_some, refl, sym, ap, ◌∙◌, subst, if◌then◌else◌}
+use Rattle.std.proofs.Common.{◌≡◌, ℕ, Bool, true, false, IsTrue, List, Option, Some, None, IfSome, is_some, refl, sym, ◌∙◌, subst, if◌then◌else◌}
 use Rattle.std.specs.Option.{option_map}
 use Rattle.c_tree.specs.declared.declarations.Storage.{Storage}
 use Rattle.c_tree.specs.declared.declarations.Init.{Init}
@@ -25,7 +25,7 @@ use Rattle.c_checks.specs.declared.notes.Notes.{Notes}
 use Rattle.c_checks.specs.Checks.{each}
 use Rattle.c_checks.specs.Notes.{with_fault}
 use Rattle.c_judgements.specs.Leaves.{no_type}
-use Rattle.c_judgements.specs.Types.{State, type_named}
+use Rattle.c_judgements.specs.Types.{State}
 use Rattle.c_tag_bodies.specs.Members.{is_member}
 use Rattle.c_initialisers.specs.Unfit.{judge_init, no_place}
 use Rattle.c_initialisers.specs.Initialisers.{object_cells, length_given}
@@ -33,7 +33,7 @@ use Rattle.c_unit_names.specs.declared.names.UnitNames.{UnitNames}
 use Rattle.c_unit_names.specs.UnitNames.{object_name, function_name, declaration}
 use Rattle.c_declarations.specs.declared.walk.UnitSoFar.{UnitSoFar}
 use Rattle.c_declarations.specs.Walk.{Walk, in_notes, declare, with_names, main_checked, add_object, keep_cells}
-use Rattle.c_declarations.specs.Objects.{no_object, object_type, type_there, array_type, init_judged, object_declared, faulty_object, object_of, array_object, value_object}
+use Rattle.c_declarations.specs.Objects.{no_object, object_type, type_there, init_judged, object_declared, faulty_object, object_of, array_object, value_object}
 use Rattle.c_declarations.specs.Functions.{function_declared, function_with_type, refusal_of, init_refused}
 use Rattle.c_found_unit_laws.specs.Externals.{typedef_of, typedef_declared, prototype, object_with, type_with}
 use Rattle.c_type_laws.proofs.Truth.{also}

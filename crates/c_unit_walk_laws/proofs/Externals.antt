@@ -1,8 +1,7 @@
 -- Definitions of functions, each declaration at file scope, and lists of them.
-use Rattle.std.proofs.Common.{◌≡◌, ◌≤◌, ℕ, arith, Bool, true, false, not, ◌&&◌, IsTrue, List, [], ◌∷◌, length, nat_lt, IfSome, Option, Some, None, is_some, refl, sym, ap, ◌∙◌, subst, if◌then◌else◌}
+use Rattle.std.proofs.Common.{◌≡◌, ◌≤◌, ℕ, arith, Bool, true, false, not, IsTrue, List, [], ◌∷◌, nat_lt, IfSome, Option, Some, None, is_some, refl, sym, ap, ◌∙◌, subst, if◌then◌else◌}
 use Rattle.std.proofs.lemmas.Bool.{le-ltb}
 use Rattle.c_tree.specs.declared.declarations.Storage.{Storage}
-use Rattle.c_tree.specs.declared.declarations.Init.{Init}
 use Rattle.c_tree.specs.declared.declarations.FunctionEnd.{FunctionEnd}
 use Rattle.c_tree.specs.declared.declarations.FunctionEnd.TheVariants as f
 use Rattle.c_tree.specs.declared.declarations.External.{External}
@@ -43,7 +42,7 @@ use Rattle.c_declarations.specs.Functions.{function_declared, function_with_type
 use Rattle.c_declarations.specs.Objects.{object_declared}
 use Rattle.c_found_unit_laws.specs.Externals.{typedef_of, typedef_declared, prototype, object_with, type_with, with_main_in, with_definition, definition_with, definition, function_with, end_judged, function_typed, type_of, external, externals}
 use Rattle.c_expression_laws.specs.Types.{IsTypeIn, HasTypedefs}
-use Rattle.c_unit_struct_laws.specs.Notes.{of_structs, IsWellDeclared, LeadsOn}
+use Rattle.c_unit_struct_laws.specs.Notes.{of_structs, IsWellDeclared}
 use Rattle.c_unit_struct_laws.proofs.Bodies.{declared_found}
 use Rattle.c_unit_struct_laws.proofs.Units.{external_leads}
 use Rattle.c_found_laws.specs.Laws.{are_sound_names, is_sound, Tells, IsFound}
@@ -58,12 +57,12 @@ use Rattle.c_found_unit_laws.proofs.Shapes.{declares_type, declared_fits}
 use Rattle.c_found_unit_laws.proofs.Initialisers.{judge_init_tells}
 use Rattle.c_found_unit_laws.proofs.Declarations.{tells_refused}
 use Rattle.c_unit_walk_laws.specs.Shapes.{is_shaped, HasShapes}
-use Rattle.c_unit_walk_laws.specs.Walks.{GoesOn, IsGivenType, WalkSteps, Stays, Follows, AddsConstant, AddsNotes, DeclaresType, DeclaresFunction, DefinesFunction, DeclaresObject, InitialisesObject}
+use Rattle.c_unit_walk_laws.specs.Walks.{IsGivenType, WalkSteps, Stays, Follows, AddsConstant, AddsNotes, DeclaresType, DeclaresFunction, DefinesFunction, DeclaresObject, InitialisesObject}
 use Rattle.c_unit_walk_laws.proofs.Counted.{IsCounted, IsCountedIn, AreCounted, IsListed, AllListed}
 use Rattle.c_unit_walk_laws.proofs.Texts.{declared_texts}
 use Rattle.c_unit_walk_laws.proofs.Shapes.{shapes_after, declared_shape}
 use Rattle.c_unit_walk_laws.proofs.Names.{checked_declaration_tells}
-use Rattle.c_unit_walk_laws.proofs.Declarations.{IsThere, given, at_notes, fault_tells, anything, typedef_after, function_sound, prototype_after, object_after, refused_never}
+use Rattle.c_unit_walk_laws.proofs.Declarations.{IsThere, given, anything, typedef_after, function_sound, prototype_after, object_after, refused_never}
 
 -- ---- definitions: the parameters have names, and nothing is noted
 

@@ -1,5 +1,5 @@
 -- The type of a declaration of a function gives nothing or a scalar, and takes scalars.
-use Rattle.std.proofs.Common.{◌≡◌, ℕ, Bool, true, false, ◌&&◌, ◌||◌, IsTrue, List, [], ◌∷◌, ◌++◌, length, bytes_eq, Option, Some, None, IfSome, refl, ap, ◌∙◌, subst, if◌then◌else◌}
+use Rattle.std.proofs.Common.{◌≡◌, ℕ, Bool, true, false, IsTrue, List, [], length, bytes_eq, Option, Some, None, IfSome, refl, subst, if◌then◌else◌}
 use Rattle.std.specs.List.{list_all}
 use Rattle.std.specs.Option.{option_map}
 use Rattle.c_tree.specs.declared.types.TypeNode as t
@@ -13,7 +13,7 @@ use Rattle.c_typed_tree.specs.View.{type_view}
 use Rattle.c_typed_tree.specs.model.View.{opens}
 use Rattle.c_declared_types.specs.declared.declared.DeclaredType.{DeclaredType}
 use Rattle.c_declared_types.specs.declared.declared.DeclaredType.TheVariants as d
-use Rattle.c_declared_types.specs.Declarators.{pointer_to, array_with, array_without, array_of, parameter_value, parameter_of, function_with, function_of}
+use Rattle.c_declared_types.specs.Declarators.{pointer_to, array_of, parameter_value, parameter_of, function_with, function_of}
 use Rattle.c_declared_types.specs.Depth.{is_deep_at_most}
 use Rattle.c_type_faults.specs.declared.faults.Kind.TheVariants.{BadType, Redeclared}
 use Rattle.c_scopes.specs.Names.{find}
@@ -31,7 +31,7 @@ use Rattle.c_judgements.specs.Types.{State, within, there, pointer, array, funct
 use Rattle.c_expressions.specs.Expressions.{derive, length_held, parameter_row}
 use Rattle.c_tag_bodies.specs.Enums.{constant_meaning}
 use Rattle.c_tag_bodies.specs.Bodies.{Scope, bodies, declared_type}
-use Rattle.c_type_laws.proofs.Truth.{no_true, also, either_left, either_right}
+use Rattle.c_type_laws.proofs.Truth.{also, either_left, either_right}
 use Rattle.c_found_laws.proofs.Forms.{all_append}
 use Rattle.c_found_unit_laws.proofs.Constants.{Enters, Same, More, behind_leaves, declared_enters}
 use Rattle.c_unit_walk_laws.specs.Shapes.{is_parameter_type, is_result_type, is_shaped, HasShapes}

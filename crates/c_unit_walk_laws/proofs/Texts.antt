@@ -18,12 +18,12 @@ use Rattle.c_checks.specs.Notes.{with_fault}
 use Rattle.c_checks.specs.Scopes.{with_name, stands_here}
 use Rattle.c_judgements.specs.Leaves.{leaf, tagged_enum}
 use Rattle.c_judgements.specs.Types.{State}
-use Rattle.c_expressions.specs.Expressions.{judge, derive}
+use Rattle.c_expressions.specs.Expressions.{judge}
 use Rattle.c_tag_bodies.specs.declared.members.Members.{Members}
 use Rattle.c_tag_bodies.specs.Enums.{explicit_value, next, value_held, constant_meaning, constant_declared, constant_row}
 use Rattle.c_tag_bodies.specs.Members.{no_members, is_member, no_member, member_type, with_member, with_faulty_member, member_named}
 use Rattle.c_tag_bodies.specs.Structs.{DefinedTags, enum_begun, number_for_tag, no_body, struct_begun, struct_where, tag_name, with_struct, with_untagged, too_large, complete, struct_ended}
-use Rattle.c_tag_bodies.specs.Bodies.{Scope, enum_entered, struct_entered, struct_left, type_behind, member_entered, bodies, constants_held, members_held, member_row, declared_type}
+use Rattle.c_tag_bodies.specs.Bodies.{Scope, enum_entered, struct_entered, type_behind, member_entered, bodies, constants_held, members_held, member_row, declared_type}
 use Rattle.c_note_laws.specs.Steps.{is_sized, Steps}
 use Rattle.c_note_laws.specs.Laws.{StandsFirst}
 use Rattle.c_note_laws.proofs.Forms.{ruled, each_adds, enum_adds, struct_adds, leaf_adds}

@@ -1,14 +1,10 @@
 -- A unit without faults is walked by declarations without faults.
-use Rattle.std.proofs.Common.{◌≡◌, ℕ, Bool, true, false, IsTrue, List, [], Option, Some, bytes_eq, codes, refl, if◌then◌else◌}
-use Rattle.std.specs.Option.{option_map}
+use Rattle.std.proofs.Common.{◌≡◌, ℕ, List, [], refl}
 use Rattle.std.proofs.lemmas.List.Elements.{All-nil}
 use Rattle.c_tree.specs.declared.declarations.TranslationUnit.{TranslationUnit}
 use Rattle.c_typed_tree.specs.declared.types.CType.{CType}
 use Rattle.c_typed_tree.specs.declared.expressions.Callee.{Callee}
 use Rattle.c_typed_tree.specs.Lawful.{IsLawfulStruct}
-use Rattle.c_declared_types.specs.declared.declared.DeclaredType.{DeclaredType}
-use Rattle.c_tree.specs.declared.declarations.External.{External}
-use Rattle.c_scopes.specs.Names.{find}
 use Rattle.c_definitions.specs.declared.names.Definitions.{Definitions}
 use Rattle.c_definitions.specs.Definitions.{nothing_defined, definitions}
 use Rattle.c_checks.specs.declared.env.Env.{Env}
@@ -18,7 +14,7 @@ use Rattle.c_unit_struct_laws.specs.Notes.{IsWellDeclared}
 use Rattle.c_found_unit_laws.specs.Externals.{externals}
 use Rattle.c_found_unit_laws.specs.Units.{builtins, start, whole_unit}
 use Rattle.c_found_unit_laws.proofs.Units.{clean_unit}
-use Rattle.c_unit_walk_laws.specs.Shapes.{is_shaped, HasShapes}
+use Rattle.c_unit_walk_laws.specs.Shapes.{HasShapes}
 use Rattle.c_unit_walk_laws.specs.Walks.{WalkSteps}
 use Rattle.c_unit_walk_laws.proofs.Counted.{all_counted, every_listed}
 use Rattle.c_unit_walk_laws.proofs.Shapes.{shapes_after}

@@ -1,5 +1,5 @@
 -- What `build` writes for a text that has a unit.
-use Rattle.std.proofs.Common.{◌≡◌, ℕ, List, inl, inr, Option, Some, refl, sym, subst}
+use Rattle.std.proofs.Common.{◌≡◌, ℕ, List, inl, inr, Some, sym, subst}
 use Rattle.alpha_isa.specs.Behave.{IsStack}
 use Rattle.c_typed_tree.specs.declared.units.TypedUnit.{TypedUnit}
 use Rattle.c_semantics.specs.Behaves.{meaning}

@@ -1,15 +1,14 @@
 -- What `run` does for a text that has a unit.
-use Rattle.std.proofs.Common.{◌≡◌, ℕ, ◌<◌, List, inl, inr, Some, refl, sym, subst}
+use Rattle.std.proofs.Common.{◌≡◌, ℕ, List, inl, inr, sym, subst}
 use Rattle.alpha_isa.specs.Program.{Program}
-use Rattle.alpha_isa.specs.Behave.{IsStack, behave_a, output_of, More}
+use Rattle.alpha_isa.specs.Behave.{behave_a, output_of, More}
 use Rattle.alpha_run.specs.declared.ending.Ending.{Ending}
 use Rattle.alpha_run.specs.declared.ending.Ending.TheVariants as ending
 use Rattle.alpha_run.specs.Run.{Traffic, MachineBehaves}
 use Rattle.bk_io.specs.Outside.{taken_with}
 use Rattle.machine_model.specs.Laws.{IsPrefix}
 use Rattle.c_mean.specs.Behaviour as c
-use Rattle.c_mean.specs.Behaviour.{Meaning, Good}
-use Rattle.c_typed_tree.specs.declared.units.TypedUnit.{TypedUnit}
+use Rattle.c_mean.specs.Behaviour.{Meaning}
 use Rattle.c_semantics.specs.Behaves.{meaning}
 use Rattle.call_outcomes.specs.declared.outcome.Outcome.{Outcome}
 use Rattle.compile_calls.specs.Same.{SameOn}

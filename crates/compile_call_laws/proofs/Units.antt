@@ -1,5 +1,5 @@
 -- A text has one unit at most, and is not refused where it has one within the limits.
-use Rattle.std.proofs.Common.{◌≡◌, ◌⊎◌, ℕ, ◌≤◌, ◌<◌, List, inl, inr, length, Option, Some, None, refl, sym, ap, ◌∙◌, subst, arith}
+use Rattle.std.proofs.Common.{◌≡◌, ℕ, List, inl, inr, Option, Some, None, refl, sym, ap, ◌∙◌, subst, arith}
 use Rattle.c_tree.specs.declared.declarations.TranslationUnit.{TranslationUnit}
 use Rattle.c_type_faults.specs.declared.faults.Fault.{Fault}
 use Rattle.c_type_faults.specs.declared.faults.Kind.{Kind}
@@ -9,17 +9,15 @@ use Rattle.c_parser.specs.Reading.{IsRead, IsNotRead}
 use Rattle.c_typed_tree.specs.declared.units.TypedUnit.{TypedUnit}
 use Rattle.c_typed_tree.specs.Weight.{unit_weight}
 use Rattle.c_typed_tree.specs.Rooms.{data_size}
-use Rattle.call_outcomes.specs.declared.outcome.Outcome.{Outcome}
 use Rattle.call_outcomes.specs.declared.outcome.Outcome.TheVariants as outcome
 use Rattle.call_outcomes.specs.declared.outcome.SourceFault.{SourceFault}
 use Rattle.call_outcomes.specs.declared.outcome.SourceFault.TheVariants.{Lex, Syntax, Typing}
 use Rattle.call_outcomes.specs.declared.outcome.Which.{Which}
 use Rattle.call_outcomes.specs.declared.outcome.Which.TheVariants.{Text, Nesting, Weight, Data}
-use Rattle.call_outcomes.specs.FromFile.{IsCause}
-use Rattle.front_end.specs.declared.fault.CompileFault.TheVariants.{Source, Limit}
-use Rattle.front_end.specs.Units.{IsUnitOf, IsUnitWithin, HasTypingFault, HasNoUnit}
-use Rattle.compile_calls.specs.Compile.{MakesNothing, RefusesText}
-use Rattle.compile_call_laws.specs.Laws.{HasUnit, IsShortFor, TextsWithAUnitAreNotRefused}
+use Rattle.front_end.specs.declared.fault.CompileFault.TheVariants.{Source}
+use Rattle.front_end.specs.Units.{IsUnitOf, HasTypingFault, HasNoUnit}
+use Rattle.compile_calls.specs.Compile.{MakesNothing}
+use Rattle.compile_call_laws.specs.Laws.{HasUnit, TextsWithAUnitAreNotRefused}
 
 -- the laws of readings
 abbrev pub OneTree : Type 0

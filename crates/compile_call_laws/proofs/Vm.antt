@@ -16,7 +16,6 @@ use Rattle.suifvm_run.specs.Run.{Traffic, VmBehaves}
 use Rattle.lowering_theorem.specs.Laws.{IsCodeOf, BehavesAsUnit, BehavioursAreKept}
 use Rattle.call_outcomes.specs.declared.outcome.Outcome.{Outcome}
 use Rattle.call_outcomes.specs.declared.outcome.Outcome.TheVariants.{Ran, Trapped, Budget}
-use Rattle.compile_options.specs.declared.Allocator.{Allocator}
 use Rattle.compile_calls.specs.Compile.{IsBuilt}
 use Rattle.compile_calls.specs.Vm.{outcome_of_ending, RunsProgram}
 use Rattle.compile_call_laws.specs.Laws.{HasUnit, IsOutcomeOf, AnswersAs, TextsWithAUnitAreNotRefused, VmAnswersAsTheTextMeans}

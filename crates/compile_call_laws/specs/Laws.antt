@@ -68,9 +68,9 @@ pub record PutsFront (m : Meaning) (input : List ℕ) (before after : Option (Li
   pub front : IsPrefix put (output_of (m.behave input turns))
   pub taken : after ≡ taken_with put before
 
--- What a run of so many steps may do for a program on an input: it ends or traps as the program does, and puts what that
--- puts; or a front of that, where the steps do not suffice, or the input or the output fails; or the file is not read, or
--- memory is short, and nothing is done.
+-- What a run of so many steps may do for a program on an input: it ends or traps as the program does, and puts what
+-- that puts; or a front of that, where the steps do not suffice, or the input or the output fails; or the file is not
+-- read, or memory is short, and nothing is done.
 pub data RunsUnit (text : List ℕ) (m : Meaning) (input : List ℕ) (budget : ℕ) (before after : machine.Traffic) :
     Outcome → Type 0 where
   ran : (turns : ℕ) (output : List ℕ) (status : ℕ) → m.behave input turns ≡ c.Done output status →

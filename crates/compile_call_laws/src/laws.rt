@@ -6,8 +6,8 @@ use c_parser::laws::{one_tree, read_or_refused};
 use lowering_theorem::laws::behaviours_are_kept;
 use vm_meaning::laws::one_ending;
 
-/// A text that has a unit within the limits is refused by no command that compiles it, unless the file fails or memory is
-/// short, or its tree is higher than is taken.
+/// A text that has a unit within the limits is refused by no command that compiles it, unless the file fails or
+/// memory is short, or its tree is higher than is taken.
 pub fn texts_with_a_unit_are_not_refused()
     ensures { TextsWithAUnitAreNotRefused }
 {
@@ -15,8 +15,8 @@ pub fn texts_with_a_unit_are_not_refused()
     read_or_refused();
 }
 
-/// `build` writes for such a text the image of what behaves as the unit, on every stack, unless the outside fails or memory
-/// is short.
+/// `build` writes for such a text the image of what behaves as the unit, on every stack, unless the outside fails or
+/// memory is short.
 pub fn build_writes_what_the_text_means()
     ensures { BuildWritesWhatTheTextMeans }
 {
@@ -24,9 +24,9 @@ pub fn build_writes_what_the_text_means()
     read_or_refused();
 }
 
-/// `run` ends or traps for such a text as the unit does, on each input of bytes that is told and on which the unit promises
-/// something with the stack of the run, unless its steps do not suffice, the outside fails or memory is short; it puts what
-/// the unit puts, or a front of that, and is never stuck.
+/// `run` ends or traps for such a text as the unit does, on each input of bytes that is told and on which the unit
+/// promises something with the stack of the run, unless its steps do not suffice, the outside fails or memory is
+/// short; it puts what the unit puts, or a front of that, and is never stuck.
 pub fn run_does_what_the_text_means()
     ensures { RunDoesWhatTheTextMeans }
 {

@@ -1,5 +1,5 @@
 -- Why nothing is made of a text.
-use Rattle.std.proofs.Common.{◌≡◌, ◌≢◌, ℕ, ◌≤◌, List, inl, inr, length, Some}
+use Rattle.std.proofs.Common.{ℕ, ◌≤◌, List, inl, inr, length, Some}
 use Rattle.call_outcomes.specs.FromFile.{IsCause}
 use Rattle.call_outcomes.specs.declared.outcome.Which.TheVariants.{Text, Nesting, Weight, Data}
 use Rattle.front_end.specs.declared.fault.CompileFault.{CompileFault}

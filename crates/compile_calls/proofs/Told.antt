@@ -1,5 +1,5 @@
 -- What holds of the text that was read of a file holds of the file, where it is told.
-use Rattle.std.proofs.Common.{◌≡◌, ℕ, ◌≤◌, ◌<◌, List, inl, inr, length, Option, Some, IfSome, refl, arith}
+use Rattle.std.proofs.Common.{◌≡◌, ℕ, ◌≤◌, List, inl, inr, length, Option, Some, IfSome, refl, arith}
 use Rattle.bk_io.specs.Shelf.{Shelf, file_of}
 use Rattle.call_outcomes.specs.declared.outcome.Outcome.{Outcome}
 use Rattle.call_outcomes.specs.declared.outcome.Outcome.TheVariants.{FileFault, Refused, Limit, NoMemory}

@@ -6,7 +6,7 @@ use Rattle.compile_options.specs.declared.Allocator.{Allocator}
 use Rattle.image_calls.specs.WriteImage.{WritesImage}
 use Rattle.compile_calls.specs.Compile.{HasBuilt, RefusesText}
 
--- What `build` answers for the text of a file, where it is told, and what the output took: the bytes of the image that is
--- made of the text, or there is none.
+-- What `build` answers for the text of a file, where it is told, and what the output took: the bytes of the image
+-- that is made of the text, or there is none.
 abbrev pub Builds : Allocator → Option (List ℕ) → Outcome → Option (List ℕ) → Option (List ℕ) → Type 0
 Builds allocator text = Does (RefusesText text) (HasBuilt text allocator) (λ b. WritesImage b.image)

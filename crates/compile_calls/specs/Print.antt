@@ -15,7 +15,7 @@ abbrev pub WritesText : List ℕ → Outcome → Option (List ℕ) → Option (L
 WritesText shown answer old new =
     ((answer ≡ NoMemory) × (new ≡ old) × MemoryIsShort) ⊎ PutsBytes Printed shown answer old new
 
--- What `print` answers for the text of a file, where it is told, and what the output took: the text of the pass, of what
--- is made of the text, or there is nothing.
+-- What `print` answers for the text of a file, where it is told, and what the output took: the text of the pass, of
+-- what is made of the text, or there is nothing.
 abbrev pub Prints : Allocator → PassName → Option (List ℕ) → Outcome → Option (List ℕ) → Option (List ℕ) → Type 0
 Prints allocator pass text = Does (RefusesText text) (HasBuilt text allocator) (λ b. WritesText (text_of_pass pass b))

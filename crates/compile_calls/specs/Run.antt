@@ -8,6 +8,7 @@ use Rattle.compile_options.specs.declared.MachineLimits.{MachineLimits}
 use Rattle.image_calls.specs.RunImage.{RunsImage}
 use Rattle.compile_calls.specs.Compile.{HasBuilt, RefusesText}
 
--- What `run` answers for the text of a file, where it is told: the image that is made of the text is run, or there is none.
+-- What `run` answers for the text of a file, where it is told: the image that is made of the text is run, or there is
+-- none.
 abbrev pub Runs : Allocator → MachineLimits → Option (List ℕ) → Outcome → Traffic → Traffic → Type 0
 Runs allocator limits text = Does (RefusesText text) (HasBuilt text allocator) (λ b. RunsImage limits b.image)

@@ -18,7 +18,8 @@ allocations_text number [] = []
 allocations_text number (a ∷ allocations) =
     allocation_text number a ++ allocations_text (number + count_of a.func.blocks) allocations
 
--- the tree; the code over virtual registers, and its flow graphs; the code over temporaries; where these live; the assembly
+-- the tree; the code over virtual registers, and its flow graphs; the code over temporaries; where these live; the
+-- assembly
 abbrev pub text_of_pass : PassName → Built → List ℕ
 text_of_pass Tree b = tree_text b.unit
 text_of_pass Vm b = vm.program_text b.vm.functions

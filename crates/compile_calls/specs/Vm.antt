@@ -32,7 +32,7 @@ abbrev pub RunsProgram : (turns : ℕ) → VmProgram → Outcome → Traffic →
 RunsProgram turns program answer before after =
     (e : VmEnding) × (answer ≡ outcome_of_ending turns e) × RunsBy turns program e before after
 
--- What `vm` answers for the text of a file, where it is told: the code over virtual registers that is made of the text is
--- run, or there is none.
+-- What `vm` answers for the text of a file, where it is told: the code over virtual registers that is made of the
+-- text is run, or there is none.
 abbrev pub RunsText : Allocator → (turns : ℕ) → Option (List ℕ) → Outcome → Traffic → Traffic → Type 0
 RunsText allocator turns text = Does (RefusesText text) (HasBuilt text allocator) (λ b. RunsProgram turns b.vm)

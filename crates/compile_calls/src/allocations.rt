@@ -20,8 +20,8 @@ fn put_allocations(out: &mut Vec<u8>, allocations: &[Allocation]) -> Result<(), 
     Ok(())
 }
 
-/// The text of the allocations of a program, whose instructions have the numbers that they have in the program. It fails
-/// only where memory is short.
+/// The text of the allocations of a program, whose instructions have the numbers that they have in the program. It
+/// fails only where memory is short.
 pub(crate) fn allocations_text(
     alloc: Global,
     allocations: &[Allocation],

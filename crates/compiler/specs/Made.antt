@@ -23,8 +23,8 @@ use Rattle.compile_options.specs.declared.Allocator.TheVariants.{Plain}
 use Rattle.front_end.specs.Units.{IsUnitWithin}
 use Rattle.compiler.specs.declared.built.Built.{Built}
 
--- the code over virtual registers runs as the unit does, on every input of bytes, with every number of turns and whatever
--- the rooms are, where the run of the unit is defined
+-- the code over virtual registers runs as the unit does, on every input of bytes, with every number of turns and
+-- whatever the rooms are, where the run of the unit is defined
 abbrev pub CodeRunsAs : TypedUnit → VmProgram → Type 0
 CodeRunsAs u p =
     (rooms : Rooms) (input : List ℕ) (turns : ℕ) → All (λ byte. byte < 256) input →

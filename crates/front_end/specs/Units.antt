@@ -61,8 +61,8 @@ pub record IsTooLarge (text : List ℕ) (counted : ℕ) : Type 0 where
   pub large : most_data < data_size unit
   pub count : counted ≡ as_count (data_size unit)
 
--- Why a text has no unit within the limits: each answer has one cause. For want of memory it is that memory is short, or
--- that the tree is higher than is taken.
+-- Why a text has no unit within the limits: each answer has one cause. For want of memory it is that memory is short,
+-- or that the tree is higher than is taken.
 abbrev pub HasNoUnit : List ℕ → CompileFault → Type 0
 HasNoUnit text (Source (Lex at)) = FaultAt text at
 HasNoUnit text (Limit Nesting counted) = HasNesting text counted × (most_nesting < counted)

@@ -70,9 +70,10 @@ fn within_limits(unit: &TypedUnit) -> Result<(), CompileFault>
 ///
 /// # Errors
 ///
-/// In this order: [`SourceFault::Lex`](call_outcomes::outcome::SourceFault) where no token begins at an offset; the limit
-/// of its nesting; `Syntax` where the tokens have no reading; `Typing` where the unit has faults, with the first; the
-/// limit of its weight; the limit of its data; and [`CompileFault::NoMemory`], also for a tree that is too high.
+/// In this order: [`SourceFault::Lex`](call_outcomes::outcome::SourceFault) where no token begins at an offset; the
+/// limit of its nesting; `Syntax` where the tokens have no reading; `Typing` where the unit has faults, with the
+/// first; the limit of its weight; the limit of its data; and [`CompileFault::NoMemory`], also for a tree that is too
+/// high.
 #[tactic(auto, using(crate::proofs::Units::beyond))]
 pub fn read_unit(alloc: Global, text: &[u8]) -> Result<FrontEnd, CompileFault>
     requires { length text.now ≤ text_limit }

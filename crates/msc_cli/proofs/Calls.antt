@@ -1,5 +1,5 @@
 -- What is answered by the words.
-use Rattle.std.proofs.Common.{◌≡◌, ℕ, List, inl, inr, Option, None, refl, sym, subst}
+use Rattle.std.proofs.Common.{◌≡◌, inl, inr, Option, None, refl, sym, subst}
 use Rattle.bk_memory.specs.Shortage.{MemoryIsShort}
 use Rattle.bk_io.specs.Shelf.{Shelf}
 use Rattle.alpha_run.specs.Run.{Traffic}

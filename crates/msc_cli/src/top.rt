@@ -24,8 +24,8 @@ const DEFAULT_OPTIONS: Options = Options {
     allocator: Allocator::Plain,
 };
 
-/// Does what the words ask for, and writes the outcome's line to `err`. `words[0]` is the program's name. The file that is
-/// named is read once, and no other. A failed write to `err` changes no outcome.
+/// Does what the words ask for, and writes the outcome's line to `err`. `words[0]` is the program's name. The file
+/// that is named is read once, and no other. A failed write to `err` changes no outcome.
 ///
 /// The commands are `build`, `run`, `vm`, `exec`, `migrate`, `assemble` and `print`, each with the options that
 /// [`read_words`] takes. Where nothing is asked for, the answer is [`Outcome::Usage`].
@@ -37,8 +37,8 @@ pub fn msc_main<F: Files, I: Source, O: Sink, E: Sink>(
     out: &mut O,
     err: &mut E,
 ) -> Outcome
-    // Which outcomes there are by the words, the file and the input, what was done to the input and the output, and that
-    // the file that is named is read once.
+    // Which outcomes there are by the words, the file and the input, what was done to the input and the output, and
+    // that the file that is named is read once.
     ensures answer { AnswersWords (request_of (map string_bytes words.now)) result (F.told files.old) (F.told files.new)
         (record { left = I.left input.old; made = I.made input.old; taken = O.taken out.old })
         (record { left = I.left input.new; made = I.made input.new; taken = O.taken out.new }) }

@@ -1,4 +1,5 @@
--- The functions over temporaries that are made of those of a unit: they have frames, and these fit the rooms of the unit.
+-- The functions over temporaries that are made of those of a unit: they have frames, and these fit the rooms of the
+-- unit.
 use Rattle.std.specs.Prelude.{◌≡◌, ℕ, ◌+◌, ◌≤◌, All, List, Some, slice_get}
 use Rattle.data_object.specs.declared.TheConstants.{MOST_DATA}
 use Rattle.c_typed_tree.specs.declared.units.TypedUnit.{TypedUnit}
@@ -17,7 +18,8 @@ use Rattle.plain_programs.specs.Allocations.{AreAllocationsOf}
 use Rattle.unit_words.specs.Fit.{ArePreparedOf}
 use Rattle.unit_words.specs.AllocationLaws.{HasFrame}
 
--- the functions that are prepared of those of a unit have frames, where the unit is within the limits of weight and data
+-- the functions that are prepared of those of a unit have frames, where the unit is within the limits of weight and
+-- data
 abbrev pub FunctionsHaveFrames : Type 0
 FunctionsHaveFrames =
     (u : TypedUnit) (program : TempProgram) → ArePreparedOf u program → unit_weight u ≤ 131072 →

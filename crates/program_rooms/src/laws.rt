@@ -2,7 +2,8 @@
 
 ghost use Rattle.program_rooms.specs.Laws.{FunctionsHaveFrames, FramesFitTheirRooms};
 
-/// The functions that are prepared of those of a unit have frames, where the unit is within the limits of weight and data.
+/// The functions that are prepared of those of a unit have frames, where the unit is within the limits of weight and
+/// data.
 pub fn functions_have_frames()
     ensures { FunctionsHaveFrames }
 {}

@@ -1,10 +1,10 @@
 -- What holds of the endings of a unit, said of its behaviours.
 use Rattle.std.proofs.Common.{◌≡◌, ◌≢◌, ℕ, List, refl, sym, ap, ◌∙◌, subst}
 use Rattle.c_mean.specs.Behaviour as c
-use Rattle.c_mean.specs.Behaviour.{CBehaviour, Good}
+use Rattle.c_mean.specs.Behaviour.{CBehaviour}
 use Rattle.alpha_isa.specs.Program.{Program}
 use Rattle.alpha_isa.specs.Behave as alpha
-use Rattle.alpha_isa.specs.Behave.{IsStack, behave_a, output_of}
+use Rattle.alpha_isa.specs.Behave.{behave_a, output_of}
 use Rattle.mem_model.specs.World.{World}
 use Rattle.mem_model.specs.Ending.{Ending, Done, Trap, Undefined, More, ending_output}
 use Rattle.machine_model.specs.Laws.{IsPrefix}
