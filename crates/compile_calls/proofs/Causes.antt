@@ -2,9 +2,9 @@
 use Rattle.std.proofs.Common.{ℕ, ◌≤◌, List, inl, inr, length, Some}
 use Rattle.call_outcomes.specs.FromFile.{IsCause}
 use Rattle.call_outcomes.specs.declared.outcome.Which.TheVariants.{Text, Nesting, Weight, Data}
-use Rattle.front_end.specs.declared.fault.CompileFault.{CompileFault}
-use Rattle.front_end.specs.declared.fault.CompileFault.TheVariants.{Source, Limit, NoMemory}
-use Rattle.front_end.specs.Units.{HasNoUnit}
+use Rattle.compiler.specs.CompileFault.{CompileFault}
+use Rattle.compiler.specs.CompileFault.TheVariants.{Source, Limit, NoMemory}
+use Rattle.compiler.specs.Units.{HasNoUnit}
 use Rattle.compile_calls.specs.Compile.{RefusesText}
 use Rattle.compile_calls.specs.model.Causes.{outcome_of_compile_fault, IsNoFault}
 

@@ -8,8 +8,8 @@ use Rattle.call_outcomes.specs.declared.outcome.Outcome.{Outcome}
 use Rattle.call_outcomes.specs.declared.outcome.Outcome.TheVariants as outcome
 use Rattle.call_outcomes.specs.declared.outcome.Which.TheVariants.{Text}
 use Rattle.compile_options.specs.declared.Allocator.{Allocator}
-use Rattle.front_end.specs.declared.fault.CompileFault.TheVariants.{Source, Limit}
-use Rattle.front_end.specs.Units.{HasNoUnit}
+use Rattle.compiler.specs.CompileFault.TheVariants.{Source, Limit}
+use Rattle.compiler.specs.Units.{HasNoUnit}
 use Rattle.compiler.specs.Same.{Same}
 use Rattle.compiler.specs.declared.built.Built.{Built}
 use Rattle.compiler.specs.Made.{Made}

@@ -2,8 +2,8 @@
 use Rattle.std.specs.Prelude.{◌≢◌}
 use Rattle.call_outcomes.specs.declared.outcome.Outcome.{Outcome}
 use Rattle.call_outcomes.specs.declared.outcome.Outcome.TheVariants as outcome
-use Rattle.front_end.specs.declared.fault.CompileFault.{CompileFault}
-use Rattle.front_end.specs.declared.fault.CompileFault.TheVariants.{Source, Limit, NoMemory}
+use Rattle.compiler.specs.CompileFault.{CompileFault}
+use Rattle.compiler.specs.CompileFault.TheVariants.{Source, Limit, NoMemory}
 
 -- the outcome where nothing is compiled of a text
 abbrev pub outcome_of_compile_fault : CompileFault → Outcome
