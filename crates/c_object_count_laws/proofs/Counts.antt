@@ -20,7 +20,7 @@ use Rattle.c_declarations.specs.declared.walk.UnitSoFar.{UnitSoFar}
 use Rattle.c_declarations.specs.Walk.{with_names, object_at, function_at, add_function}
 use Rattle.c_declarations.specs.Functions.{function_declared}
 use Rattle.c_declarations.specs.Objects.{object_declared}
-use Rattle.c_externals.specs.Externals.{typedef_of}
+use Rattle.c_found_unit_laws.specs.Externals.{typedef_of}
 use Rattle.c_type_laws.proofs.Truth.{no_true}
 use Rattle.c_found_unit_laws.specs.Steps.{IsDeclared, First, Again, declared_as, UnitSteps, Stays, Follows, AddsConstant, SeesMain, DeclaresType, DeclaresFunction, DefinesFunction, DeclaresObject, KeepsCells}
 use Rattle.c_found_unit_laws.proofs.Externals.{added_body, filled_names}

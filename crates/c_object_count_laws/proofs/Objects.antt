@@ -27,7 +27,7 @@ use Rattle.c_declarations.specs.declared.walk.UnitSoFar.{UnitSoFar}
 use Rattle.c_declarations.specs.Walk.{Walk, with_names, declare, is_main, main_checked, object_at, add_object, keep_cells}
 use Rattle.c_declarations.specs.Objects.{no_object, object_type, type_there, array_type, init_judged, init_filled, object_declared, object_of, array_object, value_object}
 use Rattle.c_declarations.specs.Functions.{optional_refused}
-use Rattle.c_externals.specs.Externals.{prototype, object_with, type_of, external}
+use Rattle.c_found_unit_laws.specs.Externals.{prototype, object_with, type_of, external}
 use Rattle.c_found_laws.specs.Laws.{is_sound, Tells, IsFound}
 use Rattle.c_found_laws.proofs.Forms.{tells_none, tells_fault, tells_as, tells_both}
 use Rattle.c_found_unit_laws.specs.Steps.{IsDeclared, First, Again}

@@ -48,7 +48,7 @@ use Rattle.c_declarations.specs.declared.walk.UnitSoFar.{UnitSoFar}
 use Rattle.c_declarations.specs.Walk.{Walk, in_notes, with_notes, main_checked, declare, with_object}
 use Rattle.c_declarations.specs.Objects.{no_object, object_type, array_type, object_declared, init_judged, init_filled, object_of}
 use Rattle.c_declarations.specs.Functions.{function_type, function_declared, function_of, function_with_type, optional_refused}
-use Rattle.c_externals.specs.Externals.{typedef_of, typedef_declared, prototype, object_with, with_main_in, with_definition, type_of_function, definition, function_with, end_judged, function_typed, type_of, external}
+use Rattle.c_found_unit_laws.specs.Externals.{typedef_of, typedef_declared, prototype, object_with, with_main_in, with_definition, type_of_function, definition, function_with, end_judged, function_typed, type_of, external}
 use Rattle.c_type_faults.specs.declared.faults.Kind.TheVariants.{BadType}
 use Rattle.c_type_laws.proofs.Truth.{no_true}
 use Rattle.c_found_unit_laws.specs.Steps.{is_function_type}

@@ -26,8 +26,8 @@ use Rattle.c_tag_bodies.specs.Bodies.{Scope}
 use Rattle.c_unit_names.specs.declared.names.NameDeclaration.{NameDeclaration}
 use Rattle.c_unit_names.specs.declared.names.UnitNames.{UnitNames}
 use Rattle.c_declarations.specs.declared.walk.UnitSoFar.{UnitSoFar}
-use Rattle.c_externals.specs.Externals.{type_of, external, externals}
-use Rattle.c_units.specs.Units.{no_names, builtin_declared, builtins, start, whole_unit}
+use Rattle.c_found_unit_laws.specs.Externals.{type_of, external, externals}
+use Rattle.c_found_unit_laws.specs.Units.{no_names, builtin_declared, builtins, start, whole_unit}
 use Rattle.c_type_laws.proofs.Truth.{no_true}
 use Rattle.c_found_laws.specs.Laws.{Tells}
 use Rattle.c_found_laws.proofs.Forms.{tells_none, tells_as, tells_both}

@@ -3,7 +3,7 @@ use Rattle.std.specs.Prelude.{◌≡◌, length, None}
 use Rattle.c_tree.specs.declared.declarations.TranslationUnit.{TranslationUnit}
 use Rattle.c_definitions.specs.Definitions.{definitions}
 use Rattle.c_type_faults.specs.Faults.{head}
-use Rattle.c_units.specs.Units.{whole_unit, faults_of}
+use Rattle.c_found_unit_laws.specs.Units.{whole_unit, faults_of}
 
 -- so many objects have a number as are defined
 abbrev pub ObjectsAreCounted : Type 0

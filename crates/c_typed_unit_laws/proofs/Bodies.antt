@@ -22,10 +22,10 @@ use Rattle.data_object.specs.declared.DataCell.{DataCell}
 use Rattle.c_judgement_laws.specs.Covers.{HasNames, HaveTexts, IsLawfulContext}
 use Rattle.c_statement_laws.specs.Laws.{IsGiven}
 use Rattle.c_statement_laws.proofs.Functions.{function_typed}
-use Rattle.c_signature_laws.specs.Laws.{HasItsType}
-use Rattle.c_signature_laws.proofs.Functions.{function_has_type}
-use Rattle.c_step_laws.proofs.Statements.{function_steps}
-use Rattle.c_body_laws.specs.Notes.{IsWellDeclared}
+use Rattle.c_unit_object_laws.specs.CSignatureLaws.{HasItsType}
+use Rattle.c_unit_object_laws.proofs.CSignatureLawsFunctions.{function_has_type}
+use Rattle.c_unit_object_laws.proofs.Statements.{function_steps}
+use Rattle.c_unit_object_laws.specs.Notes.{IsWellDeclared}
 use Rattle.c_object_count_laws.specs.Steps.{declared_as}
 use Rattle.c_unit_object_laws.specs.Walks.{IsGivenType, WalkSteps, Stays, Follows, AddsConstant, AddsNotes, DeclaresType, DeclaresFunction, DefinesFunction, DeclaresObject, InitialisesObject}
 use Rattle.c_unit_object_laws.proofs.Goes.{goes_steps, declared, function_plain, steps_go}

@@ -30,16 +30,16 @@ use Rattle.c_declarations.specs.Objects.{object_declared}
 use Rattle.c_type_laws.specs.Typed.{may_be_memory}
 use Rattle.c_type_laws.proofs.Truth.{front, back}
 use Rattle.c_judgement_laws.specs.Covers.{AreInMemory, HasNames, Knows, HaveTexts, IsLawfulContext}
-use Rattle.c_expression_laws.specs.Laws.{HasScope}
-use Rattle.c_note_laws.specs.Laws.{StandsFirst}
-use Rattle.c_step_laws.proofs.Initialisers.{cells_steps}
+use Rattle.c_unit_object_laws.specs.CExpressionLaws.{HasScope}
+use Rattle.c_unit_object_laws.specs.CNoteLaws.{StandsFirst}
+use Rattle.c_unit_object_laws.proofs.Initialisers.{cells_steps}
 use Rattle.c_initial_value_laws.specs.Cells.{AreCells}
 use Rattle.c_initialiser_laws.specs.Laws.{HoldsBytes}
 use Rattle.c_initialiser_laws.proofs.Walks.{object_lawful}
-use Rattle.c_struct_laws.specs.Growth.{Grow}
-use Rattle.c_struct_laws.proofs.Growth.{grow_then}
-use Rattle.c_body_laws.specs.Notes.{of_structs, IsWellDeclared}
-use Rattle.c_body_laws.proofs.Notes.{typedefs_grow, noted_known}
+use Rattle.c_unit_object_laws.specs.Growth.{Grow}
+use Rattle.c_unit_object_laws.proofs.Growth.{grow_then}
+use Rattle.c_unit_object_laws.specs.Notes.{of_structs, IsWellDeclared}
+use Rattle.c_unit_object_laws.proofs.Notes.{typedefs_grow, noted_known}
 use Rattle.c_object_count_laws.specs.Steps.{declared_as}
 use Rattle.c_global_laws.specs.Laws.{IsLawfulIn, AreLawfulIn}
 use Rattle.c_unit_object_laws.specs.Walks.{IsInitialiserIn, IsObjectType, WalkSteps, Stays, Follows, AddsConstant, AddsNotes, DeclaresType, DeclaresFunction, DefinesFunction, DeclaresObject, InitialisesObject}

@@ -30,7 +30,7 @@ use Rattle.c_declarations.specs.declared.walk.UnitSoFar.{UnitSoFar}
 use Rattle.c_type_laws.proofs.Truth.{front, back, also}
 use Rattle.c_judgement_laws.specs.Covers.{IsMeaningIn, IsNameIn, HasNames, HasText, HaveTexts}
 use Rattle.c_judgement_laws.proofs.Structs.{object_depth, object_fits}
-use Rattle.c_body_laws.specs.Notes.{of_structs}
+use Rattle.c_unit_object_laws.specs.Notes.{of_structs}
 use Rattle.c_global_laws.specs.Laws.{HasTextObject, AreTexts}
 use Rattle.c_global_laws.proofs.Places.{all_there}
 use Rattle.c_unit_object_laws.specs.Meanings.{Keeps, IsNamed, AreNamed, HasNamedFunctions}

@@ -17,13 +17,13 @@ use Rattle.c_globals.specs.Globals.{globals}
 use Rattle.c_tag_bodies.specs.Bodies.{Scope}
 use Rattle.c_declarations.specs.declared.walk.UnitFunction.{UnitFunction}
 use Rattle.c_declarations.specs.declared.walk.UnitSoFar.{UnitSoFar}
-use Rattle.c_externals.specs.Externals.{externals}
-use Rattle.c_units.specs.Units.{start, end_notes, whole_unit}
+use Rattle.c_unit_object_laws.specs.Externals.{externals}
+use Rattle.c_unit_object_laws.specs.Units.{start, end_notes, whole_unit}
 use Rattle.c_type_laws.proofs.Truth.{front, back}
-use Rattle.c_note_laws.specs.Steps.{is_sized}
+use Rattle.c_unit_object_laws.specs.CNoteLawsSteps.{is_sized}
 use Rattle.c_judgement_laws.specs.Covers.{HasNames, HaveTexts}
-use Rattle.c_struct_laws.specs.Growth.{Grow}
-use Rattle.c_struct_laws.proofs.Growth.{grow_itself}
+use Rattle.c_unit_object_laws.specs.Growth.{Grow}
+use Rattle.c_unit_object_laws.proofs.Growth.{grow_itself}
 use Rattle.c_unit_object_laws.proofs.CUnitStructLawsUnits.{unit_declared}
 use Rattle.c_object_count_laws.proofs.Units.{objects_counted}
 use Rattle.c_function_name_laws.proofs.Names.{unit_names}

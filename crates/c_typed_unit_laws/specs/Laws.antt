@@ -4,7 +4,7 @@ use Rattle.c_tree.specs.declared.declarations.TranslationUnit.{TranslationUnit}
 use Rattle.c_type_faults.specs.Faults.{head}
 use Rattle.c_typed_tree.specs.declared.units.TypedUnit.{TypedUnit}
 use Rattle.c_typed_tree.specs.Lawful.{IsTypedUnit}
-use Rattle.c_units.specs.Units.{whole_unit, faults_of}
+use Rattle.c_unit_object_laws.specs.Units.{whole_unit, faults_of}
 use Rattle.unit_counts.specs.Counts.{CanBeCounted}
 use Rattle.c_typed_unit_laws.specs.Made.{IsMadeOf, IsSpelled}
 

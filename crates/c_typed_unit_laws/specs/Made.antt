@@ -9,7 +9,7 @@ use Rattle.c_globals.specs.Globals.{globals}
 use Rattle.c_tag_bodies.specs.Bodies.{Scope}
 use Rattle.c_declarations.specs.declared.walk.UnitFunction.{UnitFunction}
 use Rattle.c_declarations.specs.declared.walk.UnitSoFar.{UnitSoFar}
-use Rattle.c_units.specs.Units.{whole_unit}
+use Rattle.c_unit_object_laws.specs.Units.{whole_unit}
 use Rattle.c_function_name_laws.specs.Laws.{passes}
 use Rattle.c_initial_value_laws.specs.Cells.{AreBytes}
 use Rattle.c_initialiser_laws.specs.Laws.{HoldsBytes}

@@ -34,7 +34,7 @@ use Rattle.c_declarations.specs.declared.walk.UnitSoFar.{UnitSoFar}
 use Rattle.c_declarations.specs.Walk.{Walk, with_names, is_main, add_numbered, next_object, object_at, add_object, fill_numbered, function_by, function_at, add_function}
 use Rattle.c_declarations.specs.Functions.{main_seen, function_declared, is_start}
 use Rattle.c_declarations.specs.Objects.{object_declared}
-use Rattle.c_externals.specs.Externals.{typedef_of, externals}
+use Rattle.c_units.specs.Externals.{typedef_of, externals}
 use Rattle.c_units.specs.Undefined.{undefined_noted}
 use Rattle.c_units.specs.Units.{no_names, builtin_declared, builtins, start, main_missed, whole_unit}
 use Rattle.c_type_laws.proofs.Truth.{no_true, front, back, either}

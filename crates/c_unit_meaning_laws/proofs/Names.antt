@@ -21,7 +21,7 @@ use Rattle.c_declarations.specs.declared.walk.UnitSoFar.{UnitSoFar}
 use Rattle.c_declarations.specs.Walk.{Walk, add_numbered, next_object, object_at, add_object, fill_numbered, keep_cells, function_at, add_function, keep_function}
 use Rattle.c_declarations.specs.Functions.{function_declared}
 use Rattle.c_declarations.specs.Objects.{object_declared}
-use Rattle.c_externals.specs.Externals.{typedef_of}
+use Rattle.c_units.specs.Externals.{typedef_of}
 use Rattle.c_type_laws.proofs.Truth.{no_true}
 use Rattle.c_unit_walk_laws.specs.Steps.{IsDeclared, First, Again, declared_as}
 use Rattle.c_unit_walk_laws.specs.Walks.{WalkSteps, Stays, Follows, AddsConstant, AddsNotes, DeclaresType, DeclaresFunction, DefinesFunction, DeclaresObject, InitialisesObject}

@@ -19,7 +19,7 @@ use Rattle.c_unit_names.specs.UnitNames.{are_same, is_same_declared, may_follow,
 use Rattle.c_declarations.specs.Walk.{Walk, with_names, add_object}
 use Rattle.c_declarations.specs.Functions.{main_seen, function_declared}
 use Rattle.c_declarations.specs.Objects.{object_declared}
-use Rattle.c_externals.specs.Externals.{typedef_of}
+use Rattle.c_units.specs.Externals.{typedef_of}
 use Rattle.c_type_laws.proofs.Truth.{no_true, front, back}
 use Rattle.c_type_laws.proofs.Types.{same}
 use Rattle.c_unit_walk_laws.specs.Steps.{IsDeclared, First, Again, declared_as}

@@ -19,7 +19,7 @@ use Rattle.c_unit_names.specs.UnitNames.{object_name, function_name, first_meani
 use Rattle.c_declarations.specs.Walk.{Walk}
 use Rattle.c_declarations.specs.Functions.{function_declared}
 use Rattle.c_declarations.specs.Objects.{object_declared}
-use Rattle.c_externals.specs.Externals.{typedef_of}
+use Rattle.c_unit_meaning_laws.specs.Externals.{typedef_of}
 use Rattle.c_expression_laws.specs.Types.{IsTypedefIn}
 use Rattle.c_note_laws.specs.Steps.{Steps}
 use Rattle.c_note_laws.proofs.Added.{steps_add}

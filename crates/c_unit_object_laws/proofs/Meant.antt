@@ -22,8 +22,8 @@ use Rattle.c_unit_names.specs.UnitNames.{object_name, function_name, first_meani
 use Rattle.c_declarations.specs.Walk.{Walk}
 use Rattle.c_declarations.specs.Functions.{function_declared}
 use Rattle.c_declarations.specs.Objects.{object_declared}
-use Rattle.c_externals.specs.Externals.{typedef_of}
-use Rattle.c_units.specs.Units.{builtins, start}
+use Rattle.c_unit_meaning_laws.specs.Externals.{typedef_of}
+use Rattle.c_unit_meaning_laws.specs.Units.{builtins, start}
 use Rattle.c_struct_laws.specs.Growth.{Grow}
 use Rattle.c_struct_laws.proofs.Growth.{grow_then}
 use Rattle.c_unit_meaning_laws.specs.Steps.{IsDeclared, First, Again, declared_as}

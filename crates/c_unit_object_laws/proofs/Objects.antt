@@ -24,8 +24,8 @@ use Rattle.c_declarations.specs.declared.walk.UnitSoFar.{UnitSoFar}
 use Rattle.c_declarations.specs.Walk.{Walk, with_names, with_objects, next_object, object_by, object_at, add_numbered, add_object, fill_numbered, function_at, add_function}
 use Rattle.c_declarations.specs.Functions.{main_seen, function_declared}
 use Rattle.c_declarations.specs.Objects.{object_declared}
-use Rattle.c_externals.specs.Externals.{typedef_of}
-use Rattle.c_units.specs.Units.{builtins, start}
+use Rattle.c_unit_meaning_laws.specs.Externals.{typedef_of}
+use Rattle.c_unit_meaning_laws.specs.Units.{builtins, start}
 use Rattle.c_unit_meaning_laws.specs.Steps.{IsDeclared, First, Again, declared_as}
 use Rattle.c_unit_meaning_laws.specs.Walks.{WalkSteps, Stays, Follows, AddsConstant, AddsNotes, DeclaresType, DeclaresFunction, DefinesFunction, DeclaresObject, InitialisesObject}
 use Rattle.c_unit_meaning_laws.proofs.Names.{none_some, own_meaning, meant_by}

@@ -1,5 +1,5 @@
 use Rattle.c_type_faults.proofs.First.{some}
-use Rattle.c_units.specs.Units.{whole_unit}
+use Rattle.c_unit_object_laws.specs.Units.{whole_unit}
 use Rattle.c_typed_unit_laws.proofs.Units.{unit_typed}
 use Rattle.c_typed_unit_laws.proofs.laws.made_units_are_lawful.Goals as goal
 
