@@ -14,8 +14,8 @@ use Rattle.call_outcomes.specs.declared.outcome.SourceFault.{SourceFault}
 use Rattle.call_outcomes.specs.declared.outcome.SourceFault.TheVariants.{Lex, Syntax, Typing}
 use Rattle.call_outcomes.specs.declared.outcome.Which.{Which}
 use Rattle.call_outcomes.specs.declared.outcome.Which.TheVariants.{Text, Nesting, Weight, Data}
-use Rattle.compiler.specs.CompileFault.TheVariants.{Source}
-use Rattle.compiler.specs.Units.{IsUnitOf, HasTypingFault, HasNoUnit}
+use Rattle.compile_calls.specs.CompileFault.TheVariants.{Source}
+use Rattle.compile_calls.specs.Units.{IsUnitOf, HasTypingFault, HasNoUnit}
 use Rattle.compile_calls.specs.Compile.{MakesNothing}
 use Rattle.compile_call_laws.specs.Laws.{HasUnit, TextsWithAUnitAreNotRefused}
 

@@ -22,7 +22,7 @@ use Rattle.call_outcomes.specs.FromFile.{IsCause}
 use Rattle.call_outcomes.specs.Output.{PutsBytes}
 use Rattle.compile_options.specs.declared.Allocator.{Allocator}
 use Rattle.compile_options.specs.declared.MachineLimits.{MachineLimits}
-use Rattle.compiler.specs.Units.{IsUnitWithin}
+use Rattle.compile_calls.specs.Units.{IsUnitWithin}
 use Rattle.compile_calls.specs.Same.{Same}
 use Rattle.compile_calls.specs.Compile.{RefusesText}
 use Rattle.compile_calls.specs.Build.{Builds}

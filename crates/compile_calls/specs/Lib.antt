@@ -6,3 +6,5 @@ pub mod Texts
 pub mod Print
 pub mod model
 pub use Rattle.compiler.specs.Same
+pub use Rattle.compiler.specs.Units
+pub use Rattle.compiler.specs.CompileFault
