@@ -1,6 +1,6 @@
 //! Whole calls of the compiler.
 
-use anyhow::{Context, Result, bail};
+use anyhow::{Context, Result, bail, ensure};
 use bk_io::memory::{MemFiles, MemSink, MemSource};
 use bk_io::outside::Source;
 use msc_cli::outcome::{Outcome, exit_code};
@@ -12,6 +12,32 @@ use std::alloc::{AllocError, Global};
 /// How many bytes the output and the line for errors take.
 const ROOM: u64 = 1 << 20;
 
+/// What is due of the output.
+#[derive(Drop)]
+enum DueOutput {
+    /// It is shown, and so due as the row has it.
+    Shown,
+    /// It is a front of these bytes.
+    FrontOf(Vec<u8>),
+    /// It is these bytes.
+    SameAs(Vec<u8>),
+}
+
+impl DueOutput {
+    /// Shows the output, or tests it.
+    fn judge(&self, taken: &[u8], shown: &mut Vec<u8>) -> Result<()> {
+        match self {
+            DueOutput::Shown => push_part(shown, "out", taken)?,
+            DueOutput::FrontOf(bytes) => ensure!(
+                bytes.starts_with(taken),
+                "no front of these bytes"
+            ),
+            DueOutput::SameAs(bytes) => ensure!(bytes.as_slice() == taken, "other bytes"),
+        }
+        Ok(())
+    }
+}
+
 /// The words of a call and its outside.
 #[derive(Drop)]
 struct Call {
@@ -22,6 +48,7 @@ struct Call {
     failing_inputs: Vec<u64>,
     failing_puts: Vec<u64>,
     failing_lines: Vec<u64>,
+    due_output: DueOutput,
 }
 
 impl Call {
@@ -34,6 +61,7 @@ impl Call {
             failing_inputs: Vec::new(alloc),
             failing_puts: Vec::new(alloc),
             failing_lines: Vec::new(alloc),
+            due_output: DueOutput::Shown,
         }
     }
 
@@ -54,13 +82,24 @@ impl Call {
         Ok(())
     }
 
-    /// Adds a file with the image of another one.
-    fn push_image(&mut self, alloc: Global, rest: &str) -> Result<()> {
-        let (name, source) = rest.split_once(' ').context("an image without its text")?;
-        let found = self.files.iter().find(|file| file.0.as_str() == source);
-        let text = &found.context("no such file")?.1;
-        let image = built(alloc, text.as_slice())?;
-        self.files.push((name.to_string(alloc)?, image))?;
+    /// The bytes of a file.
+    fn bytes_of(&self, alloc: Global, name: &str) -> Result<Vec<u8>> {
+        let found = self.files.iter().find(|file| file.0.as_str() == name);
+        let bytes = &found.context("no such file")?.1;
+        Ok(Vec::from_slice(alloc, bytes.as_slice())?)
+    }
+
+    /// Adds a file with what a call writes over the files so far.
+    fn push_written(&mut self, alloc: Global, rest: &str) -> Result<()> {
+        let (name, line) = rest.split_once(' ').context("a file without its call")?;
+        let mut call = Call::new(alloc);
+        call.push_words(alloc, line)?;
+        for file in self.files.iter() {
+            let bytes = Vec::from_slice(alloc, file.1.as_slice())?;
+            call.files.push((file.0.as_str().to_string(alloc)?, bytes))?;
+        }
+        self.files
+            .push((name.to_string(alloc)?, call.written(alloc)?))?;
         Ok(())
     }
 
@@ -79,12 +118,14 @@ impl Call {
         let (name, rest) = line.split_once(' ').unwrap_or((line, ""));
         match name {
             "file" => self.push_file(alloc, rest)?,
-            "image" => self.push_image(alloc, rest)?,
+            "written" => self.push_written(alloc, rest)?,
             "input" => self.input = unescape(alloc, rest)?,
             "failing-reads" => self.failing_reads = numbers(alloc, rest)?,
             "failing-inputs" => self.failing_inputs = numbers(alloc, rest)?,
             "failing-puts" => self.failing_puts = numbers(alloc, rest)?,
             "failing-lines" => self.failing_lines = numbers(alloc, rest)?,
+            "front-of" => self.due_output = DueOutput::FrontOf(unescape(alloc, rest)?),
+            "same-as" => self.due_output = DueOutput::SameAs(self.bytes_of(alloc, rest)?),
             "msc" => self.push_words(alloc, line)?,
             _ => bail!("no part of a call: {name:?}"),
         }
@@ -102,6 +143,7 @@ impl Call {
             failing_inputs,
             failing_puts,
             failing_lines,
+            due_output,
         } = self;
         let mut files = MemFiles::new(files, failing_reads);
         let calls = input.len().saturating_add(failing_inputs.len());
@@ -112,7 +154,7 @@ impl Call {
         let outcome = msc_main(alloc, words, &mut files, &mut input, &mut out, &mut err);
         let status = exit_code(&outcome);
         let mut shown = format!(in alloc; "{outcome:?}, status {status}")?.into_bytes();
-        push_part(&mut shown, "out", out.taken())?;
+        due_output.judge(out.taken(), &mut shown)?;
         push_part(&mut shown, "err", err.taken())?;
         push_part(
             &mut shown,
@@ -122,23 +164,19 @@ impl Call {
         shown.push(b'\n')?;
         Ok(shown)
     }
-}
 
-/// The image that `build` makes of a text.
-fn built(alloc: Global, text: &[u8]) -> Result<Vec<u8>> {
-    let mut call = Call::new(alloc);
-    call.push_words(alloc, "msc build a.c")?;
-    let file = ("a.c".to_string(alloc)?, Vec::from_slice(alloc, text)?);
-    call.files.push(file)?;
-    let Call { words, files, .. } = call;
-    let mut files = MemFiles::new(files, Vec::new(alloc));
-    let mut input = MemSource::new(Vec::new(alloc), Vec::new(alloc));
-    let mut out = MemSink::new(alloc, ROOM, Vec::new(alloc))?;
-    let mut err = MemSink::new(alloc, ROOM, Vec::new(alloc))?;
-    let words = words.as_slice();
-    match msc_main(alloc, words, &mut files, &mut input, &mut out, &mut err) {
-        Outcome::Built => Ok(Vec::from_slice(alloc, out.taken())?),
-        outcome => bail!("no image: {outcome:?}"),
+    /// What a call writes to the output.
+    fn written(self, alloc: Global) -> Result<Vec<u8>> {
+        let Call { words, files, .. } = self;
+        let mut files = MemFiles::new(files, Vec::new(alloc));
+        let mut input = MemSource::new(Vec::new(alloc), Vec::new(alloc));
+        let mut out = MemSink::new(alloc, ROOM, Vec::new(alloc))?;
+        let mut err = MemSink::new(alloc, ROOM, Vec::new(alloc))?;
+        let words = words.as_slice();
+        match msc_main(alloc, words, &mut files, &mut input, &mut out, &mut err) {
+            Outcome::Built | Outcome::Printed => Ok(Vec::from_slice(alloc, out.taken())?),
+            outcome => bail!("nothing is written: {outcome:?}"),
+        }
     }
 }
 

@@ -12,10 +12,19 @@ pub enum Kind {
     Programs,
     Calls,
     Vm,
+    Commands,
+    Runs,
 }
 
 /// The kinds in the order in which they are checked.
-pub const KINDS: [Kind; 4] = [Kind::Outcomes, Kind::Programs, Kind::Calls, Kind::Vm];
+pub const KINDS: [Kind; 6] = [
+    Kind::Outcomes,
+    Kind::Programs,
+    Kind::Calls,
+    Kind::Vm,
+    Kind::Commands,
+    Kind::Runs,
+];
 
 impl Table for Kind {
     fn file(&self) -> &'static str {
@@ -24,6 +33,8 @@ impl Table for Kind {
             Kind::Programs => "programs.rows",
             Kind::Calls => "calls.rows",
             Kind::Vm => "vm.rows",
+            Kind::Commands => "commands.rows",
+            Kind::Runs => "runs.rows",
         }
     }
 
@@ -31,7 +42,7 @@ impl Table for Kind {
         match self {
             Kind::Outcomes => outcomes::answer(alloc, given),
             Kind::Programs => calls::run(alloc, given),
-            Kind::Calls | Kind::Vm => calls::answer(alloc, given),
+            Kind::Calls | Kind::Vm | Kind::Commands | Kind::Runs => calls::answer(alloc, given),
         }
     }
 }
