@@ -2,7 +2,8 @@
 # Measures how long selection (alpha_select) takes for programs of the greatest size, 2^24, and how much memory: those of
 # sums, of constants that take five instructions, of short blocks with branches, of calls with nine arguments, and of
 # copies. Beside each stands a program of a fourth of the size, so that it shows whether the time grows with the size
-# alone.
+# alone, and one of 2^21: the copies of structs of bytes that a C text within the limit of the weight asks for count that
+# much together, 16 for each unit of weight.
 #
 # Run by hand at the top of the repository: sh bench/selection.sh. It works on a copy in a folder of its own under /tmp,
 # where the crates are proved.
@@ -185,7 +186,8 @@ fn main(rt: HostRuntime) -> Result<()> {
     };
     let size = match power.as_str() {
         "24" => 1_u32 << 24,
-        _ => 1_u32 << 22,
+        "22" => 1_u32 << 22,
+        _ => 1_u32 << 21,
     };
     let program = program_with(alloc, kind.as_str(), size)?;
     ensure!(is_small(&program), "the program is too large");
@@ -222,7 +224,7 @@ def peak(words):
 
 
 for kind in ["sums", "constants", "branches", "calls", "copies"]:
-    for power in ["22", "24"]:
+    for power in ["21", "22", "24"]:
         given, whole = peak([kind, power, "make"]), peak([kind, power, "select"])
         print(f"    {given} MiB for the program that is given, {whole} MiB in all")
 CODE
