@@ -1,0 +1,6 @@
+use Rattle.std.proofs.Common.{drop}
+use Rattle.c_initial_value_laws.specs.Cells.{AreBytes}
+use Rattle.c_text_bytes.proofs.texts.read_text.Given as goal
+
+abbrev pub invariant-loop-byte : goal.invariant-loop-byte
+invariant-loop-byte l = AreBytes (drop l.byte-index l.text) → AreBytes l.text

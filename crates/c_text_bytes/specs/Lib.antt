@@ -1,0 +1,1 @@
+pub use Rattle.c_initial_value_laws.specs.Cells
