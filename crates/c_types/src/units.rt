@@ -1,19 +1,22 @@
 //! Whole units.
 
-ghost use Rattle.std.specs.Prelude.{◌≡◌, IsTrue, is_some, IfOk, IfErr, IfSome, Some, None, [], replicate, slice_set};
+ghost use Rattle.std.specs.Prelude.{◌≡◌, IsTrue, is_some, IfOk, IfErr, IfSome, IfNone, Some, None, [], replicate, slice_set};
 ghost use Rattle.c_typed_tree.specs.Lawful.{IsLawful};
+ghost use Rattle.c_types.specs.Spellings.{HasSpellings};
 ghost use Rattle.c_types.specs.Units as spec;
+ghost use Rattle.unit_counts.specs.Counts.{CanBeCounted};
 
 use crate::faults::TypeFault;
 use c_checks::{Notes, append_part};
 use c_declarations::{UnitFunction, UnitSoFar};
 use c_globals::{UnitObject, lay_out_globals};
+use c_text_bytes::read_texts;
 use c_tree::{Seq, TranslationUnit};
 use c_type_faults::{Fault, least};
 use c_typed_tree::{StructDef, TypedFn, TypedUnit};
 use c_units::{UnitState, judge};
 use std::alloc::{AllocError, Global};
-use unit_checks::is_lawful;
+use unit_counts::can_be_counted;
 
 /// A place for each function, without a tree.
 fn no_trees(alloc: Global, count: u32) -> Result<Vec<Option<TypedFn>>, AllocError>
@@ -73,18 +76,19 @@ fn functions_in(
     whole_functions(alloc, places)
 }
 
-/// A unit, if it is lawful.
-fn lawful_unit(alloc: Global, unit: TypedUnit) -> Result<Option<TypedUnit>, AllocError>
-    ensures same { IfOk result (λ r. IfSome r (λ u. unit ≡ u)) }
-    ensures lawful { IfOk result (λ r. IfSome r IsLawful) }
+/// A unit, if it can be counted.
+fn counted_unit(unit: TypedUnit) -> Option<TypedUnit>
+    ensures same { IfSome result (λ u. unit ≡ u) }
+    ensures counted { IfSome result CanBeCounted }
+    ensures more { IfNone result (CanBeCounted unit → ⊥) }
 {
-    if is_lawful(alloc, &unit)? {
-        return Ok(Some(unit));
+    if can_be_counted(&unit) {
+        return Some(unit);
     }
-    Ok(None)
+    None
 }
 
-/// The typed unit, if it is lawful. Each function has its tree.
+/// The typed unit, if it can be counted. Each function has its tree.
 fn whole_unit(
     alloc: Global,
     structs: Seq<StructDef>,
@@ -95,25 +99,22 @@ fn whole_unit(
 ) -> Result<Option<TypedUnit>, AllocError>
     requires trees { IsTrue (is_some (spec.append_functions (Some []) (spec.functions_in count functions))) }
     ensures unit { IfOk result (λ r. IfSome r (λ u. spec.unit_with structs objects texts count functions ≡ Some u)) }
-    ensures lawful { IfOk result (λ r. IfSome r IsLawful) }
+    ensures counted { IfOk result (λ r. IfSome r CanBeCounted) }
 {
     match functions_in(alloc, count, functions)? {
         None => unreachable!(),
         Some(functions) => {
             let globals = lay_out_globals(alloc, structs.as_slice(), objects, texts.as_slice())?;
-            lawful_unit(
-                alloc,
-                TypedUnit {
-                    structs,
-                    globals,
-                    functions,
-                },
-            )
+            Ok(counted_unit(TypedUnit {
+                structs,
+                globals,
+                functions,
+            }))
         }
     }
 }
 
-/// The typed unit. One that is not lawful is refused as want of memory: a unit without a fault is none.
+/// The typed unit. One whose parts 32 bits do not count is refused as want of memory.
 fn make_unit(
     alloc: Global,
     structs: Seq<StructDef>,
@@ -124,7 +125,7 @@ fn make_unit(
 ) -> Result<TypedUnit, AllocError>
     requires trees { IsTrue (is_some (spec.append_functions (Some []) (spec.functions_in count functions))) }
     ensures unit { IfOk result (λ r. spec.unit_with structs objects texts count functions ≡ Some r) }
-    ensures lawful { IfOk result IsLawful }
+    ensures counted { IfOk result CanBeCounted }
 {
     match whole_unit(alloc, structs, objects, texts, count, functions)? {
         None => Err(AllocError),
@@ -132,7 +133,8 @@ fn make_unit(
     }
 }
 
-/// The typed tree of a unit, which is lawful.
+/// The typed tree of a unit, which is lawful where the names of functions are identifiers and literals hold bytes: in the
+/// tree of a text they are.
 ///
 /// # Errors
 ///
@@ -140,7 +142,7 @@ fn make_unit(
 /// the number of its kind; and [`TypeFault::NoMemory`].
 pub fn check(alloc: Global, unit: &TranslationUnit) -> Result<TypedUnit, TypeFault>
     ensures typed { IfOk result (spec.IsTyped unit.now) }
-    ensures lawful { IfOk result IsLawful }
+    ensures lawful { IfOk result (λ typed. HasSpellings unit.now → IsLawful typed) }
     ensures fault { IfErr result (spec.IsFaulty unit.now) }
 {
     let UnitState { so_far, notes, .. } = judge(alloc, unit)?;
@@ -154,6 +156,7 @@ pub fn check(alloc: Global, unit: &TranslationUnit) -> Result<TypedUnit, TypeFau
                 ..
             } = so_far;
             let Notes { structs, texts, .. } = notes;
+            read_texts(texts.as_slice());
             Ok(make_unit(alloc, structs, objects, texts, names.functions, functions)?)
         }
     }

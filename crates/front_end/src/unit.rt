@@ -10,6 +10,7 @@ ghost use Rattle.front_end.specs.model.Causes.{IsBeyond};
 
 use crate::fault::CompileFault;
 use c_parser::parse;
+use c_text_bytes::read_text;
 use c_tree::TranslationUnit;
 use c_typed_tree::TypedUnit;
 use c_types::check;
@@ -31,7 +32,7 @@ pub struct FrontEnd {
 }
 
 /// The tree of a text, and its typed unit, whatever it weighs.
-#[tactic(auto, using(crate::proofs::Units::no_tree, crate::proofs::Units::no_unit))]
+#[tactic(auto, using(crate::proofs::Units::no_tree, crate::proofs::Units::no_unit, crate::proofs::Spellings::is_unit))]
 fn any_unit(alloc: Global, text: &[u8]) -> Result<FrontEnd, CompileFault>
     requires { length text.now ≤ text_limit }
     ensures unit { IfOk result (λ made. IsUnitOf text.now made.unit made.typed) }
@@ -39,6 +40,7 @@ fn any_unit(alloc: Global, text: &[u8]) -> Result<FrontEnd, CompileFault>
 {
     let unit = parse(alloc, text)?;
     let typed = check(alloc, &unit)?;
+    read_text(text);
     Ok(FrontEnd { unit, typed })
 }
 

@@ -1,0 +1,9 @@
+//! The law, the contract of a function that does nothing.
+
+ghost use Rattle.c_types.specs.Laws.{TypedUnitsAreLawful};
+
+/// The typed unit of a unit without faults is lawful, where its names are identifiers, its texts hold bytes, and its
+/// parts can be counted.
+pub fn typed_units_are_lawful()
+    ensures { TypedUnitsAreLawful }
+{}

@@ -1,0 +1,43 @@
+-- In the tree of a text the names of functions are identifiers, and the literals in initialisers hold bytes.
+use Rattle.std.proofs.Common.{ℕ, List, ◌∷◌, IsTrue, Some, refl, All}
+use Rattle.std.proofs.lemmas.List.Elements.{All-head, All-tail, All-weaker}
+use Rattle.c_tree.specs.declared.declarations.FunctionEnd.TheVariants as f
+use Rattle.c_tree.specs.declared.declarations.External.{External}
+use Rattle.c_tree.specs.declared.declarations.External.TheVariants as x
+use Rattle.c_tree.specs.declared.declarations.Init.{Init}
+use Rattle.c_tree.specs.declared.declarations.TranslationUnit.{TranslationUnit}
+use Rattle.c_typed_tree.specs.declared.units.TypedUnit.{TypedUnit}
+use Rattle.c_typed_tree.specs.Lawful.{is_identifier, IsLawful}
+use Rattle.c_parser.specs.Reading.{IsRead}
+use Rattle.c_text_bytes.specs.Cells.{AreBytes}
+use Rattle.c_identifier_laws.specs.Identifiers.{HasIdentifier}
+use Rattle.c_identifier_laws.proofs.Declarations.{read_names}
+use Rattle.c_initialiser_byte_laws.specs.Laws.{HasBytes}
+use Rattle.c_initialiser_byte_laws.proofs.Initialisers.{read_bytes}
+use Rattle.c_types.specs.FunctionNames.{passes}
+use Rattle.c_types.specs.Initialisers.{HoldsBytes}
+use Rattle.c_types.specs.Walks.{IsInitialiserIn, Here, There}
+use Rattle.c_types.specs.Spellings.{HasSpellings}
+use Rattle.c_types.specs.Units.{IsTyped}
+use Rattle.front_end.specs.Units.{IsUnitOf}
+
+named : (e : External) → HasIdentifier e → IsTrue (passes is_identifier e)
+named (x.Typedef d) h = refl
+named (x.Object d storage init) h = refl
+named (x.Function d storage f.Nothing) h = refl
+named (x.Function d storage (f.Init init)) h = refl
+named (x.Function d storage (f.Body list)) h = h.letters
+named (x.Tags storage ty) h = refl
+
+held : {init : Init} {es : List External} → IsInitialiserIn init es → All HasBytes es → HoldsBytes init
+held {init = init} (Here {e = e} {storage = storage} {es = es}) all = All-head HasBytes (x.Object e storage (Some init)) es all
+held (There {e = e} {es = es} there) all = held there (All-tail HasBytes e es all)
+
+spelled : (t : List ℕ) (tree : TranslationUnit) → AreBytes t → IsRead t tree → HasSpellings tree
+spelled t tree bytes read = record {
+  names = All-weaker HasIdentifier (λ e. IsTrue (passes is_identifier e)) named tree.externals (read_names t tree read);
+  initialisers = λ init there. held there (read_bytes t tree bytes read);
+}
+
+pub is_unit : (t : List ℕ) (tree : TranslationUnit) (typed : TypedUnit) → AreBytes t → IsRead t tree → IsTyped tree typed → (HasSpellings tree → IsLawful typed) → IsUnitOf t tree typed
+is_unit t tree typed bytes read is lawful = record { read = read; typed = is; lawful = lawful (spelled t tree bytes read) }

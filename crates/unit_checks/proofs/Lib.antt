@@ -1,3 +1,0 @@
-mod Rounding
-mod Greatest
-mod Lawful
