@@ -212,11 +212,11 @@ pub fn answer(alloc: Global, given: &str) -> Result<Vec<u8>> {
     call.answer(alloc)
 }
 
-/// What comes for `run` of a text, with no input.
+/// What comes for `run` of a text, with no input, on a stack that holds the room of each `main` of the rows.
 pub fn run(alloc: Global, given: &str) -> Result<Vec<u8>> {
     let mut call = Call::new(alloc);
     let file = ("a.c".to_string(alloc)?, unescape(alloc, given)?);
     call.files.push(file)?;
-    call.push_words(alloc, "msc run a.c")?;
+    call.push_words(alloc, "msc run a.c --stack 65536")?;
     call.answer(alloc)
 }
