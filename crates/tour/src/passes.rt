@@ -1,0 +1,84 @@
+//! What the page shows and says of each pass.
+
+/// A section of the page: what it shows is what a call of the compiler puts, or a part of that.
+#[derive(Clone, Copy)]
+pub struct Section {
+    pub title: &'static str,
+    pub call: &'static str,
+    pub said: &'static str,
+}
+
+/// What stands before the program.
+pub const OPENING: &str = "# A tour of the passes\n\n\
+    A small program on its way from C to machine words, as each pass of the compiler shows it. Follow the \
+    statement `x = 3 * x + 1;`. The program `tour` of this repository writes this page, out of what the calls in \
+    the titles write, and the gate compares it.";
+
+pub const TREE: Section = Section {
+    title: "The tree",
+    call: "msc print tour.c --pass tree",
+    said: "The parser reads the text by the grammar of C99 6.5 to 6.9. Each line is a node, and what stands \
+        under it, one level further in, are its parts. The statement is the `expression` in the `while`: an \
+        assignment to `x` of a sum whose left operand is a product.",
+};
+
+pub const VM: Section = Section {
+    title: "The code over virtual registers",
+    call: "msc print tour.c --pass vm",
+    said: "Lowering makes blocks of simple instructions, over as many registers `vK` as it takes, and \
+        numbers the instructions of the whole program. The variable `x` is `v0`. The statement is in block `B1`: \
+        each node of its tree has become one instruction, operands first: the number 3, `x`, the product, the number \
+        1, the sum, and the assignment. `mrk` in front counts a turn of the loop. The condition stands behind the \
+        body, in `B2`, so that each further turn takes one branch. `B4` is the end of `main` behind the `return`, \
+        where C99 5.1.2.2.3 returns 0.",
+};
+
+pub const GRAPH: Section = Section {
+    title: "The flow graph",
+    call: "msc print tour.c --pass graph",
+    said: "Each block with those that may come next. `B1` and `B2` are the loop, and nothing comes to `B4`.",
+};
+
+pub const SELECT: Section = Section {
+    title: "Instructions of the processor over temporaries",
+    call: "msc print tour.c --pass select",
+    said: "Selection puts instructions of the Alpha in place of those, over as many temporaries `tK` as it \
+        takes, beside the registers `$K` which calls and services fix; `v0` is `t4`, `v1` is `t5`, and `v6` is \
+        `t10`. Of this statement each instruction has become one: `lda` from `$31`, which always reads 0, makes a \
+        small number, `bis` with `$31` copies, and `mull/v` and `addl/v` trap where the result is no `int`. The \
+        block that nothing comes to is gone. `docs/selection.md` says what each instruction becomes.",
+};
+
+pub const ALLOC: Section = Section {
+    title: "Temporaries in slots",
+    call: "msc print tour.c --pass alloc",
+    said: "Each temporary lives in a slot of the frame. Before an instruction, what it reads is loaded into \
+        registers, from `$1` on. What it writes gets the next register, and is stored before the next instruction, \
+        or behind the last one of the block on the edge to the next block. These are the lines of block `B1` and of \
+        the edge to `B2`.",
+};
+
+pub const ASM: Section = Section {
+    title: "The assembly, and its words in the image",
+    call: "msc print tour.c --pass asm",
+    said: "Slots are now offsets from `$30`, where the frame begins: `t4` is at 96, `t5` at 104 and `t10` at \
+        144. Every block has a label. In front stands the code that begins a run, and behind the functions stand the \
+        division routines, which are left out here. Beside each instruction stand its address and its word, both \
+        hexadecimal. The words are those of the image, which `msc build tour.c` writes; `mrk` is none, since the \
+        machine counts no turns.",
+};
+
+pub const BESIDE: Section = Section {
+    title: "The statement, side by side",
+    call: "msc build tour.c",
+    said: "The block `B1` in each form, from the left to the right: over virtual registers, over \
+        temporaries, over slots, in assembly, and as words. Between the instructions stand the loads and stores of \
+        slots, and the last one is on the edge to `B2`.",
+};
+
+/// The block of the statement, the edge behind it, and its label in the assembly.
+pub const BLOCK: &str = "B1";
+
+pub const EDGE: &str = "edge B1 B2";
+
+pub const LABEL: &str = "L258:";
