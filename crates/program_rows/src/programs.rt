@@ -3,9 +3,7 @@
 use anyhow::{Result, bail, ensure};
 use bk_io::memory::{MemSink, MemSource};
 use c_lexer::TEXT_LIMIT;
-use c_parser::parse;
-use c_types::check;
-use c_weight::weight;
+use front_end::read_unit;
 use lowering::lower;
 use row_sheets::escape::unescape;
 use row_sheets::number::number;
@@ -48,15 +46,9 @@ fn parts_of(alloc: Global, given: &str) -> Result<Row> {
 /// The program of a text.
 fn lowered(alloc: Global, text: &[u8]) -> Result<VmProgram> {
     ensure!(text.len() <= TEXT_LIMIT, "a text that is too long");
-    match parse(alloc, text) {
-        Err(_fault) => bail!("a text that has no tree"),
-        Ok(unit) => match check(alloc, &unit) {
-            Err(fault) => bail!("a unit that is not well typed: {fault:?}"),
-            Ok(typed) => {
-                ensure!(weight(&typed) <= 131_072, "a unit that is too heavy");
-                Ok(lower(alloc, &typed)?)
-            }
-        },
+    match read_unit(alloc, text) {
+        Err(fault) => bail!("a text that has no unit within the limits: {fault:?}"),
+        Ok(made) => Ok(lower(alloc, &made.typed)?),
     }
 }
 
