@@ -29,7 +29,7 @@ PY
     tail -n 1 "$work/took"
 }
 
-[ $# -gt 0 ] || set -- long one labels deep locals
+[ $# -gt 0 ] || set -- long one labels deep high locals
 for kind; do
     python3 "$top/bench/made_text.py" "$kind" "$work/text.c"
     echo "$kind: $(wc -c < "$work/text.c") bytes"

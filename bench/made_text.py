@@ -4,13 +4,14 @@ usage: bench/made_text.py KIND FILE
 
 The kinds: `ordinary` (declarations and functions with names, numbers, literals, comments, linemarkers and marks),
 `operators` (one chain of operators), `commas` (one list of commas), `statements` (one block of statements),
-`brackets` (an expression in 250 brackets, again and again), `typedefs` (names of types, and an object of each), and units
-without faults for the typing: `unit` (the ordinary functions and a main), `names` (100,000 locals of one scope, each used),
-`objects` (100,000 objects of file scope, each used), `scopes` (100,000 blocks with a local each), `members` (a struct of
-100,000 members, each used), `items` (an initialiser of a million items) and `cases` (a switch of 100,000 labels). Units
-within the limit of the weight: `generated` (263 KB, 2,000 small functions, each called four times), `long` (4 MiB of
-ordinary C, most of it comments), `one` (one function with most of the weight that there may be), `labels` (a switch of
-20,000 labels), `deep` (expressions in 126 brackets, as deep as there may be) and `locals` (60,000 locals).
+`brackets` (an expression in 250 brackets, again and again), `typedefs` (names of types, and an object of each), and
+units without faults for the typing: `unit` (the ordinary functions and a main), `names` (100,000 locals of one scope,
+each used), `objects` (100,000 objects of file scope, each used), `scopes` (100,000 blocks with a local each),
+`members` (a struct of 100,000 members, each used), `items` (an initialiser of a million items) and `cases` (a switch
+of 100,000 labels). Units within the limit of the weight: `generated` (263 KB, 2,000 small functions, each called four
+times), `long` (4 MiB of ordinary C, most of it comments), `one` (one function with all the weight that there may be),
+`labels` (a switch of 20,000 labels), `deep` (expressions in 126 brackets, as deep as a text may nest), `high`
+(expressions of 2,021 nodes one under the other, of which a tree has 2,048 at most) and `locals` (60,000 locals).
 """
 import itertools
 import sys
@@ -101,7 +102,7 @@ KINDS = {
     "members": members,
     "items": lambda: ("int a[] = {", itertools.repeat("1,", 1000000), "};int main(void) {return a[1];}\n"),
     "long": long,
-    "one": lambda: ("int main(void) { int a; a = 0;", itertools.repeat("a=a+1;", 16000), "return a; }\n"),
+    "one": lambda: ("int main(void) { int a; a = 0;;;;;", itertools.repeat("a=a+1;", 21843), "return a; }\n"),
     "labels": lambda: (
         "int main(void) {switch(1) {",
         ("case %d:break;" % label for label in range(20000)),
@@ -110,6 +111,11 @@ KINDS = {
     "deep": lambda: (
         "int main(void) { int a; a = 1;",
         itertools.repeat("a=" + "(1+" * 126 + "a" + ")" * 126 + ";", 160),
+        "return a; }\n",
+    ),
+    "high": lambda: (
+        "int main(void) { int a; a = 1;",
+        itertools.repeat("a=" + "a?a," * 1010 + "a" + ":a" * 1010 + ";", 25),
         "return a; }\n",
     ),
     "locals": lambda: ("int main(void) {", ("int a%d;" % local for local in range(60000)), "return 0; }\n"),

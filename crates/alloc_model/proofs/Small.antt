@@ -9,7 +9,7 @@ use Rattle.temp_ir.specs.Fixed.{fixed_reads_of}
 use Rattle.alloc_model.specs.Effect.{Holder, Temp, Fixed, Incoming, Outgoing}
 use Rattle.alloc_model.specs.Temporaries.{flows_out}
 use Rattle.alloc_model.specs.Places.{Place, Reg, registers_at, transfers_at}
-use Rattle.alloc_model.specs.Faithful.{Includes, MovesAsk, ReadsAsk, FixedAsk, IsGiven, IsStanding, IsTransfer, KeepsEdge, before, move_all, at_top, at_entry, at_bottom, Faithful, HasLists}
+use Rattle.alloc_model.specs.Faithful.{Includes, MovesAsk, ReadsAsk, FixedAsk, IsGivenRegister, IsStanding, IsTransfer, KeepsEdge, before, move_all, at_top, at_entry, at_bottom, Faithful, HasLists}
 use Rattle.alloc_model.specs.Examples.{sum, sum_in_registers}
 
 -- what is said of each instruction of the block
@@ -40,7 +40,7 @@ no_standing : All (All (IsStanding 4)) ([] ∷ [])
 no_standing zero d w k e v = absurd (omega (arith, v))
 no_standing (suc j) d w k e v = absurd (omega (arith, w))
 
-no_transfer : All (All (IsTransfer 4 IsGiven)) ([] ∷ [] ∷ [] ∷ [] ∷ [] ∷ [])
+no_transfer : All (All (IsTransfer 4 IsGivenRegister)) ([] ∷ [] ∷ [] ∷ [] ∷ [] ∷ [])
 no_transfer zero d w k e v = absurd (omega (arith, v))
 no_transfer (suc zero) d w k e v = absurd (omega (arith, v))
 no_transfer (suc (suc zero)) d w k e v = absurd (omega (arith, v))
@@ -48,26 +48,26 @@ no_transfer (suc (suc (suc zero))) d w k e v = absurd (omega (arith, v))
 no_transfer (suc (suc (suc (suc zero)))) d w k e v = absurd (omega (arith, v))
 no_transfer (suc (suc (suc (suc (suc j))))) d w k e v = absurd (omega (arith, w))
 
-one_given : (r : ℕ) → IsGiven r → All IsGiven (r ∷ [])
+one_given : (r : ℕ) → IsGivenRegister r → All IsGivenRegister (r ∷ [])
 one_given r g zero d w = g
 one_given r g (suc k) d w = absurd (omega (arith, w))
 
-given_1 : IsGiven 1
+given_1 : IsGivenRegister 1
 given_1 = (0, omega arith, refl)
 
-given_2 : IsGiven 2
+given_2 : IsGivenRegister 2
 given_2 = (1, omega arith, refl)
 
-given_3 : IsGiven 3
+given_3 : IsGivenRegister 3
 given_3 = (2, omega arith, refl)
 
-three_given : All IsGiven (1 ∷ 2 ∷ 3 ∷ [])
+three_given : All IsGivenRegister (1 ∷ 2 ∷ 3 ∷ [])
 three_given zero d w = given_1
 three_given (suc zero) d w = given_2
 three_given (suc (suc zero)) d w = given_3
 three_given (suc (suc (suc k))) d w = absurd (omega (arith, w))
 
-all_given : All (All IsGiven) ((1 ∷ []) ∷ (2 ∷ []) ∷ (1 ∷ 2 ∷ 3 ∷ []) ∷ (3 ∷ []) ∷ [] ∷ [])
+all_given : All (All IsGivenRegister) ((1 ∷ []) ∷ (2 ∷ []) ∷ (1 ∷ 2 ∷ 3 ∷ []) ∷ (3 ∷ []) ∷ [] ∷ [])
 all_given zero d w = one_given 1 given_1
 all_given (suc zero) d w = one_given 2 given_2
 all_given (suc (suc zero)) d w = three_given

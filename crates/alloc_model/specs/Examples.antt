@@ -9,7 +9,7 @@ use Rattle.temp_ir.specs.declared.operation.AddressOp.TheVariants.{Lda, Ldah}
 use Rattle.temp_ir.specs.declared.operation.LoadOp.TheVariants.{Ldbu, Ldl, Ldq}
 use Rattle.temp_ir.specs.declared.operation.StoreOp.TheVariants.{Stl, Stq}
 use Rattle.temp_ir.specs.declared.operation.TempBranchOp.TheVariants.{Beq, Bne}
-use Rattle.temp_ir.specs.declared.operation.Operation.TheVariants.{Addl, Addq, AddqV, Subq, Cmpeq, Bis, Mulq}
+use Rattle.temp_ir.specs.declared.operation.Operation.TheVariants.{Addl, Addq, AddqV, Subq, Cmpeq, Bis, Sll, Mulq}
 use Rattle.temp_ir.specs.declared.operation.ExtendOp.TheVariants.{Sextb}
 use Rattle.temp_ir.specs.declared.operation.DivisionRoutine.TheVariants.{Divq, Reml}
 use Rattle.temp_ir.specs.declared.operation.Service as service
@@ -83,8 +83,8 @@ pub record TemporaryExamplesRun : Type 0 where
   pub constants : run_block (Address Ldah 0 s.Zero (pos 1) ∷ Address Lda 1 (s.Temp 0) (negsuc 65528) ∷ return 1) [] 0
       ≡ ShowsDone 7 []
   -- a sum that traps, and one that wraps
-  pub traps : run_block (Address Lda 0 s.Zero (negsuc 0) ∷ Operate AddqV 1 (s.Temp 0) (o.Literal 1)
-      ∷ Divide Divq ∷ []) [] 0 ≡ ShowsUndefined 2 []
+  pub traps : run_block (set 0 1 ∷ Operate Sll 0 (s.Temp 0) (o.Literal 63) ∷ Operate AddqV 1 (s.Temp 0) (o.Temp 0)
+      ∷ return 1) [] 0 ≡ ShowsTrap 3 []
   pub wraps : run_block (Address Lda 0 s.Zero (negsuc 0) ∷ Operate Addl 1 (s.Temp 0) (o.Literal 5) ∷ return 1) [] 0
       ≡ ShowsDone 4 []
   -- a byte is put, which is a turn
@@ -99,11 +99,13 @@ pub record TemporaryExamplesRun : Type 0 where
       ≡ ShowsUndefined 1 []
   pub ends : run_block (SetFixed Value (pos 1) ∷ SetFixed Argument0 (pos 300) ∷ Serve End ∷ []) [] 1 ≡ ShowsDone 44 []
   pub aborts : run_block (SetFixed Argument0 (pos 2) ∷ Serve service.TheVariants.Trap ∷ []) [] 1 ≡ ShowsTrap 2 []
-  -- a quotient and a remainder, a division by zero, and a word that a routine of 32 bits does not take
+  -- a quotient and a remainder, a division by zero, one whose operands were not written, and a word that a routine of 32
+  -- bits does not take
   pub divides : run_block (SetFixed Dividend (pos 17) ∷ SetFixed Divisor (pos 5) ∷ Divide Divq ∷ FromFixed 0 Answer
       ∷ return 0) [] 0 ≡ ShowsDone 3 []
   pub divides_by_zero : run_block (SetFixed Dividend (pos 17) ∷ SetFixed Divisor (pos 0) ∷ Divide Reml ∷ []) [] 0
       ≡ ShowsTrap 1 []
+  pub divides_nothing : run_block (Divide Divq ∷ []) [] 0 ≡ ShowsUndefined 0 []
   pub not_held : run_block (Address Ldah 0 s.Zero (pos 32767) ∷ Operate Addq 1 (s.Temp 0) (o.Temp 0)
       ∷ ToFixed Dividend 1 ∷ SetFixed Divisor (pos 5) ∷ Divide Reml ∷ []) [] 0 ≡ ShowsUndefined 4 []
   -- a branch that is taken, one that is not, and a loop for ever, which takes a turn each time

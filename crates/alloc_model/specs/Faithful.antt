@@ -119,12 +119,12 @@ abbrev pub given_registers : List ℕ
 given_registers =
     range_with_len 1 8 ++ range_with_len 22 4 ++ 0 ∷ range_with_len 16 6 ++ range_with_len 9 7
 
-abbrev pub IsGiven : ℕ → Type 0
-IsGiven r = Contains given_registers r
+abbrev pub IsGivenRegister : ℕ → Type 0
+IsGivenRegister r = Contains given_registers r
 
 -- a place in a map is a given register or the temporary's own slot
 abbrev pub IsOwnPlace : (t : ℕ) → Loc → Type 0
-IsOwnPlace t (loc.Reg r) = IsGiven r
+IsOwnPlace t (loc.Reg r) = IsGivenRegister r
 IsOwnPlace t (loc.Slot k) = k ≡ t
 
 abbrev pub IsStanding : (temps : ℕ) → TempPlace → Type 0
@@ -163,9 +163,9 @@ pub record HasLists (a : Plan) : Type 0 where
       length (registers_at a block at) ≡ length (reads_of x) + length (writes_of x)
   pub edges : map (λ e. (e.from, e.to)) a.edges ≡ edges_from 0 a.function.blocks
   pub standing : All (All (IsStanding a.temps)) a.top × All (All (IsStanding a.temps)) a.bottom
-  pub transfers : All (All (IsTransfer a.temps IsGiven)) a.at
+  pub transfers : All (All (IsTransfer a.temps IsGivenRegister)) a.at
   pub edge_transfers : All (λ e. All (IsTransfer a.temps IsGivenOrScratch) e.code) a.edges
-  pub given : All (All IsGiven) a.regs
+  pub given : All (All IsGivenRegister) a.regs
 
 -- ---- the definition
 

@@ -27,7 +27,7 @@ use temp_ir::insn::TempInsn;
 
 /// What is held behind instructions, and the number of the one that follows.
 #[derive(Clone, Copy)]
-struct Passed {
+struct JournalPlace {
     held: Held,
     next: u32,
 }
@@ -38,8 +38,8 @@ fn put_visits(
     out: &mut Seq<Event>,
     ends: &[u32],
     block: &Block<TempInsn>,
-    passed: Passed,
-) -> Result<Passed, AllocError>
+    passed: JournalPlace,
+) -> Result<JournalPlace, AllocError>
     requires few { passed.next + length block.now < 2 ^ 30 }
     requires few_ends { length ends.now < 2 ^ 32 }
     requires inside { All (UsesRegisters reads_of writes_of (length ends.now)) block.now }
@@ -59,7 +59,7 @@ fn put_visits(
         next += 1;
         previous = Some(*insn);
     }
-    Ok(Passed { held, next })
+    Ok(JournalPlace { held, next })
 }
 
 /// Puts the events of the visits of all blocks, where these temporaries are live at their tops.
@@ -77,12 +77,12 @@ fn put_blocks(
     ensures { OnOk result
         (out.new ≡ out.old ++ journal_in_slots ends.now tops.now 0 0 blocks.now model.nothing_held) }
 {
-    let mut passed = Passed {
+    let mut passed = JournalPlace {
         held: nothing_held(),
         next: 0,
     };
     for (number, block) in blocks.iter().enumerate() {
-        let entered = Passed {
+        let entered = JournalPlace {
             held: at_top(passed.held, &tops[number]),
             next: passed.next,
         };

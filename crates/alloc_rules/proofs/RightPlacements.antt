@@ -16,7 +16,7 @@ use Rattle.alloc_model.specs.Temporaries.{flows_out}
 use Rattle.alloc_model.specs.Places.{Place, Reg, Slot, registers_at, transfers_at}
 use Rattle.alloc_model.specs.Needs.{is_live_at, place_at_top, IsNeeded}
 use Rattle.alloc_model.specs.Needs.IsNeeded.{Relied, Handed}
-use Rattle.alloc_model.specs.Faithful.{Held, Includes, MovesAsk, ReadsAsk, FixedAsk, IsGiven, IsGivenOrScratch, IsStanding, IsTransfer, KeepsEdge, before, move_all, at_top, at_entry, at_bottom, Faithful, HasLists}
+use Rattle.alloc_model.specs.Faithful.{Held, Includes, MovesAsk, ReadsAsk, FixedAsk, IsGivenRegister, IsGivenOrScratch, IsStanding, IsTransfer, KeepsEdge, before, move_all, at_top, at_entry, at_bottom, Faithful, HasLists}
 use Rattle.alloc_model.specs.Examples.{set}
 use Rattle.alloc_rules.specs.RightPlacements.{looping, kept_over_call}
 
@@ -40,7 +40,7 @@ module _ (P : (block at : ℕ) → TempInsn → Type 0) (makes : P 0 0 (set 0 5)
 
 -- ---- the lists
 
-given_9 : IsGiven 9
+given_9 : IsGivenRegister 9
 given_9 = (19, omega arith, refl)
 
 scratch_or_9 : IsGivenOrScratch 9
@@ -56,11 +56,11 @@ none_standing (suc zero) d w k e v = absurd (omega (arith, v))
 none_standing (suc (suc zero)) d w k e v = absurd (omega (arith, v))
 none_standing (suc (suc (suc j))) d w k e v = absurd (omega (arith, w))
 
-one_load : All (IsTransfer 4 IsGiven) (x.Load 0 9 ∷ [])
-one_load zero d w = (omega arith, one IsGiven given_9)
+one_load : All (IsTransfer 4 IsGivenRegister) (x.Load 0 9 ∷ [])
+one_load zero d w = (omega arith, one IsGivenRegister given_9)
 one_load (suc k) d w = absurd (omega (arith, w))
 
-loads : All (All (IsTransfer 4 IsGiven)) ([] ∷ (x.Load 0 9 ∷ []) ∷ [] ∷ [] ∷ (x.Load 0 9 ∷ []) ∷ [] ∷ [])
+loads : All (All (IsTransfer 4 IsGivenRegister)) ([] ∷ (x.Load 0 9 ∷ []) ∷ [] ∷ [] ∷ (x.Load 0 9 ∷ []) ∷ [] ∷ [])
 loads zero d w = λ k e v. absurd (omega (arith, v))
 loads (suc zero) d w = one_load
 loads (suc (suc zero)) d w = λ k e v. absurd (omega (arith, v))
@@ -79,12 +79,12 @@ edge_codes (suc zero) d w = λ k e v. absurd (omega (arith, v))
 edge_codes (suc (suc zero)) d w = λ k e v. absurd (omega (arith, v))
 edge_codes (suc (suc (suc j))) d w = absurd (omega (arith, w))
 
-registers : All (All IsGiven) ((9 ∷ []) ∷ [] ∷ [] ∷ (9 ∷ []) ∷ (9 ∷ []) ∷ [] ∷ [])
-registers zero d w = one IsGiven given_9
+registers : All (All IsGivenRegister) ((9 ∷ []) ∷ [] ∷ [] ∷ (9 ∷ []) ∷ (9 ∷ []) ∷ [] ∷ [])
+registers zero d w = one IsGivenRegister given_9
 registers (suc zero) d w = λ k e v. absurd (omega (arith, v))
 registers (suc (suc zero)) d w = λ k e v. absurd (omega (arith, v))
-registers (suc (suc (suc zero))) d w = one IsGiven given_9
-registers (suc (suc (suc (suc zero)))) d w = one IsGiven given_9
+registers (suc (suc (suc zero))) d w = one IsGivenRegister given_9
+registers (suc (suc (suc (suc zero)))) d w = one IsGivenRegister given_9
 registers (suc (suc (suc (suc (suc zero))))) d w = λ k e v. absurd (omega (arith, v))
 registers (suc (suc (suc (suc (suc (suc j)))))) d w = absurd (omega (arith, w))
 

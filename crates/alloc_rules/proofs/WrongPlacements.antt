@@ -11,7 +11,7 @@ use Rattle.alloc_model.specs.declared.allocation.Transfer.TheVariants as x
 use Rattle.alloc_model.specs.Effect.{Temp, Fixed}
 use Rattle.alloc_model.specs.Places.{Reg, Slot}
 use Rattle.alloc_model.specs.Needs.{is_live_at}
-use Rattle.alloc_model.specs.Faithful.{given_registers, IsGiven}
+use Rattle.alloc_model.specs.Faithful.{given_registers, IsGivenRegister}
 use Rattle.alloc_model.specs.Examples.{set, edge}
 use Rattle.alloc_rules.specs.WrongPlacements as wrong
 use Rattle.alloc_rules.specs.WrongPlacements.{WrongPlacements}
@@ -43,13 +43,13 @@ is_there (q ∷ rs) r (suc k, within, is) = there_behind (q == r) (has_number rs
 differ : false ≡ true → ⊥
 differ e = cc
 
-not_given : (r : ℕ) → has_number given_registers r ≡ false → IsGiven r → ⊥
+not_given : (r : ℕ) → has_number given_registers r ≡ false → IsGivenRegister r → ⊥
 not_given r none given = differ (sym none ∙ is_there given_registers r given)
 
-pub not_scratch : IsGiven 28 → ⊥
+pub not_scratch : IsGivenRegister 28 → ⊥
 not_scratch = not_given 28 refl
 
-not_stack : IsGiven 30 → ⊥
+not_stack : IsGivenRegister 30 → ⊥
 not_stack = not_given 30 refl
 
 -- ---- what stands where behind the first instruction, which writes temporary 0 into register 1

@@ -1,6 +1,7 @@
 -- Each of the further wrong placements lacks what its clause asks for.
 use Rattle.std.proofs.Common.{◌≡◌, ◌≢◌, ℕ, ◌<◌, List, [], ◌∷◌, refl, ap, inl, inr, arith}
 use Rattle.std.specs.Prelude.{◌⊎◌, slice_index_or}
+use Rattle.suifvm_ir.specs.Live.{IsRead}
 use Rattle.temp_ir.specs.declared.operation.Operation.TheVariants.{Addq}
 use Rattle.temp_ir.specs.declared.insn.FirstOperand.TheVariants as s
 use Rattle.temp_ir.specs.declared.insn.SecondOperand.TheVariants as o
@@ -10,7 +11,7 @@ use Rattle.alloc_model.specs.declared.allocation.Loc.TheVariants as loc
 use Rattle.alloc_model.specs.declared.allocation.Transfer.TheVariants as x
 use Rattle.alloc_model.specs.Effect.{Holder, Temp}
 use Rattle.alloc_model.specs.Places.{Place, Reg, Slot}
-use Rattle.alloc_model.specs.Needs.{IsNeeded}
+use Rattle.alloc_model.specs.Needs.{is_live_at, IsNeeded}
 use Rattle.alloc_model.specs.Needs.UsesSlot.{IsLoaded}
 use Rattle.alloc_model.specs.Needs.IsNeeded.{Relied}
 use Rattle.alloc_model.specs.Examples.{set, edge}
@@ -30,6 +31,9 @@ apart = temps_apart 0 1 (λ e. omega (arith, e))
 needed : IsNeeded wrong.slot_in_need 0 1
 needed = Relied (record { register = 1; stands = refl; used = IsLoaded 2 [] })
 
+live_at_top : is_live_at wrong.other_register_at_top 0 1 0
+live_at_top = IsRead (ToFixed Value 0) refl (0, omega arith, refl)
+
 pub none_replays : WrongReplays
 none_replays = record {
   temporaries_at_top = λ f. let e : 4 < 4 = (f.lists.standing.0 0 [] (omega arith) 0 (at_place 4 (loc.Slot 4)) (omega arith)).0 in omega (arith, e);
@@ -43,4 +47,5 @@ none_replays = record {
   writes_take = λ f. taken _ (Temp 1) (Temp 0) (Reg 1) apart (f.temps_read 0 2 (Operate Addq 2 (s.Temp 0) (o.Temp 1)) refl).0;
   writes_end_slots = λ f. lost_slot _ (f.moves 0 2 (ToFixed Value 0) refl).0;
   needs = λ f. lost_slot _ ((f.follows 0 (set 0 5 ∷ []) refl refl).leads.each (Temp 0) (Slot 0) (inr (needed, refl)));
+  registers_lead = λ f. lost_register _ ((f.follows 0 (set 0 5 ∷ []) refl refl).leads.each (Temp 0) (Reg 2) (inl (live_at_top, refl)));
 }

@@ -78,6 +78,12 @@ slot_in_need =
     with_maps ([] ∷ (at_place 0 (loc.Reg 1) ∷ []) ∷ []) ([] ∷ [] ∷ [])
     (plan two_blocks ([] ∷ (x.Load 0 2 ∷ []) ∷ [] ∷ []) ((1 ∷ []) ∷ (2 ∷ []) ∷ [] ∷ []) (edge 0 1 [] ∷ []))
 
+-- a block has a temporary in a register at its top, and the edge into it leaves the temporary in another one
+abbrev pub other_register_at_top : Plan
+other_register_at_top =
+    with_maps ([] ∷ (at_place 0 (loc.Reg 2) ∷ []) ∷ []) ([] ∷ [] ∷ [])
+    (plan two_blocks none_of_three ((1 ∷ []) ∷ (2 ∷ []) ∷ [] ∷ []) (edge 0 1 [] ∷ []))
+
 -- none of them is faithful
 pub record WrongReplays : Type 0 where
   pub temporaries_at_top : ¬ Faithful other_temporary_at_top
@@ -91,3 +97,4 @@ pub record WrongReplays : Type 0 where
   pub writes_take : ¬ Faithful taken_by_write
   pub writes_end_slots : ¬ Faithful stale_slot
   pub needs : ¬ Faithful slot_in_need
+  pub registers_lead : ¬ Faithful other_register_at_top

@@ -86,8 +86,8 @@ module _ (fs : List TempFn) (globals : List DataObject) (frames : All HasFrame f
 
   -- ---- one function
 
-  one-fits : (f : TempFn) (a : Allocation) → HasFrame f → IsLawfulTempFn fs globals f → IsAllocationOf f a → FitsProgram (length fs) globals a
-  one-fits f a frame lawful of =
+  pub one_fits : (f : TempFn) (a : Allocation) → HasFrame f → IsLawfulTempFn fs globals f → IsAllocationOf f a → FitsProgram (length fs) globals a
+  one_fits f a frame lawful of =
       let all = all-asked f.objects f.blocks lawful.names in
       let temps = of.temps in
       let few = frame.temps in
@@ -110,7 +110,7 @@ module _ (program : TempProgram) (allocations : List Allocation) (h : AreAllocat
   all_fit frames =
       subst (λ n. All (FitsProgram n program.globals) allocations) (as_many program.functions allocations h)
       (all_across (λ (f : TempFn). HasFrame f × IsLawfulTempFn program.functions program.globals f) (FitsProgram (length program.functions) program.globals)
-      (λ f a of has. one-fits program.functions program.globals frames f a has.0 has.1 of) program.functions allocations h (both frames))
+      (λ f a of has. one_fits program.functions program.globals frames f a has.0 has.1 of) program.functions allocations h (both frames))
 
 one-main : (fs : List TempFn) → main_count fs ≡ 1 → 1 ≤ length fs
 one-main [] e = omega (arith, e)

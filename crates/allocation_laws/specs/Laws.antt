@@ -11,7 +11,7 @@ use Rattle.alloc_model.specs.declared.allocation.Allocation.{Allocation}
 use Rattle.alloc_model.specs.Temporaries.{code_of}
 use Rattle.flat_frames.specs.Shapes.{objects_size}
 use Rattle.assembly_laws.specs.Near.{IsNear}
-use Rattle.assembly_laws.specs.Ranges.{IsSmall}
+use Rattle.assembly_laws.specs.Ranges.{HasSmallNumbers}
 use Rattle.assembly_laws.specs.Layouts.{end_label, FitsProgram, FunctionsAreLaidOut}
 use Rattle.assembly_laws.specs.Laws.{CanBeAssembled}
 use Rattle.plain_programs.specs.Allocations.{IsAllocationOf, AreAllocationsOf}
@@ -71,7 +71,7 @@ abbrev pub AllocationsCanBeAssembled : Type 0
 AllocationsCanBeAssembled =
     (program : TempProgram) (allocations : List Allocation) → AreAllocationsOf program.functions allocations →
     All HasFrame program.functions → All (λ (f : TempFn). IsTrue (is_name f.name)) program.functions →
-    All (λ (a : Allocation). AllInsns IsSmall a.func.blocks) allocations →
+    All (λ (a : Allocation). AllInsns HasSmallNumbers a.func.blocks) allocations →
     All (CanBeAssembled (length allocations) program.globals) allocations
 
 -- the argument places that they name can be told from others, where those of the functions can

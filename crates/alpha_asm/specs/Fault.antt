@@ -18,6 +18,6 @@ pub record HasFewWords (a : Assembly) : Type 0 where
   pub most : (n : ℕ) → HasWords a n → n ≤ most_words
 
 -- the text has this number of words, which is more than an image may have, or memory is short
-abbrev pub IsFaultOf : Assembly → AsmFault → Type 0
-IsFaultOf a (CodeTooLong n) = HasWords a n × (most_words < n)
-IsFaultOf a NoMemory = MemoryIsShort
+abbrev pub IsAsmFault : Assembly → AsmFault → Type 0
+IsAsmFault a (CodeTooLong n) = HasWords a n × (most_words < n)
+IsAsmFault a NoMemory = MemoryIsShort

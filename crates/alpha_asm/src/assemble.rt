@@ -9,7 +9,7 @@ ghost use Rattle.alpha_items.specs.Layout.{label_place, text_words};
 ghost use Rattle.alpha_items.specs.Words.{Words, text_insns, fixed_data};
 ghost use Rattle.std.specs.List.{All};
 ghost use Rattle.alpha_asm.specs.declared.assemble.AsmFault.TheVariants.{NoMemory};
-ghost use Rattle.alpha_asm.specs.Fault.{HasFewWords, IsFaultOf};
+ghost use Rattle.alpha_asm.specs.Fault.{HasFewWords, IsAsmFault};
 ghost use Rattle.alpha_asm.specs.model.Text.{IsPlan, AreSound};
 
 use crate::data::put_fixes;
@@ -140,7 +140,7 @@ fn image_of(
     ensures lawful { IfOk result (λ i. IsLawful i) }
     ensures fits { IfOk result (λ _. HasFewWords (record { items = items.now; bytes = bytes.now; fixes = fixes.now })) }
     ensures fault { IfErr result
-        (λ f. IsFaultOf (record { items = items.now; bytes = bytes.now; fixes = fixes.now }) f) }
+        (λ f. IsAsmFault (record { items = items.now; bytes = bytes.now; fixes = fixes.now }) f) }
 {
     let plan = plan_of(alloc, items)?;
     let count = count_of(items, &plan);
@@ -163,7 +163,7 @@ pub fn assemble(alloc: Global, asm: &Asm) -> Result<Image, AsmFault>
     ensures image { IfOk result (λ i. Words asm.now i) }
     ensures lawful { IfOk result (λ i. IsLawful i) }
     ensures fits { IfOk result (λ _. HasFewWords asm.now) }
-    ensures fault { IfErr result (λ f. IsFaultOf asm.now f) }
+    ensures fault { IfErr result (λ f. IsAsmFault asm.now f) }
 {
     image_of(
         alloc,

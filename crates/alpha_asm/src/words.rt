@@ -2,7 +2,7 @@
 
 ghost use Rattle.std.specs.Prelude.{◌≡◌, ◌++◌, ◌∷◌, [], ◌<◌, ◌≤◌, ◌+◌, ◌*◌, ◌^◌, pos, ◌-◌, ◌-ℤ◌, false, length, map, OnOk};
 ghost use Rattle.alpha_isa.specs.declared.insn.Fields.TheVariants as fields;
-ghost use Rattle.alpha_isa.specs.Lawful.{IsLawful, IsBranchDisplacement};
+ghost use Rattle.alpha_isa.specs.Lawful.{AreLawfulFields, IsBranchDisplacement};
 ghost use Rattle.alpha_isa.specs.Words.{word_of};
 ghost use Rattle.alpha_isa.specs.Program.{most_bytes, most_words, word_address};
 ghost use Rattle.alpha_items.specs.Items.{IsItem};
@@ -29,7 +29,7 @@ const TEXT_START: u64 = 65_536;
 
 /// Appends the word of an instruction.
 fn put(words: &mut Vec<u32>, fields: Fields) -> Result<(), AllocError>
-    requires { IsLawful fields }
+    requires { AreLawfulFields fields }
     ensures { OnOk result (words.new.items ≡ words.old.items ++ word_of fields ∷ []) }
 {
     words.push(encode(&Insn32 { fields }))?;

@@ -10,7 +10,7 @@ use Rattle.mem_model.specs.declared.value.Cell.TheVariants.{Empty, Byte, Part}
 use Rattle.mem_model.specs.Cells.{bytes_of, parts_of, cells_of, number_of, with_row}
 use Rattle.mem_model.specs.Memory.{Memory, Object, object_at, place_of, is_gone, put_row, row_at}
 use Rattle.mem_model.proofs.Changes.{MayStand, object-here, object-other}
-use Rattle.alpha_forms.specs.Registers.{AreCells, HasBytes}
+use Rattle.alpha_forms.specs.Registers.{AreCells, MemoryHasBytes}
 
 pub are_take : (n : ℕ) (cs : List Cell) → AreCells cs → AreCells (take n cs)
 are_take zero cs h = tt
@@ -50,10 +50,10 @@ are_cells_of w (Address p) = are_parts p
 are_cells_of w Unset = are_empty w
 
 -- of a row, and of a memory in which a row was put
-pub are_row : (m : Memory) (p : Ptr) (size : ℕ) → HasBytes m → AreCells (row_at m p size)
+pub are_row : (m : Memory) (p : Ptr) (size : ℕ) → MemoryHasBytes m → AreCells (row_at m p size)
 are_row m p size h = are_take size (drop (place_of p.offset) (object_at m p.object).cells) (are_drop (place_of p.offset) (object_at m p.object).cells (h p.object))
 
-pub bytes_with_row : (m : Memory) (p : Ptr) (row : List Cell) → is_gone m p ≡ false → MayStand m p row → HasBytes m → AreCells row → HasBytes (put_row m p row)
+pub bytes_with_row : (m : Memory) (p : Ptr) (row : List Cell) → is_gone m p ≡ false → MayStand m p row → MemoryHasBytes m → AreCells row → MemoryHasBytes (put_row m p row)
 bytes_with_row m p row live stands h g k = elim (cases_eq k p.object) [
   | inl e ↦ subst (λ j. AreCells (object_at (put_row m p row) j).cells) (sym e) (subst (λ (x : Object). AreCells x.cells) (sym (object-here m p row live stands)) (are_with_row (object_at m p.object).cells (place_of p.offset) row (h p.object) g))
   | inr ne ↦ subst (λ (x : Object). AreCells x.cells) (sym (object-other m p row live stands k ne)) (h k)

@@ -22,7 +22,7 @@ use Rattle.alloc_model.specs.Stores.{put, without}
 use Rattle.alloc_model.specs.Effect.{Temp, holder_eq, is_emptied, writes, changes}
 use Rattle.alloc_model.specs.Temporaries.{Temps}
 use Rattle.alpha_forms.specs.Straight.{After, goes_with, runs}
-use Rattle.alpha_forms.specs.Registers.{IsOfRegister, HasBytes, PutsMemory, ComesToMemory}
+use Rattle.alpha_forms.specs.Registers.{IsOfRegister, MemoryHasBytes, PutsMemory, ComesToMemory}
 use Rattle.alpha_copies.specs.Copies.{part_load, part_store, part_items, moved_items, reach, parts_items, copy_items}
 use Rattle.alpha_copies.specs.Laws.{CopiesAreDone, CopiesAreShort}
 use Rattle.alpha_copies.proofs.Parts.{spot, Copyable, moved_content_spot, part_loaded, part_stored, next_copyable, whole, new_bytes}
@@ -79,7 +79,7 @@ of_register t k is few = ne_eqb t k (λ e. omega (arith, e, is, few))
 module _ (widest own : ℕ) (al : Alignment) (o r : ℕ) where
   -- a part, and code behind it that copies the rest
   part_then : (to from at i j a b more : ℕ) (ys : List TempInsn) (s : Temps) (w : Outer) → i + at ≡ a → j + at ≡ b → Pointers s to from o i r j →
-      Copyable w.memory o a r b al (alignment_bytes al + more) → HasBytes w.memory →
+      Copyable w.memory o a r b al (alignment_bytes al + more) → MemoryHasBytes w.memory →
       ((t : Temps) → Pointers t to from o i r j →
       PutsMemory t (outer_with_memory w (put_row w.memory (spot o a) (row_at w.memory (spot r b) (alignment_bytes al))))
       (put_row (put_row w.memory (spot o a) (row_at w.memory (spot r b) (alignment_bytes al))) (spot o (a + alignment_bytes al)) (row_at (put_row w.memory (spot o a) (row_at w.memory (spot r b) (alignment_bytes al))) (spot r (b + alignment_bytes al)) more))
@@ -108,7 +108,7 @@ module _ (widest own : ℕ) (al : Alignment) (o r : ℕ) where
         kept = λ t is. run.kept t is ∙ ap (λ e. if e then h else s (Temp t)) (of_register t 0 is (omega arith));
       }
 
-  parts_run : (n to from at i j a b : ℕ) (s : Temps) (w : Outer) → i + at ≡ a → j + at ≡ b → Pointers s to from o i r j → Copyable w.memory o a r b al (total (alignment_bytes al) n) → HasBytes w.memory →
+  parts_run : (n to from at i j a b : ℕ) (s : Temps) (w : Outer) → i + at ≡ a → j + at ≡ b → Pointers s to from o i r j → Copyable w.memory o a r b al (total (alignment_bytes al) n) → MemoryHasBytes w.memory →
       PutsMemory s w (put_row w.memory (spot o a) (row_at w.memory (spot r b) (total (alignment_bytes al) n))) (runs widest (parts_items al n to from at) own s w)
   unfolding total put_by
   parts_run zero to from at i j a b s w ea eb p c ok = record {
@@ -119,7 +119,7 @@ module _ (widest own : ℕ) (al : Alignment) (o r : ℕ) where
   parts_run (suc n) to from at i j a b s w ea eb p c ok = by_reach (λ to from at i j a b s w. parts_run n to from at i j a b s w) (nat_lt at reach)
     where
       Rest : Type 0
-      Rest = (to from at i j a b : ℕ) (s : Temps) (w : Outer) → i + at ≡ a → j + at ≡ b → Pointers s to from o i r j → Copyable w.memory o a r b al (total (alignment_bytes al) n) → HasBytes w.memory →
+      Rest = (to from at i j a b : ℕ) (s : Temps) (w : Outer) → i + at ≡ a → j + at ≡ b → Pointers s to from o i r j → Copyable w.memory o a r b al (total (alignment_bytes al) n) → MemoryHasBytes w.memory →
           PutsMemory s w (put_row w.memory (spot o a) (row_at w.memory (spot r b) (total (alignment_bytes al) n))) (runs widest (parts_items al n to from at) own s w)
 
       more : ℕ
@@ -265,7 +265,7 @@ whole_parts Eight size h = omega (arith, h)
 total_is : (al : Alignment) (size : ℕ) → size % alignment_bytes al ≡ 0 → total (alignment_bytes al) (size / alignment_bytes al) ≡ size
 total_is al size e = products al (size / alignment_bytes al) ∙ whole_parts al size e
 
-module _ (widest own to from : ℕ) (al : Alignment) (s : Temps) (w : Outer) (p q : Ptr) (it : IsOfRegister to) (if_ : IsOfRegister from) (ok : HasBytes w.memory)
+module _ (widest own to from : ℕ) (al : Alignment) (s : Temps) (w : Outer) (p q : Ptr) (it : IsOfRegister to) (if_ : IsOfRegister from) (ok : MemoryHasBytes w.memory)
     (ht : s (Temp to) ≡ Plain (Address p)) (hf : s (Temp from) ≡ Plain (Address q)) where
   copy_runs : (n : ℕ) (m : Memory) → copy_at w.memory p q (total (alignment_bytes al) n) (alignment_bytes al) ≡ Ok m → PutsMemory s w m (runs widest (parts_items al n to from 0) own s w)
   unfolding total

@@ -23,7 +23,7 @@ use Rattle.suifvm_ir.specs.declared.types.Alignment.{Alignment}
 use Rattle.suifvm_ir.specs.declared.types.Alignment.TheVariants.{One, Two, Four, Eight}
 use Rattle.suifvm_ir.specs.Programs.{alignment_bytes}
 use Rattle.alloc_model.specs.Contents.{Content, Plain, Bundle, word, number_or, pointer_or_bundle, content_of, extended_content, unless_fault, pointer_in, pointer_at, load_width, store_width, content_in, loaded_content, when_width, stored_cells, memory_with, stored_memory, pointer_moved}
-use Rattle.alpha_forms.specs.Registers.{AreCells, HasBytes}
+use Rattle.alpha_forms.specs.Registers.{AreCells, MemoryHasBytes}
 use Rattle.alpha_copies.specs.Copies.{part_load, part_store}
 use Rattle.alpha_copies.proofs.Bytes.{are_row, bytes_with_row, bytes_number}
 use Rattle.alpha_copies.proofs.Lists.{with_row-behind}
@@ -179,7 +179,7 @@ moved_content_spot m o i by live le = ap (option_map Plain) (moved_spot m o i by
 
 -- ---- one part, at a and b, which pointers at i and j reach by a displacement
 
-module _ (m : Memory) (o i r j at a b : ℕ) (ea : i + at ≡ a) (eb : j + at ≡ b) (al : Alignment) (more : ℕ) (c : Copyable m o a r b al (alignment_bytes al + more)) (ok : HasBytes m) where
+module _ (m : Memory) (o i r j at a b : ℕ) (ea : i + at ≡ a) (eb : j + at ≡ b) (al : Alignment) (more : ℕ) (c : Copyable m o a r b al (alignment_bytes al + more)) (ok : MemoryHasBytes m) where
   abbrev row : List Cell
   row = row_at m (spot r b) (alignment_bytes al)
 
@@ -267,5 +267,5 @@ module _ (m : Memory) (o i r j at a b : ℕ) (ea : i + at ≡ a) (eb : j + at �
       ∙ ap (λ l. slice_set m o (record { live = X.live; writable = X.writable; cells = l })) (with_row-behind X.cells cs rest a (let h = c.to_fits in omega (arith, part-length, len)))
       ∙ ap (λ l. put_row m (spot o a) l) both
 
-  pub new_bytes : HasBytes (put_row m (spot o a) (row_at m (spot r b) (alignment_bytes al)))
+  pub new_bytes : MemoryHasBytes (put_row m (spot o a) (row_at m (spot r b) (alignment_bytes al)))
   new_bytes = bytes_with_row m (spot o a) (row_at m (spot r b) (alignment_bytes al)) c.to_live stands ok (are_row m (spot r b) (alignment_bytes al) ok)

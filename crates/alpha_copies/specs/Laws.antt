@@ -9,7 +9,7 @@ use Rattle.alloc_model.specs.Contents.{Plain}
 use Rattle.alloc_model.specs.Effect.{Temp}
 use Rattle.alloc_model.specs.Temporaries.{Temps}
 use Rattle.alpha_forms.specs.Straight.{runs}
-use Rattle.alpha_forms.specs.Registers.{IsOfRegister, HasBytes, ComesToMemory}
+use Rattle.alpha_forms.specs.Registers.{IsOfRegister, MemoryHasBytes, ComesToMemory}
 use Rattle.alpha_copies.specs.Copies.{copy_items}
 
 -- the code of a copy leaves the memory that the copy leaves, wherever that has a meaning; v and w are what the
@@ -17,7 +17,7 @@ use Rattle.alpha_copies.specs.Copies.{copy_items}
 abbrev pub CopiesAreDone : Type 0
 CopiesAreDone =
     (widest own to from size : ℕ) (align : Alignment) (s : Temps) (o : Outer) (v w : Value) → IsOfRegister to
-    → IsOfRegister from → HasBytes o.memory → size % alignment_bytes align ≡ 0 → s (Temp to) ≡ Plain v
+    → IsOfRegister from → MemoryHasBytes o.memory → size % alignment_bytes align ≡ 0 → s (Temp to) ≡ Plain v
     → s (Temp from) ≡ Plain w →
     ComesToMemory s o (copied_memory o.memory v w size (alignment_bytes align))
     (runs widest (copy_items align to from size) own s o)

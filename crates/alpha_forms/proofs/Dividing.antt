@@ -44,7 +44,7 @@ use Rattle.alloc_model.specs.Effect as effect
 use Rattle.alloc_model.specs.Effect.{Temp, Fixed, holder_eq, is_emptied, takes, division_answer, words_division, writes}
 use Rattle.alloc_model.specs.Temporaries.{Temps}
 use Rattle.alpha_forms.specs.Straight.{Ran, goes_with, runs}
-use Rattle.alpha_forms.specs.Registers.{ComesTo}
+use Rattle.alpha_forms.specs.Registers.{CodeAnswers}
 use Rattle.alpha_forms.specs.Operations.{quotient_routine, remainder_routine, division_items}
 use Rattle.alpha_forms.specs.Laws.{BinaryIsDone}
 use Rattle.alpha_forms.proofs.Runs.{put_here, put_beside}
@@ -348,7 +348,7 @@ module _ (widest own : ℕ) (s : Temps) (o : Outer) (d a b : ℕ) (r : DivisionR
   unfolding dividend divisor on_answer
   division_runs = refl
 
-  answers_come : (w : vm.Answer) (e : contents.ContentAnswer) → Matches w e → ComesTo s o d w (on_answer e)
+  answers_come : (w : vm.Answer) (e : contents.ContentAnswer) → Matches w e → CodeAnswers s o d w (on_answer e)
   unfolding dividend divisor answered named on_answer
   answers_come (v.Gives w) e m = record {
     after = named (Plain w);
@@ -360,9 +360,9 @@ module _ (widest own : ℕ) (s : Temps) (o : Outer) (d a b : ℕ) (r : DivisionR
   answers_come v.Fails e m = tt
 
   pub division_comes : (x y : Value) (w : vm.Answer) → s (Temp a) ≡ Plain x → s (Temp b) ≡ Plain y →
-      Matches w (division_answer r (Plain x) (Plain y)) → ComesTo s o d w (runs widest (division_items r d a b) own s o)
+      Matches w (division_answer r (Plain x) (Plain y)) → CodeAnswers s o d w (runs widest (division_items r d a b) own s o)
   division_comes x y w ha hb m =
-      subst (ComesTo s o d w) (sym (division_runs ∙ ap (λ c. on_answer (division_answer r c (s (Temp b)))) ha ∙ ap (λ c. on_answer (division_answer r (Plain x) c)) hb))
+      subst (CodeAnswers s o d w) (sym (division_runs ∙ ap (λ c. on_answer (division_answer r c (s (Temp b)))) ha ∙ ap (λ c. on_answer (division_answer r (Plain x) c)) hb))
       (answers_come w (division_answer r (Plain x) (Plain y)) m)
 
 pub quotients_done : BinaryIsDone Divide

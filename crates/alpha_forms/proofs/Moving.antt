@@ -33,7 +33,7 @@ use Rattle.alloc_model.specs.Contents.{Content, Plain, word, operate_answer}
 use Rattle.alloc_model.specs.Effect.{Temp, writes}
 use Rattle.alloc_model.specs.Temporaries.{Temps}
 use Rattle.alpha_forms.specs.Straight.{runs}
-use Rattle.alpha_forms.specs.Registers.{IsOfRegister, ComesTo}
+use Rattle.alpha_forms.specs.Registers.{IsOfRegister, CodeAnswers}
 use Rattle.alpha_forms.specs.Operations.{on_two, extended_long}
 use Rattle.alpha_forms.specs.Operations as items
 use Rattle.alpha_forms.specs.Laws.{ShiftIsDone}
@@ -96,32 +96,32 @@ module _ (widest own : ℕ) (s : Temps) (o : Outer) (d a b : ℕ) (ia : IsOfRegi
 
   -- the word that the machine makes
   signed_word : (n k i : ℕ) → contents.word_answer (word_from (int_shr (signed_value w64 n) k)) ≡ contents.word_answer i →
-      x ≡ Word n → y ≡ Word k → k < 64 → ComesTo s o d (v.Gives (Word i)) (runs widest (on_two code.Sra d a b ∷ []) own s o)
+      x ≡ Word n → y ≡ Word k → k < 64 → CodeAnswers s o d (v.Gives (Word i)) (runs widest (on_two code.Sra d a b ∷ []) own s o)
   signed_word n k i is ex ey small =
       two_comes widest own s o d code.Sra a b (Word n) (Word k) (v.Gives (Word i)) (ha ∙ ap Plain ex) (hb ∙ ap Plain ey)
       (ap (λ j. contents.word_answer (word_from (int_shr (signed_value w64 n) j))) (few k 64 small (omega arith)) ∙ is)
 
   arithmetic_int : (n k : ℕ) → x ≡ Word n → y ≡ Word k → extension Int n ≡ n → k < 2 ^ 64 →
-      ComesTo s o d (outcome_answer (right_shift_by Int n (shift_count Int UnsignedLong k))) (runs widest (on_two code.Sra d a b ∷ []) own s o)
+      CodeAnswers s o d (outcome_answer (right_shift_by Int n (shift_count Int UnsignedLong k))) (runs widest (on_two code.Sra d a b ∷ []) own s o)
   arithmetic_int n k ex ey e small =
-      by_places Int k (λ c. ComesTo s o d (outcome_answer (right_shift_by Int n c)) (runs widest (on_two code.Sra d a b ∷ []) own s o)) small tt
+      by_places Int k (λ c. CodeAnswers s o d (outcome_answer (right_shift_by Int n c)) (runs widest (on_two code.Sra d a b ∷ []) own s o)) small tt
       (λ lt. signed_word n k (words.word Int (int_shr (value Int n) k))
       (ap (λ z. contents.word_answer (word_from (int_shr z k))) (signed_as Int n refl e)
       ∙ ap contents.word_answer (sym (int_word (int_shr (value Int n) k) (shr_fits w32 (value Int n) k (signed_fits Int n))))) ex ey (omega arith))
 
   arithmetic_long : (n k : ℕ) → x ≡ Word n → y ≡ Word k → extension Long n ≡ n → k < 2 ^ 64 →
-      ComesTo s o d (outcome_answer (right_shift_by Long n (shift_count Long UnsignedLong k))) (runs widest (on_two code.Sra d a b ∷ []) own s o)
+      CodeAnswers s o d (outcome_answer (right_shift_by Long n (shift_count Long UnsignedLong k))) (runs widest (on_two code.Sra d a b ∷ []) own s o)
   arithmetic_long n k ex ey e small =
-      by_places Long k (λ c. ComesTo s o d (outcome_answer (right_shift_by Long n c)) (runs widest (on_two code.Sra d a b ∷ []) own s o)) small tt
+      by_places Long k (λ c. CodeAnswers s o d (outcome_answer (right_shift_by Long n c)) (runs widest (on_two code.Sra d a b ∷ []) own s o)) small tt
       (λ lt. signed_word n k (words.word Long (int_shr (value Long n) k))
       (ap (λ z. contents.word_answer (word_from (int_shr z k))) (signed_as Long n refl e)
       ∙ ap contents.word_answer (sym (long_word (int_shr (value Long n) k) (shr_fits w64 (value Long n) k (signed_fits Long n))))) ex ey lt)
 
-  arithmetic_comes : (ty : VmType) → ComesTo s o d (shift_answer ArithmeticRight ty x y) (runs widest (items.shift_items ArithmeticRight ty d a b) own s o)
-  arithmetic_comes S32 = by_operands ArithmeticRight Int x y (λ w. ComesTo s o d w (runs widest (on_two code.Sra d a b ∷ []) own s o)) tt arithmetic_int
-  arithmetic_comes U32 = by_operands ArithmeticRight UnsignedInt x y (λ w. ComesTo s o d w (runs widest (on_two code.Sra d a b ∷ []) own s o)) tt arithmetic_int
-  arithmetic_comes S64 = by_operands ArithmeticRight Long x y (λ w. ComesTo s o d w (runs widest (on_two code.Sra d a b ∷ []) own s o)) tt arithmetic_long
-  arithmetic_comes U64 = by_operands ArithmeticRight UnsignedLong x y (λ w. ComesTo s o d w (runs widest (on_two code.Sra d a b ∷ []) own s o)) tt arithmetic_long
+  arithmetic_comes : (ty : VmType) → CodeAnswers s o d (shift_answer ArithmeticRight ty x y) (runs widest (items.shift_items ArithmeticRight ty d a b) own s o)
+  arithmetic_comes S32 = by_operands ArithmeticRight Int x y (λ w. CodeAnswers s o d w (runs widest (on_two code.Sra d a b ∷ []) own s o)) tt arithmetic_int
+  arithmetic_comes U32 = by_operands ArithmeticRight UnsignedInt x y (λ w. CodeAnswers s o d w (runs widest (on_two code.Sra d a b ∷ []) own s o)) tt arithmetic_int
+  arithmetic_comes S64 = by_operands ArithmeticRight Long x y (λ w. CodeAnswers s o d w (runs widest (on_two code.Sra d a b ∷ []) own s o)) tt arithmetic_long
+  arithmetic_comes U64 = by_operands ArithmeticRight UnsignedLong x y (λ w. CodeAnswers s o d w (runs widest (on_two code.Sra d a b ∷ []) own s o)) tt arithmetic_long
   arithmetic_comes P64 = tt
 
   -- ---- to the left
@@ -136,9 +136,9 @@ module _ (widest own : ℕ) (s : Temps) (o : Outer) (d a b : ℕ) (ia : IsOfRegi
 
   left_narrow : (t : IntegerType) → bits (width t) ≡ 32 → ((i : ℕ) → extension t i ≡ sign_extension w32 i) → (n k : ℕ) → x ≡ Word n → y ≡ Word k →
       extension t n ≡ n → k < 2 ^ 64 →
-      ComesTo s o d (outcome_answer (left_shift_by t n (shift_count t UnsignedLong k))) (runs widest (on_two code.Sll 0 a b ∷ extended_long d 0 ∷ []) own s o)
+      CodeAnswers s o d (outcome_answer (left_shift_by t n (shift_count t UnsignedLong k))) (runs widest (on_two code.Sll 0 a b ∷ extended_long d 0 ∷ []) own s o)
   left_narrow t wide is n k ex ey e small =
-      by_places t k (λ c. ComesTo s o d (outcome_answer (left_shift_by t n c)) (runs widest (on_two code.Sll 0 a b ∷ extended_long d 0 ∷ []) own s o)) small tt
+      by_places t k (λ c. CodeAnswers s o d (outcome_answer (left_shift_by t n c)) (runs widest (on_two code.Sll 0 a b ∷ extended_long d 0 ∷ []) own s o)) small tt
       (λ lt.
       let h = prepare widest own s o [] (s (Temp 0)) (nothing_yet widest own s o) (on_two code.Sll 0 a b) (word (word_at (n * 2 ^ (k % 64)))) (record { turn = refl; call = refl; written = refl })
       (ap (λ c. writes (operate_answer o.memory code.Sll c (s (Temp b))) o) (ha ∙ ap Plain ex) ∙ ap (λ c. writes (operate_answer o.memory code.Sll (word n) c) o) (hb ∙ ap Plain ey)) in
@@ -148,17 +148,17 @@ module _ (widest own : ℕ) (s : Temps) (o : Outer) (d a b : ℕ) (ia : IsOfRegi
 
   left_wide : (t : IntegerType) → bits (width t) ≡ 64 → ((i : ℕ) → extension t i ≡ word_at i) → (n k : ℕ) → x ≡ Word n → y ≡ Word k →
       extension t n ≡ n → k < 2 ^ 64 →
-      ComesTo s o d (outcome_answer (left_shift_by t n (shift_count t UnsignedLong k))) (runs widest (on_two code.Sll d a b ∷ []) own s o)
+      CodeAnswers s o d (outcome_answer (left_shift_by t n (shift_count t UnsignedLong k))) (runs widest (on_two code.Sll d a b ∷ []) own s o)
   left_wide t wide is n k ex ey e small =
-      by_places t k (λ c. ComesTo s o d (outcome_answer (left_shift_by t n c)) (runs widest (on_two code.Sll d a b ∷ []) own s o)) small tt
+      by_places t k (λ c. CodeAnswers s o d (outcome_answer (left_shift_by t n c)) (runs widest (on_two code.Sll d a b ∷ []) own s o)) small tt
       (λ lt. two_comes widest own s o d code.Sll a b (Word n) (Word k) (v.Gives (Word (extension t (n * 2 ^ k)))) (ha ∙ ap Plain ex) (hb ∙ ap Plain ey)
       (ap (λ i. contents.word_answer (word_at (n * 2 ^ i))) (few k (bits (width t)) lt (omega (arith, wide))) ∙ ap contents.word_answer (sym (is (n * 2 ^ k)))))
 
-  left_comes : (ty : VmType) → ComesTo s o d (shift_answer Left ty x y) (runs widest (items.shift_items Left ty d a b) own s o)
-  left_comes S32 = by_operands Left Int x y (λ w. ComesTo s o d w (runs widest (items.left_items true d a b) own s o)) tt (left_narrow Int refl (λ i. refl))
-  left_comes U32 = by_operands Left UnsignedInt x y (λ w. ComesTo s o d w (runs widest (items.left_items true d a b) own s o)) tt (left_narrow UnsignedInt refl (λ i. refl))
-  left_comes S64 = by_operands Left Long x y (λ w. ComesTo s o d w (runs widest (items.left_items false d a b) own s o)) tt (left_wide Long refl (λ i. refl))
-  left_comes U64 = by_operands Left UnsignedLong x y (λ w. ComesTo s o d w (runs widest (items.left_items false d a b) own s o)) tt (left_wide UnsignedLong refl (λ i. refl))
+  left_comes : (ty : VmType) → CodeAnswers s o d (shift_answer Left ty x y) (runs widest (items.shift_items Left ty d a b) own s o)
+  left_comes S32 = by_operands Left Int x y (λ w. CodeAnswers s o d w (runs widest (items.left_items true d a b) own s o)) tt (left_narrow Int refl (λ i. refl))
+  left_comes U32 = by_operands Left UnsignedInt x y (λ w. CodeAnswers s o d w (runs widest (items.left_items true d a b) own s o)) tt (left_narrow UnsignedInt refl (λ i. refl))
+  left_comes S64 = by_operands Left Long x y (λ w. CodeAnswers s o d w (runs widest (items.left_items false d a b) own s o)) tt (left_wide Long refl (λ i. refl))
+  left_comes U64 = by_operands Left UnsignedLong x y (λ w. CodeAnswers s o d w (runs widest (items.left_items false d a b) own s o)) tt (left_wide UnsignedLong refl (λ i. refl))
   left_comes P64 = tt
 
   -- ---- to the right with zeros
@@ -172,9 +172,9 @@ module _ (widest own : ℕ) (s : Temps) (o : Outer) (d a b : ℕ) (ia : IsOfRegi
       in_word m i small le = omega arith
 
   logical_narrow : (n k : ℕ) → x ≡ Word n → y ≡ Word k → k < 2 ^ 64 →
-      ComesTo s o d (outcome_answer (right_shift_by UnsignedInt n (shift_count UnsignedInt UnsignedLong k))) (runs widest (items.logical_right_items true d a b) own s o)
+      CodeAnswers s o d (outcome_answer (right_shift_by UnsignedInt n (shift_count UnsignedInt UnsignedLong k))) (runs widest (items.logical_right_items true d a b) own s o)
   logical_narrow n k ex ey small =
-      by_places UnsignedInt k (λ c. ComesTo s o d (outcome_answer (right_shift_by UnsignedInt n c)) (runs widest (items.logical_right_items true d a b) own s o)) small tt
+      by_places UnsignedInt k (λ c. CodeAnswers s o d (outcome_answer (right_shift_by UnsignedInt n c)) (runs widest (items.logical_right_items true d a b) own s o)) small tt
       (λ lt.
       let f = prepare widest own s o [] (s (Temp 0)) (nothing_yet widest own s o) (items.on_number code.Zapnot 0 a 15) (word (kept_bytes 8 n 15)) (record { turn = refl; call = refl; written = refl })
       (ap (λ c. writes (operate_answer o.memory code.Zapnot c (word 15)) o) (ha ∙ ap Plain ex)) in
@@ -197,20 +197,20 @@ module _ (widest own : ℕ) (s : Temps) (o : Outer) (d a b : ℕ) (ia : IsOfRegi
       same n small = omega arith
 
   logical_wide : (n k : ℕ) → x ≡ Word n → y ≡ Word k → n < 2 ^ 64 → k < 2 ^ 64 →
-      ComesTo s o d (outcome_answer (right_shift_by UnsignedLong n (shift_count UnsignedLong UnsignedLong k))) (runs widest (on_two code.Srl d a b ∷ []) own s o)
+      CodeAnswers s o d (outcome_answer (right_shift_by UnsignedLong n (shift_count UnsignedLong UnsignedLong k))) (runs widest (on_two code.Srl d a b ∷ []) own s o)
   logical_wide n k ex ey nb small =
-      by_places UnsignedLong k (λ c. ComesTo s o d (outcome_answer (right_shift_by UnsignedLong n c)) (runs widest (on_two code.Srl d a b ∷ []) own s o)) small tt
+      by_places UnsignedLong k (λ c. CodeAnswers s o d (outcome_answer (right_shift_by UnsignedLong n c)) (runs widest (on_two code.Srl d a b ∷ []) own s o)) small tt
       (λ lt. two_comes widest own s o d code.Srl a b (Word n) (Word k) (v.Gives (Word (words.word UnsignedLong (int_shr (value UnsignedLong n) k)))) (ha ∙ ap Plain ex) (hb ∙ ap Plain ey)
       (ap (λ i. contents.word_answer (n / 2 ^ i)) (few k 64 lt (omega arith)) ∙ ap contents.word_answer (wide_word n k nb)))
 
-  logical_comes : (ty : VmType) → ComesTo s o d (shift_answer LogicalRight ty x y) (runs widest (items.shift_items LogicalRight ty d a b) own s o)
-  logical_comes S32 = by_operands LogicalRight Int x y (λ w. ComesTo s o d w (runs widest (items.logical_right_items true d a b) own s o)) tt (λ n k ex ey e small. logical_narrow n k ex ey small)
-  logical_comes U32 = by_operands LogicalRight UnsignedInt x y (λ w. ComesTo s o d w (runs widest (items.logical_right_items true d a b) own s o)) tt (λ n k ex ey e small. logical_narrow n k ex ey small)
+  logical_comes : (ty : VmType) → CodeAnswers s o d (shift_answer LogicalRight ty x y) (runs widest (items.shift_items LogicalRight ty d a b) own s o)
+  logical_comes S32 = by_operands LogicalRight Int x y (λ w. CodeAnswers s o d w (runs widest (items.logical_right_items true d a b) own s o)) tt (λ n k ex ey e small. logical_narrow n k ex ey small)
+  logical_comes U32 = by_operands LogicalRight UnsignedInt x y (λ w. CodeAnswers s o d w (runs widest (items.logical_right_items true d a b) own s o)) tt (λ n k ex ey e small. logical_narrow n k ex ey small)
   logical_comes S64 =
-      by_operands LogicalRight Long x y (λ w. ComesTo s o d w (runs widest (items.logical_right_items false d a b) own s o)) tt
+      by_operands LogicalRight Long x y (λ w. CodeAnswers s o d w (runs widest (items.logical_right_items false d a b) own s o)) tt
       (λ n k ex ey e small. logical_wide n k ex ey (subst (λ i. i < 2 ^ 64) e (extension-below Long n)) small)
   logical_comes U64 =
-      by_operands LogicalRight UnsignedLong x y (λ w. ComesTo s o d w (runs widest (items.logical_right_items false d a b) own s o)) tt
+      by_operands LogicalRight UnsignedLong x y (λ w. CodeAnswers s o d w (runs widest (items.logical_right_items false d a b) own s o)) tt
       (λ n k ex ey e small. logical_wide n k ex ey (subst (λ i. i < 2 ^ 64) e (extension-below UnsignedLong n)) small)
   logical_comes P64 = tt
 

@@ -24,7 +24,7 @@ use Rattle.alloc_model.specs.Contents.{Plain, Gives, word, test_of}
 use Rattle.alloc_model.specs.Effect.{Temp, place_content, writes}
 use Rattle.alloc_model.specs.Temporaries.{Temps}
 use Rattle.alpha_forms.specs.Straight.{PutsContent, runs}
-use Rattle.alpha_forms.specs.Registers.{PutsValue, ComesTo}
+use Rattle.alpha_forms.specs.Registers.{PutsValue, CodeAnswers}
 use Rattle.alpha_forms.specs.Constants.{constant_items}
 use Rattle.alpha_forms.specs.Operations.{branch_op}
 use Rattle.alpha_forms.specs.Laws.{ConstantsAreLoaded, AddressesAreLoaded, BranchesAreTaken}
@@ -38,7 +38,7 @@ from_content widest own d xs s o w h = record { after = h.after; goes_on = h.ran
 pub constants_loaded : ConstantsAreLoaded
 constants_loaded widest own d n ty s o small = by_type (is_value_of ty (Word n))
   where
-    by_type : (b : Bool) → ComesTo s o d (if b then v.Gives (Word n) else v.Fails) (runs widest (constant_items d n) own s o)
+    by_type : (b : Bool) → CodeAnswers s o d (if b then v.Gives (Word n) else v.Fails) (runs widest (constant_items d n) own s o)
     by_type true = from_content widest own d (constant_items d n) s o (Word n) (constants_made widest own d n s o small)
     by_type false = tt
 

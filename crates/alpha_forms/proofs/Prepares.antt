@@ -12,7 +12,7 @@ use Rattle.alloc_model.specs.Stores.{without, put}
 use Rattle.alloc_model.specs.Effect.{Temp, holder_eq, holders_read, is_emptied, does, writes}
 use Rattle.alloc_model.specs.Temporaries.{Temps}
 use Rattle.alpha_forms.specs.Straight.{After, NotStraight, goes_with, runs, PutsContent}
-use Rattle.alpha_forms.specs.Registers.{IsOfRegister, ComesTo}
+use Rattle.alpha_forms.specs.Registers.{IsOfRegister, CodeAnswers}
 use Rattle.alpha_forms.proofs.Runs.{on_after, runs-append, WritesOne, step_writes, put_here, put_beside, without_plain}
 
 of_register : (t : ℕ) → IsOfRegister t → (t == 0) ≡ false
@@ -56,7 +56,7 @@ module _ (widest own : ℕ) (s : Temps) (o : Outer) where
 
   -- the last instruction
   pub finish : (xs : List TempInsn) (c : Content) (h : Prepared xs c) (x : TempInsn) (d : ℕ) (a : ContentAnswer) (w : vm.Answer) → WritesOne x d →
-      does widest x own (map h.after (holders_read x)) o ≡ writes a o → Matches w a → ComesTo s o d w (runs widest (xs ++ x ∷ []) own s o)
+      does widest x own (map h.after (holders_read x)) o ≡ writes a o → Matches w a → CodeAnswers s o d w (runs widest (xs ++ x ∷ []) own s o)
   finish xs c h x d a (v.Gives w) one act m = record {
     after = put holder_eq (Temp d) (Plain w) (without (is_emptied x) h.after);
     goes_on = runs-append widest xs (x ∷ []) own s o ∙ ap (λ r. on_after r (λ t p. runs widest (x ∷ []) own t p)) h.ran

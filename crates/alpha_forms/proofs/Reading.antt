@@ -37,7 +37,7 @@ use Rattle.alloc_model.specs.Effect.{Temp, writes}
 use Rattle.alloc_model.specs.Temporaries.{Temps}
 use Rattle.alpha_forms.specs.Straight.{runs}
 use Rattle.alpha_forms.specs.Constants.{constant_items}
-use Rattle.alpha_forms.specs.Registers.{IsOfRegister, HasBytes, ComesTo}
+use Rattle.alpha_forms.specs.Registers.{IsOfRegister, MemoryHasBytes, CodeAnswers}
 use Rattle.alpha_forms.specs.Accesses.{far_items, plain_load, extended_load, near_load, load_by, load_items}
 use Rattle.alpha_forms.specs.Laws.{LoadsAreDone}
 use Rattle.alpha_forms.proofs.Making.{constants_made}
@@ -91,7 +91,7 @@ module _ (widest own : ℕ) (s : Temps) (o : Outer) where
 
     plain_comes : (op : LoadOp) (pointer : Bool) (t : Option IntegerType) →
         ((w : Value) → load_at o.memory q (load_width op) pointer ≡ Ok w → extended_content op (Plain w) ≡ Plain (extended_value t w)) →
-        ComesTo s o d (load_answer t (load_at o.memory q (load_width op) pointer)) (runs widest (xs ++ plain_load op d p z) own s o)
+        CodeAnswers s o d (load_answer t (load_at o.memory q (load_width op) pointer)) (runs widest (xs ++ plain_load op d p z) own s o)
     plain_comes op pointer t extends =
         finish widest own s o xs c h (Load op d p z) d (content_answer (loaded_content o.memory op (h.after (Temp p)) z))
         (load_answer t (load_at o.memory q (load_width op) pointer)) (record { turn = refl; call = refl; written = refl }) refl
@@ -103,9 +103,9 @@ module _ (widest own : ℕ) (s : Temps) (o : Outer) where
         by_result (Err f) e = tt
 
     -- numbers
-    number_comes : (op : LoadOp) (t : IntegerType) → HasBytes o.memory →
+    number_comes : (op : LoadOp) (t : IntegerType) → MemoryHasBytes o.memory →
         ((n : ℕ) → n < 256 ^ load_width op → extended_content op (word n) ≡ word (extension t n)) →
-        ComesTo s o d (load_answer (Some t) (load_at o.memory q (load_width op) false)) (runs widest (xs ++ plain_load op d p z) own s o)
+        CodeAnswers s o d (load_answer (Some t) (load_at o.memory q (load_width op) false)) (runs widest (xs ++ plain_load op d p z) own s o)
     number_comes op t bytes extends = plain_comes op false (Some t) extended
       where
         extended : (w : Value) → load_at o.memory q (load_width op) false ≡ Ok w → extended_content op (Plain w) ≡ Plain (extended_value (Some t) w)
@@ -117,7 +117,7 @@ module _ (widest own : ℕ) (s : Temps) (o : Outer) where
     -- and those whose sign is extended by an instruction of its own
     extended_comes : (op : LoadOp) (extend : ExtendOp) (t : IntegerType) →
         ((n : ℕ) → extended_content op (word n) ≡ word n) → ((n : ℕ) → extend_answer extend (word n) ≡ Gives (word (extension t n))) →
-        ComesTo s o d (load_answer (Some t) (load_at o.memory q (load_width op) false)) (runs widest (xs ++ extended_load op extend d p z) own s o)
+        CodeAnswers s o d (load_answer (Some t) (load_at o.memory q (load_width op) false)) (runs widest (xs ++ extended_load op extend d p z) own s o)
     extended_comes op extend t keeps extends = by_result (load_at o.memory q (load_width op) false) refl
       where
         load : TempInsn
@@ -126,23 +126,23 @@ module _ (widest own : ℕ) (s : Temps) (o : Outer) where
         last : TempInsn
         last = Extend extend d (operand.Temp 0)
 
-        of_number : (n : ℕ) → load_at o.memory q (load_width op) false ≡ Ok (Word n) → ComesTo s o d (v.Gives (Word (extension t n))) (runs widest (xs ++ (load ∷ last ∷ [])) own s o)
+        of_number : (n : ℕ) → load_at o.memory q (load_width op) false ≡ Ok (Word n) → CodeAnswers s o d (v.Gives (Word (extension t n))) (runs widest (xs ++ (load ∷ last ∷ [])) own s o)
         of_number n e =
             let k = prepare widest own s o xs c h load (word n) (record { turn = refl; call = refl; written = refl })
             (ap (λ y. writes (content_answer y) o) (content_loaded op false (Word n) e ∙ ap Some (keeps n))) in
-            subst (λ ys. ComesTo s o d (v.Gives (Word (extension t n))) (runs widest ys own s o)) (append_assoc xs (load ∷ []) (last ∷ []))
+            subst (λ ys. CodeAnswers s o d (v.Gives (Word (extension t n))) (runs widest ys own s o)) (append_assoc xs (load ∷ []) (last ∷ []))
             (finish widest own s o (xs ++ load ∷ []) (word n) k last d (extend_answer extend (k.after (Temp 0))) (v.Gives (Word (extension t n)))
             (record { turn = refl; call = refl; written = refl }) refl (ap (extend_answer extend) k.holds ∙ extends n))
 
         by_result : (r : Result Value MemFault) → load_at o.memory q (load_width op) false ≡ r →
-            ComesTo s o d (load_answer (Some t) r) (runs widest (xs ++ (load ∷ last ∷ [])) own s o)
+            CodeAnswers s o d (load_answer (Some t) r) (runs widest (xs ++ (load ∷ last ∷ [])) own s o)
         by_result (Err f) e = tt
         by_result (Ok w) e =
             let k = number_loaded o.memory q (load_width op) w e in
-            subst (λ y. ComesTo s o d (load_answer (Some t) (Ok y)) (runs widest (xs ++ (load ∷ last ∷ [])) own s o)) (sym k.1) (of_number k.0 (e ∙ ap Ok k.1))
+            subst (λ y. CodeAnswers s o d (load_answer (Some t) (Ok y)) (runs widest (xs ++ (load ∷ last ∷ [])) own s o)) (sym k.1) (of_number k.0 (e ∙ ap Ok k.1))
 
-    pub near_comes : (ty : MemoryType) → HasBytes o.memory →
-        ComesTo s o d (load_answer (memory_integer ty) (load_at o.memory q (access_bytes (memory_integer ty)) (is_pointer_access (memory_integer ty))))
+    pub near_comes : (ty : MemoryType) → MemoryHasBytes o.memory →
+        CodeAnswers s o d (load_answer (memory_integer ty) (load_at o.memory q (access_bytes (memory_integer ty)) (is_pointer_access (memory_integer ty))))
         (runs widest (xs ++ near_load ty d p z) own s o)
     near_comes S8 bytes = extended_comes Ldbu Sextb Char (λ n. refl) (λ n. refl)
     near_comes U8 bytes = number_comes Ldbu UnsignedChar bytes (λ n small. ap word (let e : n ≡ n % 2 ^ 8 = omega arith in e))
@@ -160,7 +160,7 @@ pub loads_done : LoadsAreDone
 loads_done widest own d p ty plus s o v of f bytes held = by_pointer (pointer_plus o.memory v plus) refl
   where
     by_fit : (q : Ptr) → pointer_plus o.memory v plus ≡ Some (Address q) → (b : Bool) →
-        ComesTo s o d (load_answer (memory_integer ty) (load_at o.memory q (access_bytes (memory_integer ty)) (is_pointer_access (memory_integer ty))))
+        CodeAnswers s o d (load_answer (memory_integer ty) (load_at o.memory q (access_bytes (memory_integer ty)) (is_pointer_access (memory_integer ty))))
         (runs widest (load_by ty d p plus (if b then Some plus else None)) own s o)
     by_fit q e true =
         near_comes widest own s o [] (s (Temp 0)) (nothing_yet widest own s o) d p plus q
@@ -171,7 +171,7 @@ loads_done widest own d p ty plus s o v of f bytes held = by_pointer (pointer_pl
         (ap (λ c. pointer_at o.memory c (pos 0)) h.holds ∙ ap pointer_in (stays o.memory v plus q e)) ty bytes
 
     by_pointer : (w : Option Value) → pointer_plus o.memory v plus ≡ w →
-        ComesTo s o d (load_through o.memory (memory_integer ty) w) (runs widest (load_items ty d p plus) own s o)
+        CodeAnswers s o d (load_through o.memory (memory_integer ty) w) (runs widest (load_items ty d p plus) own s o)
     by_pointer None e = tt
     by_pointer (Some (Word n)) e = tt
     by_pointer (Some Unset) e = tt

@@ -16,7 +16,7 @@ use Rattle.mem_model.specs.Memory.{Memory, read_fault, unless, row_at, load_at, 
 use Rattle.mem_model.proofs.RowValues.{cells_eq-true, cell_eq-true, pointer_of-null}
 use Rattle.temp_ir.specs.declared.operation.LoadOp.{LoadOp}
 use Rattle.alloc_model.specs.Contents.{Plain, word, content_of, number_or, pointer_or_bundle, load_width, extended_content, content_in, unless_fault}
-use Rattle.alpha_forms.specs.Registers.{AreCells, HasBytes}
+use Rattle.alpha_forms.specs.Registers.{AreCells, MemoryHasBytes}
 
 -- ---- values
 
@@ -121,7 +121,7 @@ number_small (suc w) (Byte b ∷ cells) n h e = by_rest (λ k f. number_small w 
         let byte : b < 256 = h.0 in
         omega (arith, small, is, byte, pow-suc 256 w)
 
-row_small : (m : Memory) (p : Ptr) (w n : ℕ) → HasBytes m → number_of (row_at m p w) ≡ Some n → n < 256 ^ w
+row_small : (m : Memory) (p : Ptr) (w n : ℕ) → MemoryHasBytes m → number_of (row_at m p w) ≡ Some n → n < 256 ^ w
 row_small m p w n h e =
     number_small w (drop (place_of p.offset) (object_at m p.object).cells) n (cells_drop (place_of p.offset) (object_at m p.object).cells (h p.object)) e
 
@@ -135,7 +135,7 @@ word_number cells n = by_number (number_of cells)
     by_number (Some k) e = ap Some (word_same k n (same_Some (Word k) (Word n) e))
     by_number None e = absurd (none-some (Word n) e)
 
-pub loaded_small : (m : Memory) (p : Ptr) (w n : ℕ) → HasBytes m → load_at m p w false ≡ Ok (Word n) → n < 256 ^ w
+pub loaded_small : (m : Memory) (p : Ptr) (w n : ℕ) → MemoryHasBytes m → load_at m p w false ≡ Ok (Word n) → n < 256 ^ w
 unfolding load_at value_or_fault
 loaded_small m p w n h = by_fault (read_fault m p w w)
   where

@@ -26,7 +26,7 @@ use Rattle.alpha_constants.specs.declared.recipe.Recipe.{Recipe}
 use Rattle.alpha_constants.specs.Recipes.{recipe_length}
 use Rattle.alpha_forms.specs.Straight.{runs, PutsContent}
 use Rattle.alpha_forms.specs.Constants.{recipe_items, constant_items}
-use Rattle.alpha_forms.specs.Registers.{IsOfRegister, IsHeld, HasBytes, ComesTo, ComesToMemory}
+use Rattle.alpha_forms.specs.Registers.{IsOfRegister, IsHeldWord, MemoryHasBytes, CodeAnswers, ComesToMemory}
 use Rattle.alpha_forms.specs.Accesses.{load_items, store_items}
 use Rattle.alpha_forms.specs.Operations.{unary_items, binary_items, shift_items, compare_items, branch_op, convert_items}
 
@@ -47,13 +47,13 @@ ConstantsAreShort = (d n : ℕ) → length (constant_items d n) ≤ 5
 abbrev pub ConstantsAreLoaded : Type 0
 ConstantsAreLoaded =
     (widest own d n : ℕ) (ty : VmType) (s : Temps) (o : Outer) → n < 2 ^ 64 →
-    ComesTo s o d (vm.when_value ty (Word n)) (runs widest (constant_items d n) own s o)
+    CodeAnswers s o d (vm.when_value ty (Word n)) (runs widest (constant_items d n) own s o)
 
 -- the address of an object
 abbrev pub AddressesAreLoaded : Type 0
 AddressesAreLoaded =
     (widest own d plus : ℕ) (place : VmObject) (s : Temps) (o : Outer) →
-    ComesTo s o d (Gives (vm.place_address own place plus)) (runs widest (ObjectAddress d place plus ∷ []) own s o)
+    CodeAnswers s o d (Gives (vm.place_address own place plus)) (runs widest (ObjectAddress d place plus ∷ []) own s o)
 
 -- a branch is taken where the value passes the test
 abbrev pub BranchesAreTaken : Type 0
@@ -66,8 +66,8 @@ BranchesAreTaken =
 abbrev pub LoadsAreDone : Type 0
 LoadsAreDone =
     (widest own d p : ℕ) (ty : MemoryType) (plus : ℤ) (s : Temps) (o : Outer) (v : Value) → IsOfRegister p
-    → FitsSigned w64 plus → HasBytes o.memory → s (Temp p) ≡ Plain v →
-    ComesTo s o d (vm.loaded_answer o.memory ty v plus) (runs widest (load_items ty d p plus) own s o)
+    → FitsSigned w64 plus → MemoryHasBytes o.memory → s (Temp p) ≡ Plain v →
+    CodeAnswers s o d (vm.loaded_answer o.memory ty v plus) (runs widest (load_items ty d p plus) own s o)
 
 abbrev pub StoresAreDone : Type 0
 StoresAreDone =
@@ -78,14 +78,14 @@ StoresAreDone =
 -- code for an operation on the value of a register, and on the values of two, comes to what the operation answers
 abbrev pub OneIsDone : (items : (d a : ℕ) → List TempInsn) (answer : Value → Answer) → Type 0
 OneIsDone items answer =
-    (widest own d a : ℕ) (s : Temps) (o : Outer) (v : Value) → IsOfRegister a → IsHeld v → s (Temp a) ≡ Plain v →
-    ComesTo s o d (answer v) (runs widest (items d a) own s o)
+    (widest own d a : ℕ) (s : Temps) (o : Outer) (v : Value) → IsOfRegister a → IsHeldWord v → s (Temp a) ≡ Plain v →
+    CodeAnswers s o d (answer v) (runs widest (items d a) own s o)
 
 abbrev pub TwoAreDone : (items : (d a b : ℕ) → List TempInsn) (answer : Memory → (v w : Value) → Answer) → Type 0
 TwoAreDone items answer =
     (widest own d a b : ℕ) (s : Temps) (o : Outer) (v w : Value) → IsOfRegister a → IsOfRegister b
     → s (Temp a) ≡ Plain v → s (Temp b) ≡ Plain w →
-    ComesTo s o d (answer o.memory v w) (runs widest (items d a b) own s o)
+    CodeAnswers s o d (answer o.memory v w) (runs widest (items d a b) own s o)
 
 -- so it is with each operator, of every type
 abbrev pub UnaryIsDone : VmUnaryOp → Type 0

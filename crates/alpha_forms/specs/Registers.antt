@@ -22,10 +22,10 @@ abbrev pub IsOfRegister : ℕ → Type 0
 IsOfRegister t = scratch_count ≤ t
 
 -- a register holds words of 64 bits
-abbrev pub IsHeld : Value → Type 0
-IsHeld (Word n) = n < 2 ^ 64
-IsHeld (Address p) = Unit {0}
-IsHeld Unset = Unit {0}
+abbrev pub IsHeldWord : Value → Type 0
+IsHeldWord (Word n) = n < 2 ^ 64
+IsHeldWord (Address p) = Unit {0}
+IsHeldWord Unset = Unit {0}
 
 -- the code goes on with a value in a temporary, and what stands for the other registers holds what it held
 pub record PutsValue (s : Temps) (o : Outer) (d : ℕ) (v : Value) (ran : Ran) : Type 0 where
@@ -42,10 +42,10 @@ pub record PutsMemory (s : Temps) (o : Outer) (m : Memory) (ran : Ran) : Type 0 
 
 -- what the answer of an instruction over registers asks of its code: the value in the temporary, or the same trap; and
 -- nothing where it has no meaning
-abbrev pub ComesTo : (s : Temps) (o : Outer) (d : ℕ) → Answer → Ran → Type 0
-ComesTo s o d (vm.Gives v) ran = PutsValue s o d v ran
-ComesTo s o d (vm.TrapsWith code) ran = ran ≡ Halted (Traps code) o
-ComesTo s o d vm.Fails ran = Unit {0}
+abbrev pub CodeAnswers : (s : Temps) (o : Outer) (d : ℕ) → Answer → Ran → Type 0
+CodeAnswers s o d (vm.Gives v) ran = PutsValue s o d v ran
+CodeAnswers s o d (vm.TrapsWith code) ran = ran ≡ Halted (Traps code) o
+CodeAnswers s o d vm.Fails ran = Unit {0}
 
 -- the same of a changed memory
 abbrev pub ComesToMemory : (s : Temps) (o : Outer) → Option Memory → Ran → Type 0
@@ -63,5 +63,5 @@ abbrev pub AreCells : List Cell → Type 0
 AreCells [] = Unit {0}
 AreCells (c ∷ cs) = IsCell c × AreCells cs
 
-abbrev pub HasBytes : Memory → Type 0
-HasBytes m = (k : ℕ) → AreCells (object_at m k).cells
+abbrev pub MemoryHasBytes : Memory → Type 0
+MemoryHasBytes m = (k : ℕ) → AreCells (object_at m k).cells

@@ -7,6 +7,6 @@ use Rattle.alpha_image.specs.ImageFault.{image_fault}
 
 -- the place is where the bytes stop being an image; for want of memory, where memory is short, only bytes are refused
 -- that have no such place
-abbrev pub IsFault : ImageFault → List ℕ → Type 0
-IsFault (BadImage at) bytes = image_fault bytes ≡ Some at
-IsFault NoMemory bytes = (image_fault bytes ≡ None) × MemoryIsShort
+abbrev pub IsImageFault : ImageFault → List ℕ → Type 0
+IsImageFault (BadImage at) bytes = image_fault bytes ≡ Some at
+IsImageFault NoMemory bytes = (image_fault bytes ≡ None) × MemoryIsShort

@@ -8,7 +8,7 @@ ghost use Rattle.alpha_isa.specs.Program.{Program, most_words, most_bytes};
 ghost use Rattle.alpha_isa.specs.ImageFormat.{mark, IsImage, number as number_bytes};
 ghost use Rattle.alpha_image.specs.declared.read.ImageFault.TheVariants.{NoMemory};
 ghost use Rattle.alpha_image.specs.ImageFault as spec;
-ghost use Rattle.alpha_image.specs.ReadImage.{IsFault};
+ghost use Rattle.alpha_image.specs.ReadImage.{IsImageFault};
 ghost use Rattle.alpha_image.specs.ImageFault.{differs_at, number_at, version_of, word_count, byte_count, entry_of, zeros_of, text_offset, due_length, version_part_fault, zeros_fault, header_fault, image_fault};
 
 use crate::write::MARK;
@@ -223,7 +223,7 @@ fn length_fault(bytes: &[u8], header: &Header) -> Option<usize>
 pub fn read_image(alloc: Global, bytes: &[u8]) -> Result<Image, ImageFault>
     ensures found { IfOk result (λ image. IsImage bytes.now image) }
     ensures good { OnOk result (image_fault bytes.now ≡ None) }
-    ensures bad { IfErr result (λ fault. IsFault fault bytes.now) }
+    ensures bad { IfErr result (λ fault. IsImageFault fault bytes.now) }
 {
     let header = match read_header(bytes) {
         Ok(header) => header,

@@ -16,7 +16,7 @@ use Rattle.alpha_isa.specs.declared.insn.JumpOp.{JumpOp}
 use Rattle.alpha_isa.specs.declared.insn.JumpOp.TheVariants.{Jmp, Jsr, Ret}
 use Rattle.alpha_isa.specs.declared.insn.OperateOp.{OperateOp}
 use Rattle.alpha_isa.specs.declared.insn.OperateOp.TheVariants.{Addl, Subl, Cmpult, Addq, S4addq, Subq, Cmpeq, S8addq, Cmpule, AddlV, SublV, Cmplt, AddqV, SubqV, Cmple, And, Bic, Bis, Cmoveq, Cmovne, Ornot, Xor, Eqv, Zapnot, Srl, Sll, Sra, Mull, Mulq, Umulh, MullV, MulqV, Sextb, Sextw}
-use Rattle.alpha_isa.specs.Lawful.{IsLawful, IsOperand, IsDisplacement, IsBranchDisplacement, IsFirstOperand, is_call}
+use Rattle.alpha_isa.specs.Lawful.{AreLawfulFields, IsOperand, IsDisplacement, IsBranchDisplacement, IsFirstOperand, is_call}
 use Rattle.alpha_isa.specs.Codes.{memory_code, branch_code, jump_code, operate_opcode, operate_function, memory_at, branch_at, jump_at, operate_at, memory_ops, branch_ops, jump_ops, operate_ops}
 use Rattle.alpha_isa.specs.Words.{branch_bits, branch_displacement, operand_bits, word_of, opcode_of, ra_of, rb_of, rc_of, operand_at, extends, operation, memory_insn, branch_insn, jump_insn, operate_insn, pal_insn, is_operate, insn_of}
 
@@ -317,7 +317,7 @@ pal_decoded n p = elim (or_cases (eqb n 0x83) (eqb n 0xAA) p) [
 ]
 
 -- the word of a lawful instruction stands for it
-pub word_decoded : (i : Fields) → IsLawful i → insn_of (word_of i) ≡ Some i
+pub word_decoded : (i : Fields) → AreLawfulFields i → insn_of (word_of i) ≡ Some i
 word_decoded (fields.Memory op ra rb disp) l = memory_decoded op (memory_code op) ra rb (cast_unsigned w16 disp) disp refl l.0 l.1 (displacement_small disp l.2) (displacement_again disp l.2)
 word_decoded (fields.Branch op ra disp) l = branch_decoded op (branch_code op) ra (branch_bits disp) disp refl l.0 (branch_small disp l.1) (branch_again disp l.1)
 word_decoded (fields.Jump op ra rb) l = jump_decoded op (jump_code op) ra rb refl (jump_small op) l.0 l.1
@@ -371,7 +371,7 @@ branch_within n true e small = (ltb-true n (2 ^ 20) e, refl)
 branch_within n false e small = let high : 2 ^ 20 ≤ n = ltb-false n (2 ^ 20) e in (omega arith, omega arith)
 
 abbrev Stands : ℕ → Fields → Type 0
-Stands w i = IsLawful i × (word_of i ≡ w)
+Stands w i = AreLawfulFields i × (word_of i ≡ w)
 
 memory_stands : (op : MemoryOp) (w : ℕ) → memory_code op ≡ opcode_of w → Stands w (fields.Memory op (ra_of w) (rb_of w) (cast_signed w16 (w % 2 ^ 16)))
 memory_stands op w e =
@@ -461,7 +461,7 @@ pal_back w i e =
     ]
 
 -- the instruction that a word stands for is lawful, and the word is its word
-pub decoded_word : (w : ℕ) (i : Fields) → insn_of w ≡ Some i → IsLawful i × (word_of i ≡ w)
+pub decoded_word : (w : ℕ) (i : Fields) → insn_of w ≡ Some i → AreLawfulFields i × (word_of i ≡ w)
 unfolding insn_of
 decoded_word w i e =
     let o : ℕ = opcode_of w in

@@ -36,9 +36,9 @@ abbrev pub is_call : ℕ → Bool
 is_call function = (function == 0x83) || (function == 0xAA)
 
 -- each field is in its range
-abbrev pub IsLawful : Fields → Type 0
-IsLawful (fields.Memory op ra rb disp) = IsRegister ra × IsRegister rb × IsDisplacement disp
-IsLawful (fields.Branch op ra disp) = IsRegister ra × IsBranchDisplacement disp
-IsLawful (fields.Jump op ra rb) = IsRegister ra × IsRegister rb
-IsLawful (fields.Operate op ra rb rc) = IsFirstOperand op ra × IsOperand rb × IsRegister rc
-IsLawful (fields.Pal function) = IsTrue (is_call function)
+abbrev pub AreLawfulFields : Fields → Type 0
+AreLawfulFields (fields.Memory op ra rb disp) = IsRegister ra × IsRegister rb × IsDisplacement disp
+AreLawfulFields (fields.Branch op ra disp) = IsRegister ra × IsBranchDisplacement disp
+AreLawfulFields (fields.Jump op ra rb) = IsRegister ra × IsRegister rb
+AreLawfulFields (fields.Operate op ra rb rc) = IsFirstOperand op ra × IsOperand rb × IsRegister rc
+AreLawfulFields (fields.Pal function) = IsTrue (is_call function)

@@ -2,7 +2,7 @@
 
 ghost use Rattle.std.specs.Prelude.{◌≡◌, ◌≢◌, ◌*◌, ◌<◌, ◌^◌, ◌↔◌, IfSome, IsTrue, Some};
 ghost use Rattle.alpha_isa.specs.declared.insn.Fields.{Fields};
-ghost use Rattle.alpha_isa.specs.Lawful.{IsLawful, IsBranchDisplacement};
+ghost use Rattle.alpha_isa.specs.Lawful.{AreLawfulFields, IsBranchDisplacement};
 ghost use Rattle.alpha_isa.specs.Words.{word_of, insn_of, pal_insn, memory_insn, branch_insn, jump_insn, operate_insn, operand_at, branch_displacement, opcode_of, ra_of, rb_of, rc_of, is_operate, extends};
 
 use crate::codes::{branch_op, jump_op, memory_op, operate_op};
@@ -12,7 +12,7 @@ use crate::insn::{Fields, Insn32, Operand, OperateOp};
 /// The instruction that a word stands for. `None` comes exactly where no instruction has that word.
 pub fn decode(word: u32) -> Option<Insn32>
     ensures found { IfSome result (λ i. word_of i ≡ word) }
-    ensures only { (i : Fields) → IsLawful i → word_of i ≡ word → result ≡ Some i }
+    ensures only { (i : Fields) → AreLawfulFields i → word_of i ≡ word → result ≡ Some i }
     ensures exact { result ≡ insn_of word }
 {
     let fields = fields_of(word)?;

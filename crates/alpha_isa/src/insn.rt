@@ -128,13 +128,13 @@ pub struct Insn32 {
 
 impl Model for Insn32 {
     ghost use Rattle.alpha_isa.specs.declared.insn.Fields.{Fields};
-    ghost use Rattle.alpha_isa.specs.Lawful.{IsLawful};
+    ghost use Rattle.alpha_isa.specs.Lawful.{AreLawfulFields};
 
     ghost Value = { Fields };
 
     ghost view = { λ i. i.fields };
 
-    ghost invariant = { λ i. IsLawful i.fields };
+    ghost invariant = { λ i. AreLawfulFields i.fields };
 
     ghost inverse = { λ f. record { fields = f } };
 }

@@ -3,7 +3,7 @@ use Rattle.std.specs.Prelude.{ℕ, ◌≤◌, nat_le, Bool, true, false, IsTrue,
 use Rattle.std.specs.List.{list_all}
 use Rattle.alpha_isa.specs.declared.insn.Fields.{Fields}
 use Rattle.alpha_isa.specs.declared.insn.Fields.TheVariants as fields
-use Rattle.alpha_isa.specs.Lawful.{IsRegister, IsLawful}
+use Rattle.alpha_isa.specs.Lawful.{IsRegister, AreLawfulFields}
 use Rattle.alpha_items.specs.declared.item.AsmItem.{AsmItem}
 use Rattle.alpha_items.specs.declared.item.AsmItem.TheVariants.{Label, Name, Plain, Branch, TextAddress, DataAddress}
 
@@ -46,7 +46,7 @@ is_branch _ = false
 abbrev pub IsItem : ℕ → AsmItem → Type 0
 IsItem size (Label l) = Unit {0}
 IsItem size (Name bytes) = IsTrue (is_name bytes)
-IsItem size (Plain insn) = IsLawful insn × IsTrue (not (is_branch insn))
+IsItem size (Plain insn) = AreLawfulFields insn × IsTrue (not (is_branch insn))
 IsItem size (Branch op ra l) = IsRegister ra
 IsItem size (TextAddress ra l) = IsRegister ra
 IsItem size (DataAddress ra offset) = IsRegister ra × (offset ≤ size)

@@ -6,7 +6,7 @@ use Rattle.alpha_isa.specs.declared.insn.Operand.{Operand}
 use Rattle.alpha_isa.specs.declared.insn.Operand.TheVariants.{Reg, Literal}
 use Rattle.alpha_isa.specs.declared.insn.Fields.{Fields}
 use Rattle.alpha_isa.specs.declared.insn.Fields.TheVariants as fields
-use Rattle.alpha_isa.specs.Lawful.{IsRegister, IsLawful}
+use Rattle.alpha_isa.specs.Lawful.{IsRegister, AreLawfulFields}
 use Rattle.alpha_isa.specs.Words.{extends}
 use Rattle.alpha_items.specs.declared.item.AsmItem.{AsmItem}
 use Rattle.alpha_items.specs.declared.item.AsmItem.TheVariants.{Label, Name, Plain, Branch, TextAddress, DataAddress}
@@ -88,7 +88,7 @@ fix_line fix = statement (codes ".fix") (decimal fix.at ++ 32 ∷ decimal fix.of
 abbrev pub HasLine : AsmItem → Type 0
 HasLine (Label l) = l < 2 ^ 32
 HasLine (Name name) = IsTrue (is_name name)
-HasLine (Plain insn) = IsLawful insn × IsTrue (not (is_branch insn))
+HasLine (Plain insn) = AreLawfulFields insn × IsTrue (not (is_branch insn))
 HasLine (Branch op ra l) = IsRegister ra × (l < 2 ^ 32)
 HasLine (TextAddress ra l) = IsRegister ra × (l < 2 ^ 32)
 HasLine (DataAddress ra offset) = IsRegister ra × (offset < 2 ^ 32)

@@ -2,7 +2,7 @@
 
 ghost use Rattle.std.specs.Prelude.{◌≡◌, ℕ, List, IfOk, IfSome, Some, None, if◌then◌else◌, Bool, false, IsTrue, option_map, OnOk};
 ghost use Rattle.std.specs.List.{list_all};
-ghost use Rattle.alpha_isa.specs.Lawful.{IsLawful};
+ghost use Rattle.alpha_isa.specs.Lawful.{AreLawfulFields};
 ghost use Rattle.alpha_isa.specs.Words.{extends};
 ghost use Rattle.alpha_items.specs.Items as items;
 ghost use Rattle.alpha_items.specs.declared.item.AsmItem.{AsmItem as Item};

@@ -10,7 +10,7 @@ use Rattle.alpha_isa.specs.declared.insn.Operand.{Operand}
 use Rattle.alpha_isa.specs.declared.insn.Operand.TheVariants.{Reg, Literal}
 use Rattle.alpha_isa.specs.declared.insn.OperateOp.{OperateOp}
 use Rattle.alpha_isa.specs.declared.insn.OperateOp.TheVariants.{Sextb, Sextw}
-use Rattle.alpha_isa.specs.Lawful.{IsLawful, IsFirstOperand, is_call}
+use Rattle.alpha_isa.specs.Lawful.{AreLawfulFields, IsFirstOperand, is_call}
 use Rattle.alpha_isa.specs.Words.{word_of, insn_of, extends}
 use Rattle.alpha_isa.specs.Program.{word_address}
 use Rattle.alpha_rt.specs.Code.{code}
@@ -37,7 +37,7 @@ first_operand Sextb ra e h = let impossible : ⊥ = cc in absurd impossible
 first_operand Sextw ra e h = let impossible : ⊥ = cc in absurd impossible
 first_operand _ ra e h = h
 
-lawful : (i : Fields) → has_word i ≡ true → IsLawful i
+lawful : (i : Fields) → has_word i ≡ true → AreLawfulFields i
 lawful (Memory op ra rb (pos n)) e =
     let a = and_parts (ltb ra 32) (ltb rb 32 && ltb n (2 ^ 15)) e in
     let b = and_parts (ltb rb 32) (ltb n (2 ^ 15)) a.1 in

@@ -9,7 +9,7 @@ use Rattle.alpha_isa.specs.Program.{Program}
 use Rattle.alpha_isa.specs.State.{State}
 use Rattle.alpha_rt.specs.Routine.{Routine, Answers, Traps, Divlu, Remlu}
 use Rattle.alpha_rt.specs.Code.{low_numbers, long_quotient, long_remainder}
-use Rattle.alpha_rt.specs.Calls.{IsCall, Does, Divides}
+use Rattle.alpha_rt.specs.Calls.{IsCall, RoutineDoes, Divides}
 use Rattle.alpha_rt.proofs.Runs.{at, after}
 use Rattle.alpha_rt.proofs.Registers.{RegisterFile, listed}
 use Rattle.alpha_rt.proofs.Routines.{Parts}
@@ -56,9 +56,9 @@ remlu_parts p word s a x call = record {
 }
 
 -- the low bits of the divisor are zero where it is
-long_does : (r : Routine) (p : Program) (word : ℕ) (s : State) (a : ℕ) (x : RegisterFile) (answer : ℕ) → IsCall p word r (at s a (listed x)) → sign_extension w32 x.r25 ≡ x.r25 → Parts r p s a x (x.r24 % 2 ^ 32) (x.r25 % 2 ^ 32) answer → Does p (at s a (listed x)) (cond (eqb x.r25 0) (Traps 1) (Answers answer))
+long_does : (r : Routine) (p : Program) (word : ℕ) (s : State) (a : ℕ) (x : RegisterFile) (answer : ℕ) → IsCall p word r (at s a (listed x)) → sign_extension w32 x.r25 ≡ x.r25 → Parts r p s a x (x.r24 % 2 ^ 32) (x.r25 % 2 ^ 32) answer → RoutineDoes p (at s a (listed x)) (cond (eqb x.r25 0) (Traps 1) (Answers answer))
 long_does r p word s a x answer call extended parts =
-    subst (λ b. Does p (at s a (listed x)) (cond b (Traps 1) (Answers answer))) (zero_alike x.r25 extended (call.words 25))
+    subst (λ b. RoutineDoes p (at s a (listed x)) (cond b (Traps 1) (Answers answer))) (zero_alike x.r25 extended (call.words 25))
     (by_divisor r p word s a x (x.r24 % 2 ^ 32) (x.r25 % 2 ^ 32) answer call parts (eqb (x.r25 % 2 ^ 32) 0) refl)
 
 pub divlu_divides : Divides Divlu

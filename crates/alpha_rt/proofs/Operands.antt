@@ -7,7 +7,7 @@ use Rattle.std.proofs.lemmas.Bool.{eqb-true, eqb-false, ltb-true, ltb-false, eq-
 use Rattle.std.proofs.lemmas.Nat.{div_below}
 use Rattle.alpha_isa.proofs.Arithmetic.{sign_extended-again, signed-word_from}
 use Rattle.alpha_isa.specs.Arithmetic.{word_from, signed_value, sign_extension}
-use Rattle.alpha_rt.specs.Routine.{Routine, Answers, Traps, Divq, Remq, Divqu, Remqu, Divl, Reml, Divlu, Remlu, IsOperand, outcome, is_least_by_minus_one}
+use Rattle.alpha_rt.specs.Routine.{Routine, Answers, Traps, Divq, Remq, Divqu, Remqu, Divl, Reml, Divlu, Remlu, IsRoutineOperand, outcome, is_least_by_minus_one}
 use Rattle.alpha_rt.proofs.Signed.{strictly_from}
 
 -- an answer comes only where nothing traps
@@ -105,7 +105,7 @@ remainder_extended a b word e =
     let fits : FitsSigned w32 z = remainder_fits (a % 2 ^ 32) (signed_value w32 b) (ltb (a % 2 ^ 32) (2 ^ 31)) refl (omega arith) in
     subst (λ k. sign_extension w32 k ≡ k) found.same (extended z fits)
 
-pub answers_operand : (r : Routine) (a b word : ℕ) → IsOperand r a → IsOperand r b → outcome r a b ≡ Answers word → IsOperand r word
+pub answers_operand : (r : Routine) (a b word : ℕ) → IsRoutineOperand r a → IsRoutineOperand r b → outcome r a b ≡ Answers word → IsRoutineOperand r word
 answers_operand Divq a b word x y e = refl
 answers_operand Remq a b word x y e = refl
 answers_operand Divqu a b word x y e = refl

@@ -13,7 +13,7 @@ use Rattle.alpha_isa.specs.State.{State}
 use Rattle.alpha_isa.specs.Step.{Goes}
 use Rattle.alpha_rt.specs.Routine.{Routine, Divq, Remq, Divqu, Remqu, Divl, Reml, Divlu, Remlu}
 use Rattle.alpha_rt.specs.Code.{prologue, epilogue, common, test_of, operands_of, answer_of, entry, opening, call_place, exit_place, routine_code, code}
-use Rattle.alpha_rt.specs.Calls.{StandsAt, IsCall, Returns, TrapsWith}
+use Rattle.alpha_rt.specs.Calls.{RoutinesStandAt, IsCall, Returns, TrapsWith}
 use Rattle.alpha_rt.proofs.Runs.{Reaches, then_reaches, at_most, one_reaches, Placed, placed_from, front, behind, at, after, straight_reaches}
 use Rattle.alpha_rt.proofs.Registers.{RegisterFile, listed}
 use Rattle.alpha_rt.proofs.Common.{Divided, common_divides, Ends, then_ends, common_traps}
@@ -76,7 +76,7 @@ got_below [] i f e = let clash : ⊥ = cc in absurd clash
 got_below (w ∷ ws) zero f e = omega arith
 got_below (w ∷ ws) (suc i) f e = omega (arith, got_below ws i f e)
 
-code_fits : (p : Program) (word : ℕ) → IsLawful p → StandsAt p word → word + 156 ≤ 2 ^ 28
+code_fits : (p : Program) (word : ℕ) → IsLawful p → RoutinesStandAt p word → word + 156 ≤ 2 ^ 28
 code_fits p word lawful h =
     let pc : ℕ = word_address (word + 155) in
     let found : Option Fields = option_and_then insn_of (slice_get p.words ((pc - 65536) / 4)) in
@@ -98,7 +98,7 @@ record Site (p : Program) (r : Routine) (a common_at epilogue_at : ℕ) : Type 0
   common_low : common_at < 2 ^ 40
   epilogue_low : epilogue_at < 2 ^ 40
 
-site_of : (r : Routine) (p : Program) (word a : ℕ) → IsLawful p → StandsAt p word → a ≡ word_address (word + entry r) → Site p r a (word_address word + 444) (word_address word + 604)
+site_of : (r : Routine) (p : Program) (word a : ℕ) → IsLawful p → RoutinesStandAt p word → a ≡ word_address (word + entry r) → Site p r a (word_address word + 444) (word_address word + 604)
 site_of r p word a lawful h e =
     let h1 : Placed p (word_address word) code = placed_from p code word h in
     let here : word_address word + 4 * entry r ≡ a = omega arith in
@@ -116,7 +116,7 @@ site_of r p word a lawful h e =
     }
 
 -- the test that a routine begins with, at an address from which no later one wraps
-pub test_at : (r : Routine) (p : Program) (word a : ℕ) → IsLawful p → StandsAt p word → a ≡ word_address (word + entry r) → Placed p a (test_of r) × (a < 2 ^ 40)
+pub test_at : (r : Routine) (p : Program) (word a : ℕ) → IsLawful p → RoutinesStandAt p word → a ≡ word_address (word + entry r) → Placed p a (test_of r) × (a < 2 ^ 40)
 test_at r p word a lawful h e =
     let site : Site p r a (word_address word + 444) (word_address word + 604) = site_of r p word a lawful h e in
     let behind_opening : List Fields = Branch Bsr 4 (pos (111 - (call_place r + 1))) ∷ (answer_of r ++ Branch Br 31 (pos (151 - (exit_place r + 1))) ∷ []) in

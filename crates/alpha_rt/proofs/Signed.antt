@@ -20,7 +20,7 @@ use Rattle.alpha_isa.specs.State.{State}
 use Rattle.alpha_isa.specs.Step.{operate_step, go_on, exec, step, fetched_step}
 use Rattle.alpha_rt.specs.Routine.{Routine, Answers, Traps, Divq, Remq, Divl, Reml, signed_outcome, is_least_by_minus_one}
 use Rattle.alpha_rt.specs.Code.{least_test, magnitude, magnitudes, signed_quotient, signed_remainder}
-use Rattle.alpha_rt.specs.Calls.{IsCall, Does, Divides, TrapsWith}
+use Rattle.alpha_rt.specs.Calls.{IsCall, RoutineDoes, Divides, TrapsWith}
 use Rattle.alpha_rt.proofs.Runs.{Reaches, then_reaches, at_most, Placed, at, after, effect_on, straight_reaches, taken, passed}
 use Rattle.alpha_rt.proofs.Registers.{RegisterFile, listed}
 use Rattle.alpha_rt.proofs.Common.{Ends, then_ends}
@@ -299,23 +299,23 @@ record SignedParts (r : Routine) (op : OperateOp) (w : Width) (operation : ℤ �
   answer_is : answer ≡ word_from (operation (signed_value w x.r24) (signed_value w x.r25))
 
 signed_by : (r : Routine) (op : OperateOp) (w : Width) (operation : ℤ → ℤ → ℤ) (p : Program) (word : ℕ) (s : State) (a : ℕ) (x : RegisterFile) → IsCall p word r (at s a (listed x)) → SignedParts r op w operation p s a x → (l : Bool) → is_least_by_minus_one w x.r24 x.r25 ≡ l →
-    Does p (at s a (listed x)) (cond (eqb x.r25 0) (Traps 1) (cond l (Traps 3) (Answers (word_from (operation (signed_value w x.r24) (signed_value w x.r25))))))
+    RoutineDoes p (at s a (listed x)) (cond (eqb x.r25 0) (Traps 1) (cond l (Traps 3) (Answers (word_from (operation (signed_value w x.r24) (signed_value w x.r25))))))
 signed_by r op w operation p word s a x call q true e =
     let both = and_parts (eqb x.r24 (2 ^ 64 - 2 ^ hbits w)) (eqb x.r25 (2 ^ 64 - 1)) e in
     let minus : x.r25 ≡ 2 ^ 64 - 1 = eqb-true x.r25 (2 ^ 64 - 1) both.1 in
     let least : x.r24 ≡ 2 ^ 64 - 2 ^ hbits w = eqb-true x.r24 (2 ^ 64 - 2 ^ hbits w) both.0 in
     let some : eqb x.r25 0 ≡ false = ne_eqb x.r25 0 (λ z. absurd (omega arith)) in
-    subst (λ b. Does p (at s a (listed x)) (cond b (Traps 1) (Traps 3))) (sym some) (least_traps op p s a x q.placed minus (q.negation.overflows least))
+    subst (λ b. RoutineDoes p (at s a (listed x)) (cond b (Traps 1) (Traps 3))) (sym some) (least_traps op p s a x q.placed minus (q.negation.overflows least))
 signed_by r op w operation p word s a x call q false e =
     let passes : Passes p s a x = passes_by op w p s a x q.placed q.room q.divisor_word q.negation e (eqb x.r25 (2 ^ 64 - 1)) refl in
     let d : ℕ = size_of (is_negative x.r25) x.r25 in
     let sign : HasSign x.r25 (is_negative x.r25) = sign_of x.r25 q.divisor_word in
-    subst (λ b. Does p (at s a (listed x)) (cond b (Traps 1) (Answers (word_from (operation (signed_value w x.r24) (signed_value w x.r25)))))) sign.zero_alike
-    (subst (λ n. Does p (at s a (listed x)) (cond (eqb d 0) (Traps 1) (Answers n))) q.answer_is
+    subst (λ b. RoutineDoes p (at s a (listed x)) (cond b (Traps 1) (Answers (word_from (operation (signed_value w x.r24) (signed_value w x.r25)))))) sign.zero_alike
+    (subst (λ n. RoutineDoes p (at s a (listed x)) (cond (eqb d 0) (Traps 1) (Answers n))) q.answer_is
     (by_divisor r p word s a x (size_of (is_negative x.r24) x.r24) d q.answer call (q.parts passes) (eqb d 0) refl))
 
 signed_does : (r : Routine) (op : OperateOp) (w : Width) (operation : ℤ → ℤ → ℤ) (p : Program) (word : ℕ) (s : State) (a : ℕ) (x : RegisterFile) → IsCall p word r (at s a (listed x)) → SignedParts r op w operation p s a x →
-    Does p (at s a (listed x)) (signed_outcome w operation x.r24 x.r25)
+    RoutineDoes p (at s a (listed x)) (signed_outcome w operation x.r24 x.r25)
 signed_does r op w operation p word s a x call q = signed_by r op w operation p word s a x call q (is_least_by_minus_one w x.r24 x.r25) refl
 
 -- what is answered, by the signs

@@ -4,17 +4,18 @@ use Rattle.alpha_isa.specs.Words.{word_of}
 use Rattle.alpha_isa.specs.Program.{Program, IsLawful, data_start, stack_start, word_address, instruction_at}
 use Rattle.alpha_isa.specs.State.{State, register, with_part}
 use Rattle.alpha_isa.specs.Step.{Goes, Over, Trap, exec}
-use Rattle.alpha_rt.specs.Routine.{Routine, RoutineEnding, Answers, Traps, IsOperand, outcome}
+use Rattle.alpha_rt.specs.Routine.{Routine, RoutineEnding, Answers, Traps, IsRoutineOperand, outcome}
 use Rattle.alpha_rt.specs.Code.{entry, code}
 
 -- the routines stand in the text from a word on
-abbrev pub StandsAt : Program → ℕ → Type 0
-StandsAt p word = (i : ℕ) → i < length code → instruction_at p (word_address (word + i)) ≡ slice_get code i
+abbrev pub RoutinesStandAt : Program → ℕ → Type 0
+RoutinesStandAt p word = (i : ℕ) → i < length code → instruction_at p (word_address (word + i)) ≡ slice_get code i
 
 -- a text that has the words of the code has the code there, whatever stands before and behind
 abbrev pub CodeStands : Type 0
 CodeStands =
-    (p : Program) (front back : List ℕ) → p.words ≡ front ++ (map word_of code ++ back) → StandsAt p (length front)
+    (p : Program) (front back : List ℕ) → p.words ≡ front ++ (map word_of code ++ back) →
+    RoutinesStandAt p (length front)
 
 -- how many bytes below the stack's top a routine may write, and how many steps it may take
 abbrev pub scratch_size : ℕ
@@ -26,7 +27,7 @@ most_steps = 599
 -- the machine stands at the entry of a routine, whose code is in the text from a word on
 pub record IsCall (p : Program) (word : ℕ) (r : Routine) (s : State) : Type 0 where
   pub lawful : IsLawful p
-  pub code_stands : StandsAt p word
+  pub code_stands : RoutinesStandAt p word
   pub at_entry : s.pc ≡ word_address (word + entry r)
   pub registers : length s.registers ≡ 32
   pub words : (n : ℕ) → register s n < 2 ^ 64
@@ -35,8 +36,8 @@ pub record IsCall (p : Program) (word : ℕ) (r : Routine) (s : State) : Type 0 
   pub room : stack_start p + scratch_size ≤ register s 30
   pub within : register s 30 ≤ stack_start p + length s.stack_bytes
   pub aligned : register s 30 % 16 ≡ 0
-  pub dividend : IsOperand r (register s 24)
-  pub divisor : IsOperand r (register s 25)
+  pub dividend : IsRoutineOperand r (register s 24)
+  pub divisor : IsRoutineOperand r (register s 25)
 
 -- the state behind a routine: only registers 27 and 28, the place and the scratch bytes have changed
 abbrev pub state_behind : Program → State → ℕ → ℕ → List ℕ → State
@@ -64,12 +65,12 @@ pub record TrapsWith (p : Program) (s : State) (code : ℕ) : Type 0 where
   pub input : last.input ≡ s.input
   pub output : last.output ≡ s.output
 
-abbrev pub Does : Program → State → RoutineEnding → Type 0
-Does p s (Answers word) = Returns p s word
-Does p s (Traps code) = TrapsWith p s code
+abbrev pub RoutineDoes : Program → State → RoutineEnding → Type 0
+RoutineDoes p s (Answers word) = Returns p s word
+RoutineDoes p s (Traps code) = TrapsWith p s code
 
 -- a call does what its routine makes of the words in registers 24 and 25
 abbrev pub Divides : Routine → Type 0
 Divides r =
     (p : Program) (word : ℕ) (s : State) →
-    IsCall p word r s → Does p s (outcome r (register s 24) (register s 25))
+    IsCall p word r s → RoutineDoes p s (outcome r (register s 24) (register s 25))

@@ -55,9 +55,9 @@ outcome Divlu a b = long_outcome ◌/◌ a b
 outcome Remlu a b = long_outcome ◌%◌ a b
 
 -- the words that a routine takes: those of 32 bits have their sign bit in all bits above
-abbrev pub IsOperand : Routine → ℕ → Type 0
-IsOperand Divl a = sign_extension w32 a ≡ a
-IsOperand Reml a = sign_extension w32 a ≡ a
-IsOperand Divlu a = sign_extension w32 a ≡ a
-IsOperand Remlu a = sign_extension w32 a ≡ a
-IsOperand _ a = a ≡ a
+abbrev pub IsRoutineOperand : Routine → ℕ → Type 0
+IsRoutineOperand Divl a = sign_extension w32 a ≡ a
+IsRoutineOperand Reml a = sign_extension w32 a ≡ a
+IsRoutineOperand Divlu a = sign_extension w32 a ≡ a
+IsRoutineOperand Remlu a = sign_extension w32 a ≡ a
+IsRoutineOperand _ a = a ≡ a

@@ -1,7 +1,7 @@
 //! The items of the routines.
 
 ghost use Rattle.std.specs.Prelude.{◌≡◌, ◌<◌, [], ◌∷◌, ℕ, IfOk, OnOk};
-ghost use Rattle.alpha_isa.specs.Lawful.{IsLawful, IsFirstOperand};
+ghost use Rattle.alpha_isa.specs.Lawful.{AreLawfulFields, IsFirstOperand};
 ghost use Rattle.alpha_isa.specs.declared.insn.BranchOp.TheVariants.{Br};
 ghost use Rattle.alpha_isa.specs.declared.insn.Fields.TheVariants as fields;
 ghost use Rattle.alpha_items.specs.declared.item.AsmItem.TheVariants as item;
@@ -336,21 +336,21 @@ fn leave() -> AsmItem
 }
 
 fn plain(fields: Fields) -> AsmItem
-    requires { IsLawful fields }
+    requires { AreLawfulFields fields }
     ensures { result ≡ item.Plain fields }
 {
     AsmItem::Plain(Insn32 { fields })
 }
 
 fn operate(op: OperateOp, ra: u8, rb: Operand, rc: u8) -> AsmItem
-    requires { IsLawful (fields.Operate op ra rb rc) }
+    requires { AreLawfulFields (fields.Operate op ra rb rc) }
     ensures { result ≡ item.Plain (fields.Operate op ra rb rc) }
 {
     plain(Fields::Operate { op, ra, rb, rc })
 }
 
 fn memory(op: MemoryOp, ra: u8, rb: u8, disp: i16) -> AsmItem
-    requires { IsLawful (fields.Memory op ra rb disp) }
+    requires { AreLawfulFields (fields.Memory op ra rb disp) }
     ensures { result ≡ item.Plain (fields.Memory op ra rb disp) }
 {
     plain(Fields::Memory { op, ra, rb, disp })

@@ -6,7 +6,7 @@ use Rattle.alpha_isa.specs.Program.{Program, data_size, text_start, data_start, 
 use Rattle.alpha_isa.specs.State.{State}
 use Rattle.alpha_isa.specs.Step.{MachineNext, Goes, Over, next_instruction, step, exec}
 use Rattle.alpha_isa.specs.Step as step
-use Rattle.bk_io.specs.Outside.{next_count, count_end}
+use Rattle.bk_io.specs.Outside.{next_count, count_end, Traffic, count_plus}
 use Rattle.alpha_run.specs.declared.ending.Ending.{Ending}
 use Rattle.alpha_run.specs.declared.ending.Ending.TheVariants as ending
 use Rattle.alpha_run.specs.declared.ending.Halt.{Halt}
@@ -16,15 +16,15 @@ use Rattle.alpha_run.specs.Ending.{halt_is, ending_of}
 use Rattle.alpha_run.specs.Snapshot.{Snapshot, snapshot_state}
 use Rattle.alpha_run.specs.Snapshot as snapshot
 use Rattle.alpha_run.specs.model.ProcessorState.{processor_state, IsProcessorOf}
-use Rattle.alpha_run.specs.Inside.{snapshot_of, IsSound}
+use Rattle.alpha_run.specs.Inside.{snapshot_of, InsideIsSound}
 use Rattle.alpha_run.specs.model.Turns.{with_taken}
 use Rattle.alpha_run.specs.Services.{asks}
 use Rattle.alpha_run.specs.model.Stop.{stops_early}
-use Rattle.alpha_run.specs.Run.{count_plus, last_step, input_calls, halt_of, StopsAt, snapshot_after, Traffic, IsRun}
+use Rattle.alpha_run.specs.Run.{last_step, input_calls, halt_of, StopsAt, snapshot_after, IsRun}
 use Rattle.alpha_run.proofs.Runs.{exec_one, exec_none, steps_one-goes, steps_one-over, steps_none, takes_one-no, takes_one-yes, takes_none, ran_from, counted_none, taken_none}
 
 -- a machine that runs a program has its text, and its memory lies where the program's does
-pub processor_runs : (p : Program) (m : Inside) (v : Snapshot) → snapshot_of m ≡ v → IsSound m → snapshot.IsMachineOf p v → IsProcessorOf p m.processor
+pub processor_runs : (p : Program) (m : Inside) (v : Snapshot) → snapshot_of m ≡ v → InsideIsSound m → snapshot.IsMachineOf p v → IsProcessorOf p m.processor
 processor_runs p m v is sound r =
     let text : m.processor.text.items ≡ map insn_of p.words = ap (λ u. u.text) is ∙ r.text in
     let size : length m.processor.memory.data.items ≡ data_size p = ap (λ u. length u.data_bytes) is ∙ r.size in

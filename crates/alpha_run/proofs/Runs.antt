@@ -8,13 +8,13 @@ use Rattle.alpha_isa.specs.Step as step
 use Rattle.alpha_isa.specs.Behave.{start, behaviour}
 use Rattle.alpha_isa.specs.Behave as behave
 use Rattle.alpha_isa.proofs.Runs.{exec_split}
-use Rattle.bk_io.specs.Outside.{next_count}
+use Rattle.bk_io.specs.Outside.{next_count, Traffic, count_plus}
 use Rattle.alpha_run.specs.declared.ending.Ending.{Ending}
 use Rattle.alpha_run.specs.declared.ending.Ending.TheVariants.{Done, Trap, Stuck, Budget, InputFault, WriteFault}
 use Rattle.alpha_run.specs.Snapshot.{Snapshot, snapshot_state, first_snapshot, IsMachineOf}
 use Rattle.alpha_run.specs.Services.{asks}
 use Rattle.alpha_run.specs.model.Stop.{stops_early}
-use Rattle.alpha_run.specs.Run.{count_plus, last_step, steps_then, steps_in, takes_then, takes_in, input_calls, StopsAt, snapshot_after, Traffic, IsRun, Gives, MachineBehaves}
+use Rattle.alpha_run.specs.Run.{last_step, steps_then, steps_in, takes_then, takes_in, input_calls, StopsAt, snapshot_after, IsRun, ImageGives, MachineBehaves}
 
 -- ---- one step
 
@@ -236,7 +236,7 @@ ran_turn p k e s old mid new told between after r turn runs =
     ran_on p k e s old mid new told between after r (subst (λ u. IsRun p 1 e u mid new between after) here (turn t.input t.output runs none r.left))
 
 -- a run from the start is the behaviour of the image
-pub ran_gives : (p : Program) (stack : ℕ) (input : List ℕ) (n : ℕ) (e : Ending) (old new : Snapshot) (told after : Traffic) → (r : IsRun p n e (start p stack input) old new told after) → Gives p stack input n e r.put
+pub ran_gives : (p : Program) (stack : ℕ) (input : List ℕ) (n : ℕ) (e : Ending) (old new : Snapshot) (told after : Traffic) → (r : IsRun p n e (start p stack input) old new told after) → ImageGives p stack input n e r.put
 ran_gives p stack input n (Done status) old new told after r = ap behaviour r.stops.1 ∙ ap (λ o. behave.Done o status) r.puts
 ran_gives p stack input n (Trap code) old new told after r = ap behaviour r.stops.1 ∙ ap (λ o. behave.Trap o code) r.puts
 ran_gives p stack input n (Stuck pc) old new told after r = ap behaviour r.stops.1 ∙ ap (λ o. behave.Stuck o pc) r.puts
@@ -255,7 +255,7 @@ ran_behaves p stack input n e old new told after same r =
       tried = s.tried;
       place = s.place;
       stops = s.stops;
-      gives = subst (λ o. Gives p stack input n e o) (sym s.puts) (ran_gives p stack input n e old new told after s);
+      gives = subst (λ o. ImageGives p stack input n e o) (sym s.puts) (ran_gives p stack input n e old new told after s);
       left = s.left;
       made = s.made;
       taken = s.taken ∙ ap (λ o. option_map (λ bytes. bytes ++ o) told.taken) (sym s.puts);

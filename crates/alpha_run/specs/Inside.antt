@@ -18,7 +18,7 @@ snapshot_of m = record {
 }
 
 -- the text keeps its limit, and the memory lies where the text and the data put it
-pub record IsSound (m : Inside) : Type 0 where
+pub record InsideIsSound (m : Inside) : Type 0 where
   pub short : length m.processor.text.items ≤ most_words
   pub data_start : m.processor.memory.data_start ≡ next_part (text_start + 4 * length m.processor.text.items)
   pub stack_start : m.processor.memory.stack_start

@@ -6,18 +6,13 @@ use Rattle.alpha_isa.specs.Step.{Halt, MachineNext, Goes, Over, step, exec}
 use Rattle.alpha_isa.specs.Step as step
 use Rattle.alpha_isa.specs.Behave.{behave_a, start}
 use Rattle.alpha_isa.specs.Behave as behave
-use Rattle.bk_io.specs.Outside.{next_count}
+use Rattle.bk_io.specs.Outside.{next_count, count_plus, Traffic}
 use Rattle.alpha_run.specs.declared.ending.Ending.{Ending}
 use Rattle.alpha_run.specs.declared.ending.Ending.TheVariants.{Done, Trap, Stuck, Budget, InputFault, WriteFault}
 use Rattle.alpha_run.specs.Snapshot.{Snapshot}
 use Rattle.alpha_run.specs.Services.{asks}
 
 -- ---- counts
-
--- n more on a count, which stays at its end
-abbrev pub count_plus : ℕ → ℕ → ℕ
-count_plus zero count = count
-count_plus (suc n) count = next_count (count_plus n count)
 
 -- how many of the first n steps are done: all that were begun but one that is stuck
 abbrev pub last_step : Halt → ℕ
@@ -86,12 +81,6 @@ snapshot_after m t steps written e = record m {
   halt = halt_of e;
 }
 
--- what the input and the output tell before and after a run
-pub record Traffic : Type 0 where
-  pub left : Option (List ℕ)
-  pub made : Option ℕ
-  pub taken : Option (List ℕ)
-
 -- a run of n steps from the state s: where it stopped, and what it did to the machine, the input and the output
 pub record IsRun (p : Program) (n : ℕ) (e : Ending) (s : State) (old new : Snapshot)
     (told after : Traffic) : Type 0 where
@@ -109,12 +98,12 @@ pub record IsRun (p : Program) (n : ℕ) (e : Ending) (s : State) (old new : Sna
 
 -- what an image does in n steps, by the ending of a run and the bytes that it put: where the outside failed,
 -- it goes on after fewer steps
-abbrev pub Gives : Program → ℕ → List ℕ → ℕ → Ending → List ℕ → Type 0
-Gives p stack input n (Done status) put = behave_a p stack input n ≡ behave.Done put status
-Gives p stack input n (Trap code) put = behave_a p stack input n ≡ behave.Trap put code
-Gives p stack input n (Stuck pc) put = behave_a p stack input n ≡ behave.Stuck put pc
-Gives p stack input n Budget put = behave_a p stack input n ≡ behave.More put
-Gives p stack input n _ put = (k : ℕ) × (k < n) × (behave_a p stack input k ≡ behave.More put)
+abbrev pub ImageGives : Program → ℕ → List ℕ → ℕ → Ending → List ℕ → Type 0
+ImageGives p stack input n (Done status) put = behave_a p stack input n ≡ behave.Done put status
+ImageGives p stack input n (Trap code) put = behave_a p stack input n ≡ behave.Trap put code
+ImageGives p stack input n (Stuck pc) put = behave_a p stack input n ≡ behave.Stuck put pc
+ImageGives p stack input n Budget put = behave_a p stack input n ≡ behave.More put
+ImageGives p stack input n _ put = (k : ℕ) × (k < n) × (behave_a p stack input k ≡ behave.More put)
 
 -- A run of n steps from the start of an image: where it stopped, and what it did to the input and the output. Where
 -- the outside failed, it stood at the service that the outside failed at.
@@ -123,7 +112,7 @@ pub record MachineBehaves (p : Program) (stack : ℕ) (input : List ℕ) (n : �
   pub tried : ℕ
   pub place : State
   pub stops : StopsAt p n (start p stack input) e tried place
-  pub gives : Gives p stack input n e place.output
+  pub gives : ImageGives p stack input n e place.output
   pub left : after.left ≡ Some place.input
   pub made : after.made ≡ option_map (count_plus (input_calls e (takes_in p tried (start p stack input)))) before.made
   pub taken : after.taken ≡ option_map (λ bytes. bytes ++ place.output) before.taken

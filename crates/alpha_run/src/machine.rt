@@ -35,11 +35,11 @@ impl Model for Machine {
 
     ghost Value = { Snapshot };
 
-    ghost use Rattle.alpha_run.specs.Inside.{snapshot_of, IsSound};
+    ghost use Rattle.alpha_run.specs.Inside.{snapshot_of, InsideIsSound};
 
     ghost view = { snapshot_of };
 
-    ghost invariant = { IsSound };
+    ghost invariant = { InsideIsSound };
 }
 
 /// The first multiple of 65,536 that is not below an address.
@@ -73,7 +73,8 @@ impl Machine {
     ghost use Rattle.alpha_run.specs.Snapshot.{first_snapshot, snapshot_state, IsMachineOf};
     ghost use Rattle.alpha_run.specs.Ending.{ending_of};
     ghost use Rattle.alpha_run.specs.model.Stop.{stops_early};
-    ghost use Rattle.alpha_run.specs.Run.{IsRun, Traffic, MachineBehaves, halt_of, input_faults_after, output_faults_after};
+    ghost use Rattle.alpha_run.specs.Run.{IsRun, MachineBehaves, halt_of, input_faults_after, output_faults_after};
+    ghost use Rattle.bk_io.specs.Outside.{Traffic};
 
     /// A machine with an image in it, and a stack of so many bytes, from 4,096 to 268,435,456 of them
     /// and a multiple of 16. It takes all the memory that its runs need.

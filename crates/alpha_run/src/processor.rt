@@ -7,7 +7,7 @@ ghost use Rattle.alpha_isa.specs.Arithmetic.{word_at, word_from};
 ghost use Rattle.alpha_isa.specs.Step.{is_taken};
 ghost use Rattle.alpha_run.specs.model.TakenWord.{taken_word};
 ghost use Rattle.alpha_isa.specs.Step as step;
-ghost use Rattle.alpha_isa.specs.Lawful.{IsLawful, IsRegister, IsOperand};
+ghost use Rattle.alpha_isa.specs.Lawful.{AreLawfulFields, IsRegister, IsOperand};
 
 use crate::arithmetic::{OperationResult, extend_long, operate};
 use crate::ending::Halt;
@@ -104,7 +104,7 @@ impl Processor {
     fn fetch(&self) -> Option<Fields>
         requires { IsShort self.now }
         ensures value { (p : Program) → IsProcessorOf p self.now → result ≡ instruction_at p self.now.pc }
-        ensures lawful { IfSome result (λ i. IsLawful i) }
+        ensures lawful { IfSome result (λ i. AreLawfulFields i) }
         ensures within { IsSome result → self.now.pc < 2 ^ 32 }
     {
         if self.pc < TEXT_START {

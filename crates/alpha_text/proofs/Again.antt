@@ -7,7 +7,7 @@ use Rattle.alpha_text.specs.declared.fault.TextFault.{TextFault}
 use Rattle.alpha_text.specs.declared.fault.TextFault.TheVariants as fault
 use Rattle.alpha_text.specs.Texts.{Texts, asm_lines, asm_text, HasText}
 use Rattle.alpha_text.specs.Wrong.{lines_of, is_ended, TextSoFar, Nothing, Data, NoneWrong}
-use Rattle.alpha_text.specs.Read.{IsFault}
+use Rattle.alpha_text.specs.Read.{IsTextFault}
 use Rattle.alpha_text.proofs.Unique.{wrong_or_well, well_one}
 use Rattle.alpha_text.proofs.Complete.{whole_well}
 use Rattle.alpha_text.proofs.Feeds.{lines_ended, lines_end, asm_lack}
@@ -32,7 +32,7 @@ read_again text items n bytes fixes a none whole has e =
     let same : Data items n bytes fixes ≡ Data a.items (length a.bytes) a.bytes a.fixes = well_one (lines_of text) Nothing (lines_of text) (is_ended text) (Data items n bytes fixes) (Data a.items (length a.bytes) a.bytes a.fixes) none (none_wrong text a whole has e) in
     ap (λ s. parts s a) same
 
-pub fault_again : (text : List ℕ) (f : TextFault) (a : Assembly) → IsFault text f → IsWhole a → HasText a → Texts text a → f ≡ fault.NoMemory
+pub fault_again : (text : List ℕ) (f : TextFault) (a : Assembly) → IsTextFault text f → IsWhole a → HasText a → Texts text a → f ≡ fault.NoMemory
 fault_again text (fault.Line n) a wrong whole has e = absurd (wrong_or_well (lines_of text) Nothing 1 (lines_of text) (is_ended text) n (Data a.items (length a.bytes) a.bytes a.fixes) wrong (none_wrong text a whole has e))
 fault_again text (fault.Data n) a counted whole has e =
     let items = counted.0.0 in

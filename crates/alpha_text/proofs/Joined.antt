@@ -6,12 +6,12 @@ use Rattle.alpha_items.specs.declared.item.Fix.{Fix}
 use Rattle.alpha_text.specs.declared.fault.TextFault.{TextFault}
 use Rattle.alpha_text.specs.declared.fault.TextFault.TheVariants as fault
 use Rattle.alpha_text.specs.Wrong.{lines_of, is_ended, TextSoFar, Nothing, Text, Data, WrongFrom, WellFrom, NoneWrong}
-use Rattle.alpha_text.specs.Read.{IsFault}
+use Rattle.alpha_text.specs.Read.{IsTextFault}
 use Rattle.alpha_text.specs.model.Faults.{IsFaultOf}
 use Rattle.alpha_text.specs.model.Reaches.{Reaches, IsFaultFrom}
 use Rattle.alpha_text.proofs.Steps.{reaches_here, reaches_join}
 
-pub fault_from : (text : List ℕ) (st : TextSoFar) (p : List ℕ × ℕ) (f : TextFault) → Reaches (lines_of text) Nothing (text, 0) st p → IsFaultFrom (lines_of text) st p f → IsFault text f
+pub fault_from : (text : List ℕ) (st : TextSoFar) (p : List ℕ × ℕ) (f : TextFault) → Reaches (lines_of text) Nothing (text, 0) st p → IsFaultFrom (lines_of text) st p f → IsTextFault text f
 fault_from text st p (fault.Line n) r h = r.wrong n h
 fault_from text st p (fault.Data n) r h = absurd h
 fault_from text st p fault.NoMemory r h = h
@@ -43,10 +43,10 @@ pub behind_bytes : (text : List ℕ) (items : List AsmItem) (n : ℕ) (bytes : L
 behind_bytes text items n bytes q r body rows = reaches_join (lines_of text) Nothing (Data items n [] []) (Data items n bytes []) (text, 0) q r body (rows (lines_of text) items)
 
 -- a fault of a part is that of the text
-pub head_fault : (text : List ℕ) (start : List ℕ × ℕ) (f : TextFault) → start ≡ (text, 0) → ((all : List (List ℕ)) → IsFaultFrom all Nothing start f) → IsFault text f
+pub head_fault : (text : List ℕ) (start : List ℕ × ℕ) (f : TextFault) → start ≡ (text, 0) → ((all : List (List ℕ)) → IsFaultFrom all Nothing start f) → IsTextFault text f
 head_fault text start f e h = fault_from text Nothing (text, 0) f (reaches_here (lines_of text) Nothing (text, 0)) (subst (λ (s : List ℕ × ℕ). IsFaultFrom (lines_of text) Nothing s f) e (h (lines_of text)))
 
-pub items_fault : (text named : List ℕ) (p : List ℕ × ℕ) (f : TextFault) → named ≡ text → Reaches (lines_of text) Nothing (text, 0) (Text []) p → IsFaultFrom (lines_of named) (Text []) p f → IsFault text f
+pub items_fault : (text named : List ℕ) (p : List ℕ × ℕ) (f : TextFault) → named ≡ text → Reaches (lines_of text) Nothing (text, 0) (Text []) p → IsFaultFrom (lines_of named) (Text []) p f → IsTextFault text f
 items_fault text named p f e head h = fault_from text (Text []) p f head (subst (λ (t : List ℕ). IsFaultFrom (lines_of t) (Text []) p f) e h)
 
 pub none_at : (text : List ℕ) (items : List AsmItem) (n : ℕ) (bytes : List ℕ) (fixes : List Fix) (r : List ℕ × ℕ) → Reaches (lines_of text) Nothing (text, 0) (Data items n bytes []) r → length bytes ≡ n

@@ -12,7 +12,7 @@ use Rattle.alpha_items.proofs.Sums.{sum-cons}
 use Rattle.alpha_lines.specs.Lines.{head_line, label, statement, both, item_line, data_line, hex_byte, hex_line, fix_line}
 use Rattle.alpha_lines.specs.Mnemonics.{branch_word}
 use Rattle.alpha_text.specs.Wrong.{lines_of, is_ended, Nothing, Data}
-use Rattle.alpha_text.specs.Read.{IsCounted}
+use Rattle.alpha_text.specs.Read.{HasDataCount}
 use Rattle.alpha_text.proofs.Sound.{well_sound}
 use Rattle.alpha_text.proofs.Whole.{read_text}
 use Rattle.alpha_text.specs.Texts.{with_line_feed, ended_lines, hex_rows, hex_lines, asm_text}
@@ -96,7 +96,7 @@ words_in_text a far =
     omega (arith, items_long a.items far, lines_long (map item_line a.items) behind, line_long head_line (map item_line a.items ++ behind))
 
 -- a text in which no line is wrong
-pub count_in_text : (text : List ℕ) (n : ℕ) → IsCounted text n → 2 * n ≤ length text
+pub count_in_text : (text : List ℕ) (n : ℕ) → HasDataCount text n → 2 * n ≤ length text
 count_in_text text n counted =
     let items = counted.0 in
     let bytes = counted.1 in

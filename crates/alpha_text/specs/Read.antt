@@ -9,12 +9,12 @@ use Rattle.alpha_items.specs.declared.item.AsmItem.{AsmItem}
 use Rattle.alpha_items.specs.declared.item.Fix.{Fix}
 
 -- each line is in its form, and this is the count of the data
-abbrev pub IsCounted : List ℕ → ℕ → Type 0
-IsCounted text n =
+abbrev pub HasDataCount : List ℕ → ℕ → Type 0
+HasDataCount text n =
     (items : List AsmItem) × (bytes : List ℕ) × (fixes : List Fix) × NoneWrong text (Data items n bytes fixes)
 
 -- the first wrong line, too many bytes where no line is wrong, or memory that is short
-abbrev pub IsFault : List ℕ → TextFault → Type 0
-IsFault text (fault.Line n) = FirstWrong text n
-IsFault text (fault.Data n) = IsCounted text n × (most_bytes < n)
-IsFault text fault.NoMemory = MemoryIsShort
+abbrev pub IsTextFault : List ℕ → TextFault → Type 0
+IsTextFault text (fault.Line n) = FirstWrong text n
+IsTextFault text (fault.Data n) = HasDataCount text n × (most_bytes < n)
+IsTextFault text fault.NoMemory = MemoryIsShort

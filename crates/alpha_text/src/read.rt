@@ -6,7 +6,7 @@ ghost use Rattle.alpha_items.specs.Assembly.{Assembly, IsWhole};
 ghost use Rattle.alpha_text.specs.declared.fault.TextFault.TheVariants.{NoMemory};
 ghost use Rattle.alpha_text.specs.Texts.{Texts, HasText};
 ghost use Rattle.alpha_text.specs.Wrong.{Nothing, Text, Data, lines_of, NoneWrong};
-ghost use Rattle.alpha_text.specs.Read.{IsFault};
+ghost use Rattle.alpha_text.specs.Read.{IsTextFault};
 ghost use Rattle.alpha_text.specs.model.Reaches.{Reaches, IsFaultFrom};
 
 use crate::bytes::{read_bytes, read_fixes};
@@ -51,7 +51,7 @@ fn read_head(lines: &mut Cursor<'_>) -> Result<(), TextFault>
 /// Reads the lines of a text, up to its first wrong one.
 fn read_parts(alloc: Global, text: &[u8]) -> Result<Parts, TextFault>
     ensures read { IfOk result (λ p. NoneWrong text.now (Data p.items.items p.count p.bytes.items p.fixes.items)) }
-    ensures fault { IfErr result (λ fault. IsFault text.now fault) }
+    ensures fault { IfErr result (λ fault. IsTextFault text.now fault) }
 {
     let survey = Survey::of(alloc, text)?;
     let mut lines = Cursor::new(text);
@@ -85,7 +85,7 @@ fn within_limit(counted: u64) -> Result<(), TextFault>
 pub fn read_asm(alloc: Global, text: &[u8]) -> Result<Asm, TextFault>
     ensures text { IfOk result (λ asm. Texts text.now asm) }
     ensures whole { IfOk result (λ asm. IsWhole asm) }
-    ensures fault { IfErr result (λ fault. IsFault text.now fault) }
+    ensures fault { IfErr result (λ fault. IsTextFault text.now fault) }
     ensures only { (asm : Assembly) → IsWhole asm → HasText asm → Texts text.now asm → MatchResult result
         (λ found. found ≡ asm) (λ fault. fault ≡ NoMemory) }
 {

@@ -11,7 +11,7 @@ use Rattle.alpha_items.specs.Assembly.{IsFix}
 use Rattle.data_object.specs.declared.DataObject.{DataObject}
 use Rattle.data_object.specs.declared.DataCell.{DataCell}
 use Rattle.data_object.specs.declared.DataCell.TheVariants.{Byte, AddressPart}
-use Rattle.data_object.specs.Layout.{LieFrom, data_end}
+use Rattle.data_object.specs.Layout.{ObjectsLieFrom, data_end}
 use Rattle.data_object.specs.Globals.{Reaches, IsLawfulObject, AreLawful}
 use Rattle.flat_globals.specs.Globals.{offset_of, AreLaidOut}
 use Rattle.flat_globals.proofs.Lists.{get-below, get-index, replicate-size}
@@ -28,7 +28,7 @@ end_from : (end : ℕ) → List DataObject → ℕ
 end_from end [] = end
 end_from end (o ∷ os) = end_from (o.offset + o.size) os
 
-bytes-size : (end : ℕ) (os : List DataObject) → LieFrom end os → ((k : ℕ) (o : DataObject) → slice_get os k ≡ Some o → length o.cells ≤ o.size) → end + length (bytes_from_end end os) ≡ end_from end os
+bytes-size : (end : ℕ) (os : List DataObject) → ObjectsLieFrom end os → ((k : ℕ) (o : DataObject) → slice_get os k ≡ Some o → length o.cells ≤ o.size) → end + length (bytes_from_end end os) ≡ end_from end os
 unfolding end_from
 bytes-size end [] h small = omega arith
 bytes-size end (o ∷ os) h small =
@@ -53,12 +53,12 @@ data-size (o ∷ os) h =
     let l = last-end 0 o os in
     omega (arith, e, l)
 
-end-past : (end : ℕ) (os : List DataObject) → LieFrom end os → end ≤ end_from end os
+end-past : (end : ℕ) (os : List DataObject) → ObjectsLieFrom end os → end ≤ end_from end os
 unfolding end_from
 end-past end [] l = omega arith
 end-past end (x ∷ os) l = let at = l.0 in let rest = end-past (x.offset + x.size) os l.1 in omega (arith, at, rest)
 
-end-at : (end : ℕ) (os : List DataObject) (k : ℕ) (o : DataObject) → LieFrom end os → slice_get os k ≡ Some o → o.offset + o.size ≤ end_from end os
+end-at : (end : ℕ) (os : List DataObject) (k : ℕ) (o : DataObject) → ObjectsLieFrom end os → slice_get os k ≡ Some o → o.offset + o.size ≤ end_from end os
 unfolding end_from
 end-at end [] k o l e = absurd (cc)
 end-at end (x ∷ os) zero o l e =
@@ -182,7 +182,7 @@ apart-cells globals zero low at (AddressPart g plus zero ∷ cells) rest q le f 
     (omega (arith, le), apart-cells globals 7 (at + 8) (suc at) cells rest (f 0 g plus refl) (omega arith) (follows-next (AddressPart g plus 0) cells f) (apart-next at cells rest h))
 apart-cells globals (suc m) low at (AddressPart g plus zero ∷ cells) rest q le f h = absurd (q.0 tt)
 
-apart-objects : (globals os : List DataObject) (end : ℕ) → LieFrom end os → ((k : ℕ) (o : DataObject) → slice_get os k ≡ Some o → length o.cells ≤ o.size) → ((k : ℕ) (o : DataObject) → slice_get os k ≡ Some o → Follows o.cells) → Apart end (objects_fixes globals os)
+apart-objects : (globals os : List DataObject) (end : ℕ) → ObjectsLieFrom end os → ((k : ℕ) (o : DataObject) → slice_get os k ≡ Some o → length o.cells ≤ o.size) → ((k : ℕ) (o : DataObject) → slice_get os k ≡ Some o → Follows o.cells) → Apart end (objects_fixes globals os)
 apart-objects globals [] end lie small f = tt
 apart-objects globals (o ∷ os) end lie small f =
     let at = lie.0 in

@@ -7,7 +7,7 @@ use Rattle.alpha_items.specs.declared.item.AsmItem.TheVariants.{Name}
 use Rattle.alpha_items.specs.declared.final_fn.FinalFn.{FinalFn}
 use Rattle.alpha_items.specs.Items.{label_used, IsItem}
 use Rattle.data_object.specs.declared.DataObject.{DataObject}
-use Rattle.data_object.specs.Layout.{LieFrom, data_end}
+use Rattle.data_object.specs.Layout.{ObjectsLieFrom, data_end}
 use Rattle.suifvm_ir.specs.Functions.{AllInsns, GoesToBlocks, insn_in, insn_at}
 use Rattle.temp_ir.specs.declared.insn.TempInsn.{TempInsn}
 use Rattle.temp_ir.specs.declared.insn.TempInsn.TheVariants as i
@@ -21,7 +21,7 @@ use Rattle.frame_bounds.specs.Settings.{near_insn, near_blocks, near_plan, setti
 use Rattle.program_assembly.specs.Names.{CallsBelow}
 use Rattle.program_assembly.proofs.Soundness.{near_length, near_widest}
 use Rattle.frame_bounds.proofs.Rooms.{is_few}
-use Rattle.frame_labels.specs.Labels.{IsCalled, IsUsable, UsesOnly}
+use Rattle.frame_labels.specs.Labels.{IsCalledAt, IsUsable, UsesOnly}
 use Rattle.frame_labels.proofs.Used.{function_uses}
 use Rattle.program_assembly.specs.Ranges.{HasRegisters}
 use Rattle.program_assembly.proofs.Items.{function_in_range}
@@ -118,7 +118,7 @@ module _ (functions : ℕ) (globals : List DataObject) (a : Allocation) (sound :
     given = fit.faithful.lists.given;
   }
 
-  one-fits : (number first : ℕ) (f : FinalFn) → LieFrom 0 globals → FunctionIsLaidOut globals number first a f → All (IsItem (data_end globals)) f.items.items
+  one-fits : (number first : ℕ) (f : FinalFn) → ObjectsLieFrom 0 globals → FunctionIsLaidOut globals number first a f → All (IsItem (data_end globals)) f.items.items
   one-fits number first f lie laid =
       subst (All (IsItem (data_end globals))) (sym laid.items)
       (All-cons (IsItem (data_end globals)) (Name a.func.name) (function_items p (setting_of p globals first) number []) sound.name
@@ -130,7 +130,7 @@ module _ (functions : ℕ) (globals : List DataObject) (a : Allocation) (sound :
       subst (λ n. AllInsns (GoesToBlocks targets_of n) (near_blocks a.func.blocks)) (sym (near_length a.func.blocks))
       (near-all (GoesToBlocks targets_of (length a.func.blocks)) (near-goes (length a.func.blocks)) a.func.blocks a.func.targets)
 
-  called : (l : ℕ) → IsCalled p l → (k : ℕ) × (k < functions) × (l ≡ 256 + k)
+  called : (l : ℕ) → IsCalledAt p l → (k : ℕ) × (k < functions) × (l ≡ 256 + k)
   called l c =
       let below : 256 + c.function < 256 + functions = insn-at (CallsBelow (first_label functions)) (near_blocks a.func.blocks) c.block c.at (i.Call c.function c.arguments) (near-all (CallsBelow (first_label functions)) (near-calls (first_label functions)) a.func.blocks fit.calls) c.call in
       (c.function, omega (arith, below), c.label_is)
@@ -163,7 +163,7 @@ pub end-past : (first : ℕ) (allocations : List Allocation) → first ≤ end_o
 end-past first [] = omega arith
 end-past first (a ∷ allocations) = let h = end-past (first + label_count a) allocations in omega (arith, h)
 
-pub finals-fit : (functions : ℕ) (globals : List DataObject) (number first : ℕ) (allocations : List Allocation) (finals : List FinalFn) → LieFrom 0 globals → All (CanBeAssembled functions globals) allocations → FollowFrom globals number first allocations finals → All (IsItem (data_end globals)) (final_items finals)
+pub finals-fit : (functions : ℕ) (globals : List DataObject) (number first : ℕ) (allocations : List Allocation) (finals : List FinalFn) → ObjectsLieFrom 0 globals → All (CanBeAssembled functions globals) allocations → FollowFrom globals number first allocations finals → All (IsItem (data_end globals)) (final_items finals)
 finals-fit functions globals number first [] [] lie sound h = All-nil (IsItem (data_end globals))
 finals-fit functions globals number first [] (f ∷ finals) lie sound h = absurd h
 finals-fit functions globals number first (a ∷ allocations) [] lie sound h = absurd h

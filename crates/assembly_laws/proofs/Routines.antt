@@ -10,7 +10,7 @@ use Rattle.alpha_isa.specs.declared.insn.Operand.{Operand}
 use Rattle.alpha_isa.specs.declared.insn.Operand.TheVariants.{Reg, Literal}
 use Rattle.alpha_isa.specs.declared.insn.OperateOp.{OperateOp}
 use Rattle.alpha_isa.specs.declared.insn.OperateOp.TheVariants as o
-use Rattle.alpha_isa.specs.Lawful.{IsOperand, IsDisplacement, IsFirstOperand, IsLawful, is_call}
+use Rattle.alpha_isa.specs.Lawful.{IsOperand, IsDisplacement, IsFirstOperand, AreLawfulFields, is_call}
 use Rattle.alpha_items.specs.declared.item.AsmItem.{AsmItem}
 use Rattle.alpha_items.specs.declared.item.AsmItem.TheVariants.{Label, Name, Plain, Branch, TextAddress, DataAddress}
 use Rattle.alpha_items.specs.Items.{label_used, is_branch, IsItem}
@@ -92,7 +92,7 @@ displacement-fits : (z : ℤ) → displacement_fits z ≡ true → IsDisplacemen
 displacement-fits (pos n) e = ltb-true n 32768 e
 displacement-fits (negsuc n) e = ltb-true n 32768 e
 
-fields-fit : (x : Fields) → fields_fit x ≡ true → IsLawful x × IsTrue (not (is_branch x))
+fields-fit : (x : Fields) → fields_fit x ≡ true → AreLawfulFields x × IsTrue (not (is_branch x))
 fields-fit (fields.Memory op ra rb disp) e =
     let a = and_parts (nat_lt ra 32) (nat_lt rb 32 && displacement_fits disp) e in
     let b = and_parts (nat_lt rb 32) (displacement_fits disp) a.1 in

@@ -24,7 +24,7 @@ use Rattle.alloc_model.specs.Places.{Plan}
 use Rattle.instruction_items.specs.Items.{ItemSetting}
 use Rattle.frame_bounds.specs.Near.{IsNear}
 use Rattle.frame_bounds.specs.Settings.{setting_of}
-use Rattle.program_assembly.specs.Ranges.{IsSmall}
+use Rattle.program_assembly.specs.Ranges.{HasSmallNumbers}
 use Rattle.program_assembly.specs.Programs.{Placing, HasItemsOf, IsAllocated, plans_of, start_items}
 use Rattle.program_assembly.specs.Assemblies.{final_items, gathered, main_of}
 use Rattle.program_assembly.specs.Layouts.{first_label, label_count, FitsProgram, FunctionsAreLaidOut}
@@ -34,7 +34,7 @@ use Rattle.program_assembly.specs.Layouts.{first_label, label_count, FitsProgram
 pub record CanBeAssembled (functions : ℕ) (globals : List DataObject) (a : Allocation) : Type 0 where
   pub fit : FitsProgram functions globals a
   pub name : IsTrue (is_name a.func.name)
-  pub numbers : AllInsns IsSmall a.func.blocks
+  pub numbers : AllInsns HasSmallNumbers a.func.blocks
 
 -- so the assembly of some such functions is whole
 abbrev pub AssembliesAreWhole : Type 0

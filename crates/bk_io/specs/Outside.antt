@@ -1,5 +1,5 @@
 -- What a contract says of a source, a sink and a store of files.
-use Rattle.std.specs.Prelude.{◌≡◌, ℕ, ◌+◌, ◌-◌, ◌^◌, ◌≤◌, List, [], ◌∷◌, ◌++◌, length, take, drop, min, Result, Ok, Err, Option, is_ok, option_map, if◌then◌else◌}
+use Rattle.std.specs.Prelude.{◌≡◌, ℕ, zero, suc, ◌+◌, ◌-◌, ◌^◌, ◌≤◌, List, [], ◌∷◌, ◌++◌, length, take, drop, min, Result, Ok, Err, Option, is_ok, option_map, if◌then◌else◌}
 
 -- the greatest value that a count has
 abbrev pub count_end : ℕ
@@ -8,6 +8,11 @@ count_end = 2 ^ 64 - 1
 -- one more, or the same at the end of the count
 abbrev pub next_count : ℕ → ℕ
 next_count n = min (n + 1) count_end
+
+-- n more on a count, which stays at its end
+abbrev pub count_plus : ℕ → ℕ → ℕ
+count_plus zero count = count
+count_plus (suc n) count = next_count (count_plus n count)
 
 -- the count of faults after a call: one more where it failed, and else as before
 abbrev pub faults_after : {A E : Type 0} → Result A E → ℕ → ℕ
@@ -29,3 +34,10 @@ taken_after r byte taken = if is_ok r then taken_with (byte ∷ []) taken else t
 abbrev pub TakesSlice : {A E : Type 0} → Result A E → List ℕ → Option (List ℕ) → Option (List ℕ) → Type 0
 TakesSlice (Ok a) bytes old new = new ≡ taken_with bytes old
 TakesSlice (Err e) bytes old new = (n : ℕ) × (n ≤ length bytes) × (new ≡ taken_with (take n bytes) old)
+
+-- what an input and an output tell, as they do before and after a run: the bytes that are left, the calls that were
+-- made, and the bytes that were taken
+pub record Traffic : Type 0 where
+  pub left : Option (List ℕ)
+  pub made : Option ℕ
+  pub taken : Option (List ℕ)

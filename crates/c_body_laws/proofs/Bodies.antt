@@ -23,16 +23,16 @@ use Rattle.c_checks.specs.declared.notes.Notes.{Notes}
 use Rattle.c_checks.specs.Notes.{with_fault}
 use Rattle.c_checks.specs.Scopes.{with_name, stands_here}
 use Rattle.c_judgements.specs.Leaves.{incomplete, tag_named, struct_tagged, tagged_enum}
-use Rattle.c_judgements.specs.Types.{State}
+use Rattle.c_judgements.specs.Types.{JudgementState}
 use Rattle.c_expressions.specs.Expressions.{judge}
 use Rattle.c_tag_bodies.specs.declared.members.Members.{Members}
 use Rattle.c_tag_bodies.specs.Enums.{explicit_value, next, value_held, constant_meaning, constant_declared, constant_row}
 use Rattle.c_tag_bodies.specs.Members.{no_members, is_member, no_member, with_member, with_faulty_member, member_named, member_declared}
 use Rattle.c_tag_bodies.specs.Structs.{DefinedTags, enum_begun, number_of, add_untagged, number_for_tag, no_body, struct_begun, struct_where, tag_name, with_struct, with_untagged, too_large, with_members, complete, struct_ended}
-use Rattle.c_tag_bodies.specs.Bodies.{Scope, enum_entered, struct_entered, struct_left, type_behind, member_entered, bodies, constants_held, members_held, member_row, declared_type}
+use Rattle.c_tag_bodies.specs.Bodies.{TagScope, enum_entered, struct_entered, struct_left, type_behind, member_entered, bodies, constants_held, members_held, member_row, declared_type}
 use Rattle.c_judgement_laws.specs.Covers.{AreTagsIn, IsTagIn}
 use Rattle.c_expression_laws.specs.Types.{IsTypeIn}
-use Rattle.c_note_laws.specs.Steps.{Steps}
+use Rattle.c_note_laws.specs.Steps.{NoteSteps}
 use Rattle.c_note_laws.proofs.Forms.{ruled, each_adds, enum_adds, struct_adds}
 use Rattle.c_note_laws.proofs.Walks.{judge_adds}
 use Rattle.c_struct_laws.specs.Laws.{HaveTypes}
@@ -45,27 +45,27 @@ use Rattle.c_body_laws.proofs.Types.{judge_env, leads_itself, leads_then, leads_
 
 -- ---- enumeration constants
 
-value_leads : (at : ℕ) (value : k.Held-Constant-value) (before : Option (Option ℕ)) (s : State) → LeadsOn s (value_held at value before s).1
+value_leads : (at : ℕ) (value : k.Held-Constant-value) (before : Option (Option ℕ)) (s : JudgementState) → LeadsOn s (value_held at value before s).1
 value_leads at k.Constant-value-None' None s = leads_itself s
 value_leads at k.Constant-value-None' (Some before) s =
     leads_steps s (value_held at k.Constant-value-None' (Some before) s).1 refl (each_adds before (next at) s.1 (λ word. ruled (next_value at word) s.1))
 value_leads at (k.Constant-value-Some' x) before s =
     let a = judge x s in
     leads_steps s (value_held at (k.Constant-value-Some' x) before s).1 (judge_env x s)
-    (Steps.Follows (judge_adds x s) (each_adds a.0 explicit_value a.1.1 (λ v. ruled (given_value v) a.1.1)))
+    (NoteSteps.Follows (judge_adds x s) (each_adds a.0 explicit_value a.1.1 (λ v. ruled (given_value v) a.1.1)))
 
-constant_named : (name : List ℕ) (value : Option ℕ) (s : State) → LeadsOn s (with_name name (constant_meaning value) s.0, s.1)
+constant_named : (name : List ℕ) (value : Option ℕ) (s : JudgementState) → LeadsOn s (with_name name (constant_meaning value) s.0, s.1)
 constant_named name None s = record { grow = grow_itself s.1.structs; sound = λ h. record { noted = h.noted; typedefs = (tt, h.typedefs) } }
 constant_named name (Some word) s = record { grow = grow_itself s.1.structs; sound = λ h. record { noted = h.noted; typedefs = (tt, h.typedefs) } }
 
-constant_leads : (at : ℕ) (name : List ℕ) (value : Option ℕ) (s : State) → LeadsOn s (constant_declared at name value s)
+constant_leads : (at : ℕ) (name : List ℕ) (value : Option ℕ) (s : JudgementState) → LeadsOn s (constant_declared at name value s)
 constant_leads at name value s = choose (stands_here s.0 (find name s.0.names))
   where
     choose : (b : Bool) → LeadsOn s (if b then (s.0, with_fault at Redeclared s.1) else (with_name name (constant_meaning value) s.0, s.1))
-    choose true = leads_steps s (s.0, with_fault at Redeclared s.1) refl (Steps.AddsFault at Redeclared)
+    choose true = leads_steps s (s.0, with_fault at Redeclared s.1) refl (NoteSteps.AddsFault at Redeclared)
     choose false = constant_named name value s
 
-constants_lead : {m : _} (xs : k.Row_of-Constant m) (before : Option (Option ℕ)) (s : State) → LeadsOn s (constant_row xs before s)
+constants_lead : {m : _} (xs : k.Row_of-Constant m) (before : Option (Option ℕ)) (s : JudgementState) → LeadsOn s (constant_row xs before s)
 unfolding constant_row
 constants_lead k.end_of-Constant before s = leads_itself s
 constants_lead (k.more_of-Constant at name value rest) before s =
@@ -73,12 +73,12 @@ constants_lead (k.more_of-Constant at name value rest) before s =
     let u = constant_declared at name v.0 v.1 in
     leads_then s v.1 _ (value_leads at value before s) (leads_then v.1 u _ (constant_leads at name v.0 v.1) (constants_lead rest (Some v.0) u))
 
-enum_leads : (ts : DefinedTags) (at : ℕ) (tag : Option (List ℕ)) (s : State) → LeadsOn s (s.0, enum_begun ts at tag s.1)
+enum_leads : (ts : DefinedTags) (at : ℕ) (tag : Option (List ℕ)) (s : JudgementState) → LeadsOn s (s.0, enum_begun ts at tag s.1)
 enum_leads ts at None s = leads_itself s
 enum_leads ts at (Some name) s = choose (is_some (find name ts))
   where
     choose : (b : Bool) → LeadsOn s (s.0, if b then with_fault at Redeclared s.1 else (tagged_enum at name s.1).1)
-    choose true = leads_steps s (s.0, with_fault at Redeclared s.1) refl (Steps.AddsFault at Redeclared)
+    choose true = leads_steps s (s.0, with_fault at Redeclared s.1) refl (NoteSteps.AddsFault at Redeclared)
     choose false = leads_steps s (s.0, (tagged_enum at name s.1).1) refl (enum_adds at (Some name) s.1)
 
 -- ---- where the body of a struct begins
@@ -127,7 +127,7 @@ begins_tagged : (ts : DefinedTags) (at : ℕ) (name : List ℕ) (n : Notes) → 
 begins_tagged ts at name n = choose (is_some (find name ts))
   where
     choose : (b : Bool) → Begins n (if b then no_body at n else number_for_tag at name n)
-    choose true = record { keeps = steps_keep (Steps.AddsFault at Redeclared); there = λ h. tt }
+    choose true = record { keeps = steps_keep (NoteSteps.AddsFault at Redeclared); there = λ h. tt }
     choose false = record {
       keeps = steps_keep (struct_adds at (Some name) n);
       there = λ h. number_there at name (tag_named (find name n.tags)) n (tag_found n.structs name n.tags h.tags);
@@ -149,21 +149,21 @@ fields_more ds (x ∷ xs) f h t = (h.0, fields_more ds xs f h.1 t)
 
 -- what is done with a member leaves the structs
 pub record Declares (n : Notes) (m : Members) (given : Type 0) (r : Members × Notes) : Type 0 where
-  pub steps : Steps n r.1
+  pub steps : NoteSteps n r.1
   pub types : given → HaveTypes n.structs m.fields → HaveTypes r.1.structs r.0.fields
 
 member_is_named : (at : ℕ) (name : List ℕ) (m : Members) (o : Option CType) (n : Notes) → Declares n m (IfSome o (λ x. IsTrue (is_type n.structs (type_view x)))) (member_named at name m o n)
 member_is_named at name m o n = choose (is_some (find name m.names)) o
   where
     choose : (b : Bool) (o : Option CType) → Declares n m (IfSome o (λ x. IsTrue (is_type n.structs (type_view x)))) (if b then (with_faulty_member m, with_fault at NoMember n) else (with_member name o m, n))
-    choose true o = record { steps = Steps.AddsFault at NoMember; types = λ t h. h }
-    choose false None = record { steps = Steps.Stays; types = λ t h. h }
-    choose false (Some x) = record { steps = Steps.Stays; types = λ t h. fields_more n.structs m.fields (record { name = name; ty = x }) h t }
+    choose true o = record { steps = NoteSteps.AddsFault at NoMember; types = λ t h. h }
+    choose false None = record { steps = NoteSteps.Stays; types = λ t h. h }
+    choose false (Some x) = record { steps = NoteSteps.Stays; types = λ t h. fields_more n.structs m.fields (record { name = name; ty = x }) h t }
 
 member_after_fault : (at : ℕ) (name : List ℕ) (m : Members) (n : Notes) (given : Type 0) → Declares n m given (member_named at name m None (with_fault at BadType n))
 member_after_fault at name m n given =
     let after = member_is_named at name m None (with_fault at BadType n) in
-    record { steps = Steps.Follows (Steps.AddsFault at BadType) after.steps; types = λ t h. after.types tt h }
+    record { steps = NoteSteps.Follows (NoteSteps.AddsFault at BadType) after.steps; types = λ t h. after.types tt h }
 
 member_of_type : (at : ℕ) (name : List ℕ) (m : Members) (x : CType) (n : Notes) → Declares n m (IsTrue (is_type n.structs (type_view x))) (member_declared at name m (Some (d.Value x)) n)
 member_of_type at name m x n = choose (is_member n.structs x)
@@ -182,18 +182,18 @@ member_is_declared at name m (Some (d.Unsized x)) n = member_after_fault at name
 member_is_declared at name m (Some (d.Function x xs)) n = member_after_fault at name m n (IsTypeIn (of_structs n.structs) (d.Function x xs))
 
 -- a row of members
-pub record MembersLead (w later : Members × Scope) : Type 0 where
+pub record MembersLead (w later : Members × TagScope) : Type 0 where
   pub leads : LeadsOn w.1.1 later.1.1
   pub types : IsWellDeclared w.1.1 → HaveTypes w.1.1.1.structs w.0.fields → HaveTypes later.1.1.1.structs later.0.fields
 
-members_then : (a b e : Members × Scope) → MembersLead a b → MembersLead b e → MembersLead a e
+members_then : (a b e : Members × TagScope) → MembersLead a b → MembersLead b e → MembersLead a e
 members_then a b e h g = record {
   leads = leads_then a.1.1 b.1.1 e.1.1 h.leads g.leads;
   types = λ s t. g.types (h.leads.sound s) (h.types s t);
 }
 
 -- a member behind the bodies of its specifier
-member_leads : (at : ℕ) (name : List ℕ) (ty : t.TypeNode) (w : Members × Scope) → LeadsOn w.1.1 (bodies ty w.1).1 → MembersLead w (member_entered at name w.0 (type_behind at ty (bodies ty w.1)))
+member_leads : (at : ℕ) (name : List ℕ) (ty : t.TypeNode) (w : Members × TagScope) → LeadsOn w.1.1 (bodies ty w.1).1 → MembersLead w (member_entered at name w.0 (type_behind at ty (bodies ty w.1)))
 member_leads at name ty w inner =
     let u = (bodies ty w.1).1 in
     let found = type_found at ty u in
@@ -263,7 +263,7 @@ completed at number tag m None n made = choose m.faulty
   where
     choose : (b : Bool) → Ends n (HaveTypes n.structs m.fields) (too_large at b n)
     choose true = ends_keeping n (HaveTypes n.structs m.fields) n (keeps_itself n)
-    choose false = ends_keeping n (HaveTypes n.structs m.fields) (with_fault at BadType n) (steps_keep (Steps.AddsFault at BadType))
+    choose false = ends_keeping n (HaveTypes n.structs m.fields) (with_fault at BadType n) (steps_keep (NoteSteps.AddsFault at BadType))
 
 untagged_ends : (at : ℕ) (tag : Option (List ℕ)) (number : ℕ) (n m : Notes) (given : Type 0) → Ends n given m
     → Ends n (given × IsTrue (is_some (slice_get n.structs number))) (with_untagged at tag number m)
@@ -285,7 +285,7 @@ number_stays ds es None g h = tt
 number_stays ds es (Some number) g h = there_stays ds es g number h
 
 -- the body of a struct, by its members
-struct_leads : (at : ℕ) (tag : Option (List ℕ)) (s : Scope) (w : Members × Scope) → MembersLead (no_members, (struct_entered at tag s).1) w → LeadsOn s.1 (struct_left at tag (struct_entered at tag s).0 w).1
+struct_leads : (at : ℕ) (tag : Option (List ℕ)) (s : TagScope) (w : Members × TagScope) → MembersLead (no_members, (struct_entered at tag s).1) w → LeadsOn s.1 (struct_left at tag (struct_entered at tag s).0 w).1
 struct_leads at tag s w inner =
     let begun = begins s.0 at tag s.1.1 in
     let number = (struct_entered at tag s).0 in
@@ -309,7 +309,7 @@ struct_leads at tag s w inner =
 mutual
   unfolding bodies
 
-  pub bodies_lead : (ty : t.TypeNode) (s : Scope) → LeadsOn s.1 (bodies ty s).1
+  pub bodies_lead : (ty : t.TypeNode) (s : TagScope) → LeadsOn s.1 (bodies ty s).1
   bodies_lead (t.Basic words) s = leads_itself s.1
   bodies_lead (t.Named name) s = leads_itself s.1
   bodies_lead (t.Enum' at tag constants) s = constants_held_lead at tag constants s
@@ -318,25 +318,25 @@ mutual
   bodies_lead (t.Array' _ (k.more_of-TypeNode x k.end_of-TypeNode) size) s = bodies_lead x s
   bodies_lead (t.Takes' _ (k.more_of-TypeNode x k.end_of-TypeNode) _ parameters) s = bodies_lead x s
 
-  constants_held_lead : (at : ℕ) (tag : Option (List ℕ)) (held : k.Held-TypeNode-Enum-2) (s : Scope) → LeadsOn s.1 (constants_held at tag held s).1
+  constants_held_lead : (at : ℕ) (tag : Option (List ℕ)) (held : k.Held-TypeNode-Enum-2) (s : TagScope) → LeadsOn s.1 (constants_held at tag held s).1
   constants_held_lead at tag k.TypeNode-Enum-2-None' s = leads_itself s.1
   constants_held_lead at tag (k.TypeNode-Enum-2-Some' _ constants) s =
       let u = enum_entered at tag s in
       leads_then s.1 u _ (enum_leads s.0 at tag s.1) (constants_lead constants None u)
 
-  members_held_lead : (at : ℕ) (tag : Option (List ℕ)) (held : k.Held-TypeNode-Struct-2) (s : Scope) → LeadsOn s.1 (members_held at tag held s).1
+  members_held_lead : (at : ℕ) (tag : Option (List ℕ)) (held : k.Held-TypeNode-Struct-2) (s : TagScope) → LeadsOn s.1 (members_held at tag held s).1
   members_held_lead at tag k.TypeNode-Struct-2-None' s = leads_itself s.1
   members_held_lead at tag (k.TypeNode-Struct-2-Some' _ members) s =
-      let start : Members × Scope = (no_members, (struct_entered at tag s).1) in
+      let start : Members × TagScope = (no_members, (struct_entered at tag s).1) in
       struct_leads at tag s (member_row members start) (members_lead members start)
 
-  members_lead : {m : _} (xs : k.Row_of-Declaration m) (w : Members × Scope) → MembersLead w (member_row xs w)
+  members_lead : {m : _} (xs : k.Row_of-Declaration m) (w : Members × TagScope) → MembersLead w (member_row xs w)
   members_lead k.end_of-Declaration w = record { leads = leads_itself w.1.1; types = λ s t. t }
   members_lead (k.more_of-Declaration at name ty rest) w =
       let e = member_entered at name w.0 (type_behind at ty (bodies ty w.1)) in
       members_then w e _ (member_leads at name ty w (bodies_lead ty w.1)) (members_lead rest e)
 
-pub declared_found : (at : ℕ) (ty : t.TypeNode) (s : Scope) → FindsType s.1 ((declared_type at ty s).0, (declared_type at ty s).1.1)
+pub declared_found : (at : ℕ) (ty : t.TypeNode) (s : TagScope) → FindsType s.1 ((declared_type at ty s).0, (declared_type at ty s).1.1)
 declared_found at ty s =
     let u = (bodies ty s).1 in
     let inner = bodies_lead ty s in

@@ -1,4 +1,4 @@
--- Steps keep what holds of the notes.
+-- NoteSteps keep what holds of the notes.
 use Rattle.std.proofs.Common.{◌≡◌, ℕ, Bool, true, false, IsTrue, List, [], ◌∷◌, ◌++◌, length, slice_get, is_some, Option, Some, None, arith, length-append}
 use Rattle.std.specs.Prelude.{All, IsFalse}
 use Rattle.std.proofs.lemmas.List.Elements.{All-push, All-weaker}
@@ -20,7 +20,7 @@ use Rattle.c_judgements.specs.Leaves.{incomplete}
 use Rattle.c_layout_laws.proofs.Truth.{all_at}
 use Rattle.c_judgement_laws.specs.Covers.{AreTagsIn, IsTagIn, IsUntaggedIn, Knows}
 use Rattle.c_expression_laws.specs.Types.{AreTypes, IsTypeIn, IsTypedefIn, HasTypedefs}
-use Rattle.c_note_laws.specs.Steps.{Steps}
+use Rattle.c_note_laws.specs.Steps.{NoteSteps}
 use Rattle.c_struct_laws.specs.Growth.{Grow}
 use Rattle.c_struct_laws.proofs.Growth.{is_there, grow_itself, grow_then, grow_more, there_stays, type_stays, struct_stays}
 use Rattle.c_struct_laws.proofs.Lawful.{incomplete_lawful}
@@ -83,21 +83,21 @@ more_lawful ds name h =
 pub last_there : (ds : List StructDef) (d : StructDef) → IsTrue (is_some (slice_get (ds ++ d ∷ []) (length ds)))
 last_there ds d = is_there (ds ++ d ∷ []) (length ds) (omega (arith, length-append ds (d ∷ [])))
 
-pub steps_keep : {n later : Notes} → Steps n later → KeepsNoted n later
-steps_keep {n = n} Steps.Stays = keeps_itself n
-steps_keep {n = n} (Steps.Follows {m = m} {later = later} h g) = keeps_then n m later (steps_keep h) (steps_keep g)
-steps_keep {n = n} (Steps.AddsFault at kind) = record { grow = grow_itself n.structs; noted = λ h. record { structs = h.structs; tags = h.tags; untagged = h.untagged } }
-steps_keep {n = n} (Steps.AddsUse number at) = record { grow = grow_itself n.structs; noted = λ h. record { structs = h.structs; tags = h.tags; untagged = h.untagged } }
-steps_keep {n = n} (Steps.ListsAddresses addressed) = record { grow = grow_itself n.structs; noted = λ h. record { structs = h.structs; tags = h.tags; untagged = h.untagged } }
-steps_keep {n = n} (Steps.AddsText bytes sized) = record { grow = grow_itself n.structs; noted = λ h. record { structs = h.structs; tags = h.tags; untagged = h.untagged } }
-steps_keep {n = n} (Steps.Aside inner) =
+pub steps_keep : {n later : Notes} → NoteSteps n later → KeepsNoted n later
+steps_keep {n = n} NoteSteps.Stays = keeps_itself n
+steps_keep {n = n} (NoteSteps.Follows {m = m} {later = later} h g) = keeps_then n m later (steps_keep h) (steps_keep g)
+steps_keep {n = n} (NoteSteps.AddsFault at kind) = record { grow = grow_itself n.structs; noted = λ h. record { structs = h.structs; tags = h.tags; untagged = h.untagged } }
+steps_keep {n = n} (NoteSteps.AddsUse number at) = record { grow = grow_itself n.structs; noted = λ h. record { structs = h.structs; tags = h.tags; untagged = h.untagged } }
+steps_keep {n = n} (NoteSteps.ListsAddresses addressed) = record { grow = grow_itself n.structs; noted = λ h. record { structs = h.structs; tags = h.tags; untagged = h.untagged } }
+steps_keep {n = n} (NoteSteps.AddsText bytes sized) = record { grow = grow_itself n.structs; noted = λ h. record { structs = h.structs; tags = h.tags; untagged = h.untagged } }
+steps_keep {n = n} (NoteSteps.Aside inner) =
     let a = steps_keep inner in
     record {
       grow = a.grow;
       noted = λ h. let k = a.noted (record { structs = h.structs; tags = h.tags; untagged = h.untagged }) in record { structs = k.structs; tags = k.tags; untagged = k.untagged };
     }
-steps_keep {n = n} (Steps.AddsEnum name) = record { grow = grow_itself n.structs; noted = λ h. record { structs = h.structs; tags = (tt, h.tags); untagged = h.untagged } }
-steps_keep {n = n} (Steps.AddsStruct name) =
+steps_keep {n = n} (NoteSteps.AddsEnum name) = record { grow = grow_itself n.structs; noted = λ h. record { structs = h.structs; tags = (tt, h.tags); untagged = h.untagged } }
+steps_keep {n = n} (NoteSteps.AddsStruct name) =
     let es = n.structs ++ incomplete name ∷ [] in
     let more = grow_more n.structs (incomplete name ∷ []) in
     record {

@@ -7,13 +7,13 @@ use Rattle.c_typed_tree.specs.Lawful.{IsLawfulStruct}
 use Rattle.c_declared_types.specs.declared.declared.DeclaredType.{DeclaredType}
 use Rattle.c_checks.specs.declared.env.Env.{Env}
 use Rattle.c_judgements.specs.Leaves.{leaf}
-use Rattle.c_judgements.specs.Types.{State}
+use Rattle.c_judgements.specs.Types.{JudgementState}
 use Rattle.c_expressions.specs.Expressions.{judge, derive}
 use Rattle.c_judgement_laws.specs.Covers.{IsLawfulContext}
 use Rattle.c_expression_laws.specs.Types.{HasTypedefs}
 use Rattle.c_expression_laws.proofs.Types.{leaf_found}
 use Rattle.c_expression_laws.proofs.Expressions.{judge_walks, derive_walks}
-use Rattle.c_note_laws.specs.Steps.{Steps}
+use Rattle.c_note_laws.specs.Steps.{NoteSteps}
 use Rattle.c_note_laws.proofs.Forms.{leaf_adds}
 use Rattle.c_note_laws.proofs.Walks.{derive_adds}
 use Rattle.c_struct_laws.proofs.Growth.{grow_itself, grow_then}
@@ -25,22 +25,22 @@ use Rattle.c_body_laws.proofs.Notes.{typedefs_grow, steps_keep, noted_known}
 empty_lawful : IsLawfulContext (of_structs [])
 empty_lawful = All-nil (IsLawfulStruct [])
 
-pub judge_env : (x : Expr) (s : State) → (judge x s).1.0 ≡ s.0
+pub judge_env : (x : Expr) (s : JudgementState) → (judge x s).1.0 ≡ s.0
 judge_env x s = (judge_walks (of_structs []) empty_lawful ⊥ x s (λ v. absurd v) (λ v. absurd v)).env
 
-pub derive_env : (at : ℕ) (node : TypeNode) (of : Option DeclaredType) (s : State) → (derive at node of s).1.0 ≡ s.0
+pub derive_env : (at : ℕ) (node : TypeNode) (of : Option DeclaredType) (s : JudgementState) → (derive at node of s).1.0 ≡ s.0
 derive_env at node of s = (derive_walks (of_structs []) empty_lawful ⊥ at node of s (λ v. absurd v) (λ v. absurd v)).env
 
 -- ---- what leads from one state to another one
 
-pub leads_itself : (s : State) → LeadsOn s s
+pub leads_itself : (s : JudgementState) → LeadsOn s s
 leads_itself s = record { grow = grow_itself s.1.structs; sound = λ h. h }
 
-pub leads_then : (s u w : State) → LeadsOn s u → LeadsOn u w → LeadsOn s w
+pub leads_then : (s u w : JudgementState) → LeadsOn s u → LeadsOn u w → LeadsOn s w
 leads_then s u w h g = record { grow = grow_then s.1.structs u.1.structs w.1.structs h.grow g.grow; sound = λ k. g.sound (h.sound k) }
 
 -- where the names in scope stay
-pub leads_where : (s later : State) → later.0 ≡ s.0 → KeepsNoted s.1 later.1 → LeadsOn s later
+pub leads_where : (s later : JudgementState) → later.0 ≡ s.0 → KeepsNoted s.1 later.1 → LeadsOn s later
 leads_where s later e k = record {
   grow = k.grow;
   sound = λ h. record {
@@ -50,16 +50,16 @@ leads_where s later e k = record {
   };
 }
 
-pub leads_steps : (s later : State) → later.0 ≡ s.0 → Steps s.1 later.1 → LeadsOn s later
+pub leads_steps : (s later : JudgementState) → later.0 ≡ s.0 → NoteSteps s.1 later.1 → LeadsOn s later
 leads_steps s later e steps = leads_where s later e (steps_keep steps)
 
 -- ---- the type of a declaration
 
-pub type_found : (at : ℕ) (node : TypeNode) (s : State) → FindsType s (derive at node (leaf s.0 at node s.1).0 (s.0, (leaf s.0 at node s.1).1))
+pub type_found : (at : ℕ) (node : TypeNode) (s : JudgementState) → FindsType s (derive at node (leaf s.0 at node s.1).0 (s.0, (leaf s.0 at node s.1).1))
 type_found at node s =
     let l = leaf s.0 at node s.1 in
     let r = derive at node l.0 (s.0, l.1) in
-    let keeps = steps_keep (Steps.Follows (leaf_adds s.0 at node s.1) (derive_adds at node l.0 (s.0, l.1))) in
+    let keeps = steps_keep (NoteSteps.Follows (leaf_adds s.0 at node s.1) (derive_adds at node l.0 (s.0, l.1))) in
     record {
       leads = leads_where s r.1 (derive_env at node l.0 (s.0, l.1)) keeps;
       type = λ h.

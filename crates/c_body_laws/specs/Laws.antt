@@ -4,20 +4,20 @@ use Rattle.c_tree.specs.declared.types.TypeNode.{TypeNode}
 use Rattle.c_typed_tree.specs.Typing.{Context}
 use Rattle.c_checks.specs.declared.notes.Notes.{Notes}
 use Rattle.c_judgement_laws.specs.Covers.{Knows}
-use Rattle.c_note_laws.specs.Steps.{Steps}
+use Rattle.c_note_laws.specs.Steps.{NoteSteps}
 use Rattle.c_struct_laws.specs.Growth.{Grow}
-use Rattle.c_tag_bodies.specs.Bodies.{Scope, bodies, declared_type}
+use Rattle.c_tag_bodies.specs.Bodies.{TagScope, bodies, declared_type}
 use Rattle.c_body_laws.specs.Notes.{IsNoted, KeepsNoted, LeadsOn, FindsType}
 
 abbrev pub StepsKeep : Type 0
-StepsKeep = (n later : Notes) → Steps n later → KeepsNoted n later
+StepsKeep = (n later : Notes) → NoteSteps n later → KeepsNoted n later
 
 abbrev pub NotedIsKnown : Type 0
 NotedIsKnown = (c : Context) (n : Notes) → IsNoted n → Grow n.structs c.structs → Knows c n
 
 abbrev pub BodiesLead : Type 0
-BodiesLead = (ty : TypeNode) (s : Scope) → LeadsOn s.1 (bodies ty s).1
+BodiesLead = (ty : TypeNode) (s : TagScope) → LeadsOn s.1 (bodies ty s).1
 
 abbrev pub DeclarationsFindTypes : Type 0
 DeclarationsFindTypes =
-    (at : ℕ) (ty : TypeNode) (s : Scope) → FindsType s.1 ((declared_type at ty s).0, (declared_type at ty s).1.1)
+    (at : ℕ) (ty : TypeNode) (s : TagScope) → FindsType s.1 ((declared_type at ty s).0, (declared_type at ty s).1.1)

@@ -5,7 +5,7 @@ use Rattle.c_typed_tree.specs.Typing.{Context}
 use Rattle.c_typed_tree.specs.Lawful.{IsLawfulStruct}
 use Rattle.c_declared_types.specs.declared.declared.DeclaredType.{DeclaredType}
 use Rattle.c_checks.specs.declared.notes.Notes.{Notes}
-use Rattle.c_judgements.specs.Types.{State}
+use Rattle.c_judgements.specs.Types.{JudgementState}
 use Rattle.c_judgement_laws.specs.Covers.{AreTagsIn, IsUntaggedIn}
 use Rattle.c_expression_laws.specs.Types.{IsTypeIn, HasTypedefs}
 use Rattle.c_struct_laws.specs.Growth.{Grow}
@@ -26,15 +26,15 @@ pub record KeepsNoted (n later : Notes) : Type 0 where
   pub noted : IsNoted n → IsNoted later
 
 -- the parts of the types of typedef names are there too
-pub record IsWellDeclared (s : State) : Type 0 where
+pub record IsWellDeclared (s : JudgementState) : Type 0 where
   pub noted : IsNoted s.1
   pub typedefs : HasTypedefs (of_structs s.1.structs) s.0.names
 
-pub record LeadsOn (s later : State) : Type 0 where
+pub record LeadsOn (s later : JudgementState) : Type 0 where
   pub grow : Grow s.1.structs later.1.structs
   pub sound : IsWellDeclared s → IsWellDeclared later
 
 -- a type that is found has parts that are there
-pub record FindsType (s : State) (r : Option DeclaredType × State) : Type 0 where
+pub record FindsType (s : JudgementState) (r : Option DeclaredType × JudgementState) : Type 0 where
   pub leads : LeadsOn s r.1
   pub type : IsWellDeclared s → IfSome r.0 (IsTypeIn (of_structs r.1.1.structs))

@@ -1,7 +1,7 @@
 //! What is noted.
 
 ghost use Rattle.std.specs.Prelude.{◌≡◌, OnOk};
-ghost use Rattle.c_type_rules.specs.Rulings.{Ruling, Gives};
+ghost use Rattle.c_type_rules.specs.Rulings.{Ruling, RuleGives};
 ghost use Rattle.c_checks.specs.Checks.{Finds, note_fault};
 ghost use Rattle.c_checks.specs.Notes as spec;
 
@@ -49,7 +49,7 @@ pub fn note_fault<T: Drop>(
     notes: &mut Notes<'_>,
     ruling: Result<T, Refusal>,
 ) -> Result<Option<T>, AllocError>
-    ensures { (m : Ruling T) → Gives m ruling → Finds (note_fault m notes.old) result notes.new }
+    ensures { (m : Ruling T) → RuleGives m ruling → Finds (note_fault m notes.old) result notes.new }
 {
     match ruling {
         Ok(found) => Ok(Some(found)),

@@ -2,7 +2,7 @@
 
 ghost use Rattle.std.specs.Prelude.{◌≡◌};
 ghost use Rattle.c_constant_rules.specs.Values as spec;
-ghost use Rattle.c_type_rules.specs.Rulings.{Gives};
+ghost use Rattle.c_type_rules.specs.Rulings.{RuleGives};
 
 use c_arithmetic::integer_type::IntegerType;
 use c_arithmetic::outcome::ArithmeticOutcome;
@@ -23,7 +23,7 @@ fn natural(t: IntegerType, word: u64) -> u64
 
 /// The length of an array; 0 where it is below 0.
 pub fn length(a: &TypedExpression) -> Result<u64, Refusal>
-    ensures { Gives (spec.length a.now) result }
+    ensures { RuleGives (spec.length a.now) result }
 {
     match integer_of(&a.ty) {
         None => Err(refuse(a.at, Kind::NotConstant)),
@@ -48,7 +48,7 @@ fn is_kept(s: IntegerType, t: IntegerType, word: u64) -> bool
 }
 
 fn enumeration_value(at: u32, t: IntegerType, word: u64) -> Result<u64, Refusal>
-    ensures { Gives (spec.enumeration_value at t word) result }
+    ensures { RuleGives (spec.enumeration_value at t word) result }
 {
     if is_kept(t, IntegerType::Int, word) {
         return Ok(t.convert(IntegerType::Int, word));
@@ -58,7 +58,7 @@ fn enumeration_value(at: u32, t: IntegerType, word: u64) -> Result<u64, Refusal>
 
 /// The value that an expression gives to an enumeration constant, as a word of the type `int`.
 pub fn given_value(a: &TypedExpression) -> Result<u64, Refusal>
-    ensures { Gives (spec.given_value a.now) result }
+    ensures { RuleGives (spec.given_value a.now) result }
 {
     match integer_of(&a.ty) {
         None => Err(refuse(a.at, Kind::NotConstant)),
@@ -71,7 +71,7 @@ pub fn given_value(a: &TypedExpression) -> Result<u64, Refusal>
 
 /// The value of an enumeration constant without one, which is 1 above the one before it. `at` is the place of its name.
 pub fn next_value(at: u32, before: u64) -> Result<u64, Refusal>
-    ensures { Gives (spec.next_value at before) result }
+    ensures { RuleGives (spec.next_value at before) result }
 {
     match IntegerType::Int.add(before, 1) {
         ArithmeticOutcome::Word(word) => Ok(word),
@@ -82,7 +82,7 @@ pub fn next_value(at: u32, before: u64) -> Result<u64, Refusal>
 
 /// The value of a label, converted to the promoted type of the operand of its `switch`.
 pub fn label(t: IntegerType, a: &TypedExpression) -> Result<u64, Refusal>
-    ensures { Gives (spec.label t a.now) result }
+    ensures { RuleGives (spec.label t a.now) result }
 {
     match integer_of(&a.ty) {
         None => Err(refuse(a.at, Kind::NotConstant)),

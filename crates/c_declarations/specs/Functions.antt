@@ -13,11 +13,11 @@ use Rattle.c_type_faults.specs.declared.faults.Kind.TheVariants.{BadType, BadIni
 use Rattle.c_type_rules.specs.Values.{int, is_same}
 use Rattle.c_checks.specs.Checks.{Check, pure, and_then}
 use Rattle.c_checks.specs.Notes.{with_fault}
-use Rattle.c_judgements.specs.Types.{State, type_named}
+use Rattle.c_judgements.specs.Types.{JudgementState, type_named}
 use Rattle.c_judgements.specs.Leaves.{no_type}
 use Rattle.c_unit_names.specs.declared.names.NameDeclaration.{NameDeclaration}
 use Rattle.c_declarations.specs.declared.walk.UnitSoFar.{UnitSoFar}
-use Rattle.c_declarations.specs.Walk.{Walk, with_notes, declare, is_main, main_checked}
+use Rattle.c_declarations.specs.Walk.{UnitWalk, with_notes, declare, is_main, main_checked}
 use Rattle.c_initialisers.specs.Unfit.{unfit}
 
 -- ---- types
@@ -32,13 +32,13 @@ function_declared has_body ty = record { is_typedef = false; ty = ty; has_value 
 
 -- a declaration of a function of this type, if it has no fault
 abbrev pub function_of :
-    Definitions → ℕ → List ℕ → Option Storage → (has_body : Bool) → Option DeclaredType → Walk → Walk
+    Definitions → ℕ → List ℕ → Option Storage → (has_body : Bool) → Option DeclaredType → UnitWalk → UnitWalk
 function_of ds at name storage has_body None w = declare ds at name None w
 function_of ds at name storage has_body (Some ty) w =
     declare ds at name (Some (function_declared has_body ty)) (with_notes (main_checked storage at name w.1.1) w)
 
 abbrev pub function_with_type :
-    Definitions → ℕ → List ℕ → Option Storage → (has_body : Bool) → Option DeclaredType × Walk → Walk
+    Definitions → ℕ → List ℕ → Option Storage → (has_body : Bool) → Option DeclaredType × UnitWalk → UnitWalk
 function_with_type ds at name storage has_body r = function_of ds at name storage has_body r.0 r.1
 
 -- ---- a function has no initialiser
@@ -50,10 +50,10 @@ is_list (i.List' at _ items) = true
 abbrev pub refusal_of : i.Init → Kind
 refusal_of x = if is_list x then BadInit else BadConversion
 
-abbrev pub init_refused : i.Init → State → State
+abbrev pub init_refused : i.Init → JudgementState → JudgementState
 init_refused x s = (unfit (refusal_of x) x s).1
 
-abbrev pub optional_refused : Option i.Init → State → State
+abbrev pub optional_refused : Option i.Init → JudgementState → JudgementState
 optional_refused None s = s
 optional_refused (Some x) s = init_refused x s
 

@@ -9,12 +9,12 @@ use Rattle.c_definitions.specs.declared.names.Definitions.{Definitions}
 use Rattle.c_typed_tree.specs.declared.types.CType.{CType}
 use Rattle.c_type_faults.specs.declared.faults.Kind.TheVariants.{BadType}
 use Rattle.c_checks.specs.Checks.{Check, fault}
-use Rattle.c_judgements.specs.Types.{State}
+use Rattle.c_judgements.specs.Types.{JudgementState}
 use Rattle.c_tag_bodies.specs.Members.{is_member}
 use Rattle.c_unit_names.specs.declared.names.NameDeclaration.{NameDeclaration}
 use Rattle.c_initialisers.specs.Unfit.{judge_init}
 use Rattle.c_initialisers.specs.Initialisers.{object_cells, length_given}
-use Rattle.c_declarations.specs.Walk.{Walk, in_notes, with_state, with_notes, declare, main_checked, with_object, fill}
+use Rattle.c_declarations.specs.Walk.{UnitWalk, in_notes, with_state, with_notes, declare, main_checked, with_object, fill}
 
 -- ---- types: those of members, which are complete and neither too large nor too deep
 
@@ -37,11 +37,11 @@ array_type at element length n = type_there at (array_with n.structs element len
 -- ---- initialisers
 
 -- what an initialiser is made of is judged also where what it initialises has a fault
-abbrev pub init_judged : Option Init → State → State
+abbrev pub init_judged : Option Init → JudgementState → JudgementState
 init_judged None s = s
 init_judged (Some x) s = (judge_init x s).1
 
-abbrev pub init_filled : List ℕ → CType → Option Init → Walk → Walk
+abbrev pub init_filled : List ℕ → CType → Option Init → UnitWalk → UnitWalk
 init_filled name ty None w = w
 init_filled name ty (Some x) w = fill name w.0 (object_cells ty x w.1)
 
@@ -50,13 +50,13 @@ init_filled name ty (Some x) w = fill name w.0 (object_cells ty x w.1)
 abbrev pub object_declared : CType → (has_value : Bool) → NameDeclaration
 object_declared ty has_value = record { is_typedef = false; ty = d.Value ty; has_value = has_value }
 
-abbrev pub judged_behind : Option Init → Walk → Walk
+abbrev pub judged_behind : Option Init → UnitWalk → UnitWalk
 judged_behind init w = with_state (init_judged init w.1) w
 
-abbrev pub faulty_object : Definitions → ℕ → List ℕ → Option Init → Walk → Walk
+abbrev pub faulty_object : Definitions → ℕ → List ℕ → Option Init → UnitWalk → UnitWalk
 faulty_object ds at name init w = judged_behind init (declare ds at name None w)
 
-abbrev pub object_of : Definitions → ℕ → List ℕ → Option Storage → Option Init → Option CType → Walk → Walk
+abbrev pub object_of : Definitions → ℕ → List ℕ → Option Storage → Option Init → Option CType → UnitWalk → UnitWalk
 object_of ds at name storage init None w = faulty_object ds at name init w
 object_of ds at name storage init (Some ty) w =
     init_filled name ty init
@@ -64,16 +64,17 @@ object_of ds at name storage init (Some ty) w =
     (declare ds at name (Some (object_declared ty (is_some init))) (with_notes (main_checked storage at name w.1.1) w)))
 
 abbrev pub object_with_type :
-    Definitions → ℕ → List ℕ → Option Storage → Option Init → Option CType × Walk → Walk
+    Definitions → ℕ → List ℕ → Option Storage → Option Init → Option CType × UnitWalk → UnitWalk
 object_with_type ds at name storage init r = object_of ds at name storage init r.0 r.1
 
 -- an array without a length has that of its initialiser
-abbrev pub array_object : Definitions → ℕ → List ℕ → Option Storage → Option Init → (element : CType) → Walk → Walk
+abbrev pub array_object : Definitions → ℕ → List ℕ → Option Storage → Option Init → (element : CType) → UnitWalk →
+    UnitWalk
 array_object ds at name storage None element w =
     object_with_type ds at name storage None (in_notes w (no_object at w.1.1))
 array_object ds at name storage (Some x) element w =
     object_with_type ds at name storage (Some x) (in_notes w (array_type at element (length_given element x) w.1.1))
 
-abbrev pub value_object : Definitions → ℕ → List ℕ → Option Storage → Option Init → CType → Walk → Walk
+abbrev pub value_object : Definitions → ℕ → List ℕ → Option Storage → Option Init → CType → UnitWalk → UnitWalk
 value_object ds at name storage init ty w =
     object_with_type ds at name storage init (in_notes w (object_type at ty w.1.1))

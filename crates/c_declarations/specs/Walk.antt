@@ -19,24 +19,24 @@ use Rattle.c_checks.specs.declared.env.Env.{Env}
 use Rattle.c_checks.specs.declared.notes.Notes.{Notes}
 use Rattle.c_checks.specs.Notes.{with_fault}
 use Rattle.c_checks.specs.Scopes.{meaning_of}
-use Rattle.c_judgements.specs.Types.{State}
+use Rattle.c_judgements.specs.Types.{JudgementState}
 use Rattle.c_unit_names.specs.declared.names.NameDeclaration.{NameDeclaration}
 use Rattle.c_unit_names.specs.declared.names.UnitNames.{UnitNames}
 use Rattle.c_unit_names.specs.UnitNames.{declaration}
 use Rattle.c_declarations.specs.declared.walk.UnitSoFar.{UnitSoFar}
 
-abbrev pub Walk : Type 0
-Walk = UnitSoFar × State
+abbrev pub UnitWalk : Type 0
+UnitWalk = UnitSoFar × JudgementState
 
 -- ---- what a judgement leaves as it was
 
-abbrev pub in_notes : {A : Type 0} → Walk → A × Notes → A × Walk
+abbrev pub in_notes : {A : Type 0} → UnitWalk → A × Notes → A × UnitWalk
 in_notes w r = (r.0, (w.0, (w.1.0, r.1)))
 
-abbrev pub with_state : State → Walk → Walk
+abbrev pub with_state : JudgementState → UnitWalk → UnitWalk
 with_state s w = (w.0, s)
 
-abbrev pub with_notes : Notes → Walk → Walk
+abbrev pub with_notes : Notes → UnitWalk → UnitWalk
 with_notes n w = (w.0, (w.1.0, n))
 
 -- ---- names
@@ -45,10 +45,10 @@ abbrev pub with_names : UnitNames → UnitSoFar → UnitSoFar
 with_names names u = record { names = names; objects = u.objects; functions = u.functions; has_main = u.has_main }
 
 -- a name that is declared, or whose declaration has a fault
-abbrev pub enter_names : UnitNames × State → Walk → Walk
+abbrev pub enter_names : UnitNames × JudgementState → UnitWalk → UnitWalk
 enter_names r w = (with_names r.0 w.0, r.1)
 
-abbrev pub declare : Definitions → ℕ → List ℕ → Option NameDeclaration → Walk → Walk
+abbrev pub declare : Definitions → ℕ → List ℕ → Option NameDeclaration → UnitWalk → UnitWalk
 declare ds at name new w = enter_names (declaration ds at name new w.0.names w.1) w
 
 -- `main` is no function of one unit alone
@@ -95,7 +95,7 @@ add_numbered (Some number) name ty u = next_object (number == length u.objects) 
 abbrev pub add_object : Env → List ℕ → CType → UnitSoFar → UnitSoFar
 add_object env name ty u = add_numbered (object_at env name) name ty u
 
-abbrev pub with_object : List ℕ → CType → Walk → Walk
+abbrev pub with_object : List ℕ → CType → UnitWalk → UnitWalk
 with_object name ty w = (add_object w.1.0 name ty w.0, w.1)
 
 -- ---- what initialisers give
@@ -108,7 +108,7 @@ abbrev pub keep_cells : Env → List ℕ → Option (List DataCell) → UnitSoFa
 keep_cells env name None u = u
 keep_cells env name (Some cells) u = fill_numbered (object_at env name) cells u
 
-abbrev pub fill : List ℕ → UnitSoFar → Option (List DataCell) × State → Walk
+abbrev pub fill : List ℕ → UnitSoFar → Option (List DataCell) × JudgementState → UnitWalk
 fill name u r = (keep_cells r.1.0 name r.0 u, r.1)
 
 -- ---- functions, in the order of their bodies
@@ -147,5 +147,5 @@ abbrev pub keep_function : Env → List ℕ → Option TypedFn → UnitSoFar →
 keep_function env name None u = u
 keep_function env name (Some f) u = add_function (function_at env name) f u
 
-abbrev pub body_kept : List ℕ → UnitSoFar → Option TypedFn × State → Walk
+abbrev pub body_kept : List ℕ → UnitSoFar → Option TypedFn × JudgementState → UnitWalk
 body_kept name u r = (keep_function r.1.0 name r.0 u, r.1)

@@ -13,11 +13,11 @@ use Rattle.c_tree.specs.declared.declarations.External.{External}
 use Rattle.c_tree.specs.declared.declarations.External.TheVariants as x
 use Rattle.c_definitions.specs.declared.names.Definitions.{Definitions}
 
-abbrev pub Names : Type 0
-Names = List (Entry (Unit {0}))
+abbrev pub NameSet : Type 0
+NameSet = List (Entry (Unit {0}))
 
 -- a name is counted once
-abbrev pub with_name : List ℕ → Names → Names
+abbrev pub with_name : List ℕ → NameSet → NameSet
 with_name name ns = if is_some (find name ns) then ns else record { name = name; value = tt } ∷ ns
 
 abbrev pub nothing_defined : Definitions
@@ -36,7 +36,7 @@ with_object name d =
     record { function_types = d.function_types; functions = d.functions; objects = with_name name d.objects }
 
 -- a function type is spelled by a list of parameters, or by a typedef name of one (6.7.5.3, 6.7.7)
-unfoldable pub is_function : (function_types : Names) → t.TypeNode → Bool
+unfoldable pub is_function : (function_types : NameSet) → t.TypeNode → Bool
 is_function ns (t.Basic words) = false
 is_function ns (t.Named name) = is_some (find name ns)
 is_function ns (t.Enum' at tag constants) = false

@@ -18,7 +18,7 @@ use Rattle.c_judgements.specs.Names.{name_of}
 use Rattle.c_judgements.specs.Members.{field_named, arrow_named}
 use Rattle.c_judgements.specs.Texts.{string}
 use Rattle.c_judgements.specs.Leaves.{leaf}
-use Rattle.c_judgements.specs.Types.{State, within, pointer, given_length, array, function, type_named, parameter_declared}
+use Rattle.c_judgements.specs.Types.{JudgementState, within, pointer, given_length, array, function, type_named, parameter_declared}
 use Rattle.c_primary_rules.specs.Primary.{integer_constant, character_constant}
 use Rattle.c_checks.specs.Checks.{note_fault}
 use Rattle.c_expressions.specs.Expressions.{judge, judge_row, derive, length_held, parameter_row}
@@ -39,7 +39,7 @@ abbrev IsLength : Type 0 → Option ℕ → Type 0
 IsLength taken a = Unit {0}
 
 -- a walk goes on with another one, of which the property counts
-walk_on : (c : Context) (names : Type 0) {A B : Type 0} (Q : Type 0 → B → Type 0) (s : State) (r : Option A × State) (q : Option B × State) {P : Type 0 → A → Type 0} → Walks c names P s r → Walks c names Q r.1 q
+walk_on : (c : Context) (names : Type 0) {A B : Type 0} (Q : Type 0 → B → Type 0) (s : JudgementState) (r : Option A × JudgementState) (q : Option B × JudgementState) {P : Type 0 → A → Type 0} → Walks c names P s r → Walks c names Q r.1 q
     → Walks c names Q s q
 walk_on c names Q s r q {P} h g = record {
   env = g.env ∙ h.env;
@@ -48,14 +48,14 @@ walk_on c names Q s r q {P} h g = record {
 
 module _ (c : Context) (lawful : IsLawfulContext c) where
   -- names are as they were behind a walk
-  names_after : (names : Type 0) {A : Type 0} (P : Type 0 → A → Type 0) (s : State) (r : Option A × State) → Walks c names P s r → (names → HasNames c s.0) → names → HasNames c r.1.0
+  names_after : (names : Type 0) {A : Type 0} (P : Type 0 → A → Type 0) (s : JudgementState) (r : Option A × JudgementState) → Walks c names P s r → (names → HasNames c s.0) → names → HasNames c r.1.0
   names_after names P s r w h v = subst (HasNames c) (sym w.env) (h v)
 
-  typedefs_after : (names : Type 0) {A : Type 0} (P : Type 0 → A → Type 0) (s : State) (r : Option A × State) → Walks c names P s r → (names → HasTypedefs c s.0.names) → names → HasTypedefs c r.1.0.names
+  typedefs_after : (names : Type 0) {A : Type 0} (P : Type 0 → A → Type 0) (s : JudgementState) (r : Option A × JudgementState) → Walks c names P s r → (names → HasTypedefs c s.0.names) → names → HasTypedefs c r.1.0.names
   typedefs_after names P s r w h v = subst (λ (env : Env). HasTypedefs c env.names) (sym w.env) (h v)
 
   -- a type name: its specifier, then its declarator
-  type_name_walk : (names : Type 0) (place : ℕ) (s : State) (n : Notes) (o : Option DeclaredType) (u : State) → Later c s.1 n → Walks c names (IsFoundType c) (s.0, n) (o, u)
+  type_name_walk : (names : Type 0) (place : ℕ) (s : JudgementState) (n : Notes) (o : Option DeclaredType) (u : JudgementState) → Later c s.1 n → Walks c names (IsFoundType c) (s.0, n) (o, u)
       → Walks c names (λ taken x. IsFitType c x) s (within u.0 (each o (type_named place) u.1))
   type_name_walk names place s n o u later h =
       walk_one c names (IsFoundType c) (λ taken x. IsFitType c x) s o u (type_named place) (walk_after c names (IsFoundType c) s n (o, u) later h) (λ a f. name_found c names place a u.1 f)
@@ -63,7 +63,7 @@ module _ (c : Context) (lawful : IsLawfulContext c) where
   mutual
     unfolding judge
 
-    pub judge_walks : (names : Type 0) (x : e.Expr) (s : State) → (names → HasNames c s.0) → (names → HasTypedefs c s.0.names) → Walks c names (IsJudged c) s (judge x s)
+    pub judge_walks : (names : Type 0) (x : e.Expr) (s : JudgementState) → (names → HasNames c s.0) → (names → HasTypedefs c s.0.names) → Walks c names (IsJudged c) s (judge x s)
     judge_walks names (e.Name at name) s h d = walk_within c names (IsJudged c) s.0 s.1 (name_of at (meaning_of s.0 name) s.1) (name_judged c lawful names at (meaning_of s.0 name) s.1 (λ v. h v name))
     judge_walks names (e.Number at spelling) s h d = walk_within c names (IsJudged c) s.0 s.1 (note_fault (integer_constant at spelling) s.1) (integer_judged c lawful names at spelling s.1)
     judge_walks names (e.Character at spelling) s h d = walk_within c names (IsJudged c) s.0 s.1 (note_fault (character_constant at spelling) s.1) (character_judged c lawful names at spelling s.1)
@@ -129,7 +129,7 @@ module _ (c : Context) (lawful : IsLawfulContext c) where
         comma_walk c lawful names at s (judge_row operands (Some []) s).0 (judge_row operands (Some []) s).1
         (judge_row_walks names operands (Some []) s h d (λ v k. tt))
 
-    pub judge_row_walks : (names : Type 0) {m : _} (xs : k.Row_of-Expr m) (found : Option (List TypedExpression)) (s : State) → (names → HasNames c s.0)
+    pub judge_row_walks : (names : Type 0) {m : _} (xs : k.Row_of-Expr m) (found : Option (List TypedExpression)) (s : JudgementState) → (names → HasNames c s.0)
         → (names → HasTypedefs c s.0.names) → (names → Knows c s.1 → IfSome found (AreJudged c (Takes c s.1))) → Walks c names (AreJudged c) s (judge_row xs found s)
     judge_row_walks names k.end_of-Expr found s h d f = record { env = refl; notes = record { first = refl; knows = λ k. k; takes = λ t. t; found = f } }
     judge_row_walks names (k.more_of-Expr x xs) found s h d f =
@@ -139,7 +139,7 @@ module _ (c : Context) (lawful : IsLawfulContext c) where
         (λ v k. part_becomes c (Takes c s.1) (Takes c u.1) found (judge x s).0 one.notes.takes (f v (one.notes.knows k)) (one.notes.found v k)) in
         walk_on c names (AreJudged c) s (judge x s) (judge_row xs (append_part found (judge x s).0) u) {P = IsJudged c} one rest
 
-    pub derive_walks : (names : Type 0) (at : ℕ) (node : t.TypeNode) (of : Option DeclaredType) (s : State) → (names → HasTypedefs c s.0.names) → (names → Knows c s.1 → IfSome of (IsTypeIn c))
+    pub derive_walks : (names : Type 0) (at : ℕ) (node : t.TypeNode) (of : Option DeclaredType) (s : JudgementState) → (names → HasTypedefs c s.0.names) → (names → Knows c s.1 → IfSome of (IsTypeIn c))
         → Walks c names (IsFoundType c) s (derive at node of s)
     derive_walks names at (t.Basic words) of s d f = record { env = refl; notes = record { first = refl; knows = λ k. k; takes = λ t. t; found = f } }
     derive_walks names at (t.Named name) of s d f = record { env = refl; notes = record { first = refl; knows = λ k. k; takes = λ t. t; found = f } }
@@ -157,20 +157,20 @@ module _ (c : Context) (lawful : IsLawfulContext c) where
     derive_walks names at (t.Takes' _ (k.more_of-TypeNode x k.end_of-TypeNode) _ list) of s d f =
         let row = parameter_row list (Some []) (enter s.0, s.1) in
         let declares = parameter_row_walks names list (Some []) (enter s.0, s.1) d (λ v k. tt) in
-        let outer : State = (leave s.0.outside row.1.0, row.1.1) in
+        let outer : JudgementState = (leave s.0.outside row.1.0, row.1.1) in
         let one : Walks c names (AreParameters c) s (row.0, outer) = record { env = left s.0 row.1.0 declares.env; notes = declares.notes } in
         let r = derive at x of outer in
         let two = derive_walks names at x of outer (typedefs_after names (AreParameters c) s (row.0, outer) one d) (λ v k. f v (declares.notes.knows k)) in
         walk_two c names (AreParameters c) (IsFoundType c) (IsFoundType c) s row.0 outer r.0 r.1 (function at) (λ taken later a back l. l) one two (λ a b l m. function_found c names at a b r.1.1 l m)
 
-    length_walks : (names : Type 0) (size : k.Held-TypeNode-Array-1) (s : State) → Walks c names IsLength s (length_held size s)
+    length_walks : (names : Type 0) (size : k.Held-TypeNode-Array-1) (s : JudgementState) → Walks c names IsLength s (length_held size s)
     length_walks names k.TypeNode-Array-1-None' s = record { env = refl; notes = found_itself c names IsLength s.1 None (λ v k. tt) }
     length_walks names (k.TypeNode-Array-1-Some' _ (k.more_of-Expr x k.end_of-Expr)) s =
         let r = judge x s in
         walk_one c names (λ taken a. Unit {0}) IsLength s r.0 r.1 given_length
         (walk_any c names (IsJudged c) s r.0 r.1 (judge_walks ⊥ x s (λ v. absurd v) (λ v. absurd v))) (λ a f. given_found c names (length a) r.1.1)
 
-    pub parameter_row_walks : (names : Type 0) {m : _} (xs : k.Row_of-Parameter m) (found : Option (List CType)) (s : State) → (names → HasTypedefs c s.0.names)
+    pub parameter_row_walks : (names : Type 0) {m : _} (xs : k.Row_of-Parameter m) (found : Option (List CType)) (s : JudgementState) → (names → HasTypedefs c s.0.names)
         → (names → Knows c s.1 → IfSome found (AreTypes c.structs)) → Declares c names (AreParameters c) s (parameter_row xs found s)
     parameter_row_walks names k.end_of-Parameter found s d f = record {
       env = extends_same s.0 s.0 refl;
@@ -198,7 +198,7 @@ module _ (c : Context) (lawful : IsLawfulContext c) where
 
   -- ---- the laws
 
-  pub type_name_walks : (names : Type 0) (name : TypeName) (s : State) → (names → HasTypedefs c s.0.names) → Walks c names (λ taken x. IsFitType c x) s (type_name name s)
+  pub type_name_walks : (names : Type 0) (name : TypeName) (s : JudgementState) → (names → HasTypedefs c s.0.names) → Walks c names (λ taken x. IsFitType c x) s (type_name name s)
   type_name_walks names name s d =
       let specified = leaf s.0 name.at name.ty s.1 in
       let specifier = leaf_found c names s.0 name.at name.ty s.1 d in
@@ -210,6 +210,6 @@ module _ (c : Context) (lawful : IsLawfulContext c) where
   typed_of taken None t h = tt
   typed_of taken (Some a) t h = h.typed t
 
-  pub expression_typed : (x : e.Expr) (s : State) → HasNames c s.0 → HasTypedefs c s.0.names → Knows c (judge x s).1.1 → Takes c (judge x s).1.1 → IfSome (judge x s).0 (IsTypedIn c)
+  pub expression_typed : (x : e.Expr) (s : JudgementState) → HasNames c s.0 → HasTypedefs c s.0.names → Knows c (judge x s).1.1 → Takes c (judge x s).1.1 → IfSome (judge x s).0 (IsTypedIn c)
   expression_typed x s h d known taken =
       typed_of (Takes c (judge x s).1.1) (judge x s).0 taken ((judge_walks (Unit {0}) x s (λ v. h) (λ v. d)).notes.found tt known)

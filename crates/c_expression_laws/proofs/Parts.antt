@@ -18,7 +18,7 @@ use Rattle.c_checks.specs.Notes.{apart, rejoin, with_fault}
 use Rattle.c_checks.specs.Scopes.{enter, leave, with_name, meaning_of, stands_here}
 use Rattle.c_judgements.specs.Operators.{size_of_value, commas}
 use Rattle.c_judgements.specs.Calls.{call_by_meaning}
-use Rattle.c_judgements.specs.Types.{State, within, no_parameter, within_depth, parameter_type, parameter_meaning, declared_parameter, parameter_declared}
+use Rattle.c_judgements.specs.Types.{JudgementState, within, no_parameter, within_depth, parameter_type, parameter_meaning, declared_parameter, parameter_declared}
 use Rattle.c_judgement_laws.specs.Covers.{is_whole, HasNames, HaveTexts, Knows, Takes, IsLawfulContext, IsJudged, AreJudged, Judges}
 use Rattle.c_judgement_laws.proofs.Notes.{Later, later_itself, later_fault, found_itself, found_none, found_later, found_fault}
 use Rattle.c_judgement_laws.proofs.Forms.{size_judged, commas_judged}
@@ -79,7 +79,7 @@ typedefs_more c name None env h = (tt, h)
 typedefs_more c name (Some x) env h = (tt, h)
 
 -- what a walk over parameters leaves
-pub record Declares (c : Context) (names : Type 0) {A : Type 0} (P : Type 0 → A → Type 0) (s : State) (r : Option A × State) : Type 0 where
+pub record Declares (c : Context) (names : Type 0) {A : Type 0} (P : Type 0 → A → Type 0) (s : JudgementState) (r : Option A × JudgementState) : Type 0 where
   pub env : Extends s.0 r.1.0
   pub typedefs : HasTypedefs c s.0.names → HasTypedefs c r.1.0.names
   pub notes : Judges c names P s.1 (r.0, r.1.1)
@@ -124,7 +124,7 @@ module _ (c : Context) (names : Type 0) where
   parameter_found at None n h = found_none c names (IsParameter c) n n (later_itself c n)
   parameter_found at (Some x) n h = within_found at (parameter_of x) n (λ v k. parameter_typed c x (h v k))
 
-  declared_found : (at : ℕ) (name : Option (List ℕ)) (q : Option CType) (s : State) → (names → Knows c s.1 → IfSome q (λ x. IsTrue (is_type c.structs (type_view x)))) → Declares c names (IsParameter c) s (declared_parameter at name q s)
+  declared_found : (at : ℕ) (name : Option (List ℕ)) (q : Option CType) (s : JudgementState) → (names → Knows c s.1 → IfSome q (λ x. IsTrue (is_type c.structs (type_view x)))) → Declares c names (IsParameter c) s (declared_parameter at name q s)
   declared_found at None q s h = record {
     env = extends_same s.0 s.0 refl;
     typedefs = λ d. d;
@@ -140,7 +140,7 @@ module _ (c : Context) (names : Type 0) where
         notes = record { first = refl; knows = λ k. k; takes = λ t. t; found = h };
       }
 
-  pub one_declared : (at : ℕ) (name : Option (List ℕ)) (of : Option DeclaredType) (s : State) → (names → Knows c s.1 → IfSome of (IsTypeIn c)) → Declares c names (IsParameter c) s (parameter_declared at name of s)
+  pub one_declared : (at : ℕ) (name : Option (List ℕ)) (of : Option DeclaredType) (s : JudgementState) → (names → Knows c s.1 → IfSome of (IsTypeIn c)) → Declares c names (IsParameter c) s (parameter_declared at name of s)
   one_declared at name of s h =
       let one = parameter_found at of s.1 h in
       let r = each of (parameter_type at) s.1 in
@@ -153,7 +153,7 @@ module _ (c : Context) (names : Type 0) where
 
   -- ---- what walks are made of
 
-  pub walk_after : {A : Type 0} (P : Type 0 → A → Type 0) (s : State) (n : Notes) (r : Option A × State) → Later c s.1 n → Walks c names P (s.0, n) r → Walks c names P s r
+  pub walk_after : {A : Type 0} (P : Type 0 → A → Type 0) (s : JudgementState) (n : Notes) (r : Option A × JudgementState) → Later c s.1 n → Walks c names P (s.0, n) r → Walks c names P s r
   walk_after P s n r later h = record { env = h.env; notes = found_later c names P s.1 n (r.0, r.1.1) later h.notes }
 
   pub given_found : (r : Ruling ℕ) (n : Notes) → Judges c names (λ taken a. Unit {0}) n (and_then (note_fault r n) (λ q. pure (option_map Some q)))
@@ -161,7 +161,7 @@ module _ (c : Context) (names : Type 0) where
   given_found (Err f) n = found_none c names (λ taken a. Unit {0}) n (with_fault f.at f.kind n) (later_fault c f.at f.kind n)
 
 module _ (c : Context) (lawful : IsLawfulContext c) (names : Type 0) where
-  pub comma_walk : (at : ℕ) (s : State) (o : Option (List TypedExpression)) (u : State) → Walks c names (AreJudged c) s (o, u) → Walks c names (IsJudged c) s (within u.0 (commas at o u.1))
+  pub comma_walk : (at : ℕ) (s : JudgementState) (o : Option (List TypedExpression)) (u : JudgementState) → Walks c names (AreJudged c) s (o, u) → Walks c names (IsJudged c) s (within u.0 (commas at o u.1))
   comma_walk at s o u w = record {
     env = w.env;
     notes = found_later c names (IsJudged c) s.1 u.1 (commas at o u.1) (later_of c names (AreJudged c) s.1 (o, u.1) w.notes) (commas_judged c lawful names at o u.1 w.notes.found);
@@ -182,7 +182,7 @@ module _ (c : Context) (lawful : IsLawfulContext c) (names : Type 0) where
     takes = λ t. record { locals = t.locals; objects = subst (λ f. HaveTexts c f n.texts) h.first t.objects };
   }
 
-  pub size_walk : (at : ℕ) (s : State) (o : Option TypedExpression) (u : State) → Walks c names (IsJudged c) (s.0, apart s.1) (o, u)
+  pub size_walk : (at : ℕ) (s : JudgementState) (o : Option TypedExpression) (u : JudgementState) → Walks c names (IsJudged c) (s.0, apart s.1) (o, u)
       → Walks c names (IsJudged c) s (within u.0 (each o (size_of_value at) (rejoin s.1.addressed s.1.texts u.1)))
   size_walk at s o u h =
       let next = rejoin s.1.addressed s.1.texts u.1 in
@@ -192,7 +192,7 @@ module _ (c : Context) (lawful : IsLawfulContext c) (names : Type 0) where
             (size_walk_found at o next (λ v k. whole_of (Takes c u.1) o (h.notes.found v k)));
       }
 
-  pub call_walk : (at : ℕ) (name : List ℕ) (s : State) (o : Option (List TypedExpression)) (u : State) → (names → HasNames c s.0) → Walks c names (AreJudged c) s (o, u)
+  pub call_walk : (at : ℕ) (name : List ℕ) (s : JudgementState) (o : Option (List TypedExpression)) (u : JudgementState) → (names → HasNames c s.0) → Walks c names (AreJudged c) s (o, u)
       → Walks c names (IsJudged c) s (within u.0 (call_by_meaning at (meaning_of u.0 name) o u.1))
   call_walk at name s o u h w = record {
     env = w.env;

@@ -5,7 +5,7 @@ use Rattle.c_type_rules.specs.declared.typed.TypedExpression.{TypedExpression}
 use Rattle.c_checks.specs.declared.env.Env.{Env}
 use Rattle.c_checks.specs.declared.notes.Notes.{Notes}
 use Rattle.c_checks.specs.Checks.{each, both}
-use Rattle.c_judgements.specs.Types.{State, within}
+use Rattle.c_judgements.specs.Types.{JudgementState, within}
 use Rattle.c_judgements.specs.Operators.{choice_of}
 use Rattle.c_judgement_laws.specs.Covers.{Knows, Takes, IsJudged, Judges}
 use Rattle.c_judgement_laws.proofs.Notes.{Later, later_then, found_none, found_later}
@@ -26,7 +26,7 @@ module _ (c : Context) (names : Type 0) where
   walk_within P env n r h = record { env = refl; notes = h }
 
   -- a form of one part
-  pub walk_one : {A B : Type 0} (P : Type 0 → A → Type 0) (Q : Type 0 → B → Type 0) (s : State) (o : Option A) (u : State) (k : A → Notes → Option B × Notes) → Walks c names P s (o, u)
+  pub walk_one : {A B : Type 0} (P : Type 0 → A → Type 0) (Q : Type 0 → B → Type 0) (s : JudgementState) (o : Option A) (u : JudgementState) (k : A → Notes → Option B × Notes) → Walks c names P s (o, u)
       → ((a : A) → (names → Knows c u.1 → P (Takes c u.1) a) → Judges c names Q u.1 (k a u.1)) → Walks c names Q s (within u.0 (each o k u.1))
   walk_one P Q s None u k h f = record { env = h.env; notes = found_none c names Q s.1 u.1 (later_of P s.1 (None, u.1) h.notes) }
   walk_one P Q s (Some a) u k h f = record {
@@ -38,7 +38,7 @@ module _ (c : Context) (names : Type 0) where
   later_part : {A : Type 0} (P : Type 0 → A → Type 0) (n m o : Notes) (a : A) → Stays P → Later c m o → (names → Knows c m → P (Takes c m) a) → names → Knows c o → P (Takes c o) a
   later_part P n m o a stays later h v k = stays (Takes c m) (Takes c o) a later.takes (h v (later.knows k))
 
-  pub walk_two : {A B D : Type 0} (P : Type 0 → A → Type 0) (Q : Type 0 → B → Type 0) (R : Type 0 → D → Type 0) (s : State) (o : Option A) (u : State) (q : Option B) (w : State)
+  pub walk_two : {A B D : Type 0} (P : Type 0 → A → Type 0) (Q : Type 0 → B → Type 0) (R : Type 0 → D → Type 0) (s : JudgementState) (o : Option A) (u : JudgementState) (q : Option B) (w : JudgementState)
       (k : A → B → Notes → Option D × Notes) → Stays P → Walks c names P s (o, u) → Walks c names Q u (q, w)
       → ((a : A) (b : B) → (names → Knows c w.1 → P (Takes c w.1) a) → (names → Knows c w.1 → Q (Takes c w.1) b) → Judges c names R w.1 (k a b w.1))
       → Walks c names R s (within w.0 (both o q k w.1))
@@ -59,7 +59,7 @@ module _ (c : Context) (names : Type 0) where
       }
 
   -- a condition and two arms
-  pub walk_choice : (P : Type 0 → TypedExpression → Type 0) (s : State) (o : Option TypedExpression) (u : State) (q : Option TypedExpression) (w : State) (r : Option TypedExpression) (z : State) (at : ℕ)
+  pub walk_choice : (P : Type 0 → TypedExpression → Type 0) (s : JudgementState) (o : Option TypedExpression) (u : JudgementState) (q : Option TypedExpression) (w : JudgementState) (r : Option TypedExpression) (z : JudgementState) (at : ℕ)
       → Stays P → Walks c names P s (o, u) → Walks c names P u (q, w) → Walks c names P w (r, z)
       → ((x a b : TypedExpression) → (names → Knows c z.1 → P (Takes c z.1) x) → (names → Knows c z.1 → P (Takes c z.1) a) → (names → Knows c z.1 → P (Takes c z.1) b)
       → Judges c names P z.1 (choice_of at (Some x) (Some a) (Some b) z.1))
@@ -86,7 +86,7 @@ module _ (c : Context) (names : Type 0) where
       }
 
 -- of a walk of which no name is asked only what it adds is known
-pub walk_any : (c : Context) (names : Type 0) {A : Type 0} (P : Type 0 → A → Type 0) (s : State) (o : Option A) (u : State) → Walks c ⊥ P s (o, u) → Walks c names (λ taken a. Unit {0}) s (o, u)
+pub walk_any : (c : Context) (names : Type 0) {A : Type 0} (P : Type 0 → A → Type 0) (s : JudgementState) (o : Option A) (u : JudgementState) → Walks c ⊥ P s (o, u) → Walks c names (λ taken a. Unit {0}) s (o, u)
 walk_any c names P s o u h = record {
   env = h.env;
   notes = record { first = h.notes.first; knows = h.notes.knows; takes = h.notes.takes; found = λ v k. any o };

@@ -9,13 +9,13 @@ use Rattle.c_expression_parser.specs.declared.cursor.ParseStop.TheVariants.{Refu
 use Rattle.c_grammar.specs.Parser.{ParseOutcome}
 
 -- want of memory has its cause
-abbrev pub HasCause : ParseStop → Type 0
-HasCause Refused = Unit {0}
-HasCause NoMemory = MemoryIsShort
+abbrev pub ParseStopHasCause : ParseStop → Type 0
+ParseStopHasCause Refused = Unit {0}
+ParseStopHasCause NoMemory = MemoryIsShort
 
 abbrev pub Answers : {A : Type 0} → ParseOutcome A → Result A ParseStop → List Lexeme → Type 0
 Answers outcome (Ok a) new = outcome ≡ Ok (a, new)
-Answers outcome (Err e) new = (e ≢ NoMemory → outcome ≡ Err new) × HasCause e
+Answers outcome (Err e) new = (e ≢ NoMemory → outcome ≡ Err new) × ParseStopHasCause e
 
 -- the offset of the first of these tokens, or this one where there is none
 abbrev pub place_or : ℕ → List Lexeme → ℕ

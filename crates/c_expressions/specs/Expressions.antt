@@ -18,10 +18,10 @@ use Rattle.c_judgements.specs.Names.{name_of}
 use Rattle.c_judgements.specs.Calls.{call_by_meaning}
 use Rattle.c_judgements.specs.Members.{field_named, arrow_named}
 use Rattle.c_judgements.specs.Leaves.{leaf}
-use Rattle.c_judgements.specs.Types.{State, within, pointer, given_length, array, function, type_named, parameter_declared}
+use Rattle.c_judgements.specs.Types.{JudgementState, within, pointer, given_length, array, function, type_named, parameter_declared}
 
 unfoldable mutual
-  pub judge : e.Expr → State → Option TypedExpression × State
+  pub judge : e.Expr → JudgementState → Option TypedExpression × JudgementState
   judge (e.Name at name) s = within s.0 (name_of at (meaning_of s.0 name) s.1)
   judge (e.Number at spelling) s = within s.0 (note_fault (integer_constant at spelling) s.1)
   judge (e.Character at spelling) s = within s.0 (note_fault (character_constant at spelling) s.1)
@@ -60,14 +60,14 @@ unfoldable mutual
   judge (e.Comma' at _ operands) s =
       and_then (judge_row operands (Some []) s) (λ vs u. within u.0 (commas at vs u.1))
 
-  pub judge_row : {m : _} → k.Row_of-Expr m → Option (List TypedExpression) → State →
-      Option (List TypedExpression) × State
+  pub judge_row : {m : _} → k.Row_of-Expr m → Option (List TypedExpression) → JudgementState →
+      Option (List TypedExpression) × JudgementState
   judge_row k.end_of-Expr found s = (found, s)
   judge_row (k.more_of-Expr x xs) found s = and_then (judge x s) (λ r. judge_row xs (append_part found r))
 
   -- what a declarator makes of the type that its specifier gives. The parts that stand first in the text are the outer
   -- ones: lengths and lists of parameters go before what they are of
-  pub derive : ℕ → t.TypeNode → Option DeclaredType → State → Option DeclaredType × State
+  pub derive : ℕ → t.TypeNode → Option DeclaredType → JudgementState → Option DeclaredType × JudgementState
   derive at (t.Basic words) of s = (of, s)
   derive at (t.Named name) of s = (of, s)
   derive at (t.Enum' place tag constants) of s = (of, s)
@@ -81,20 +81,21 @@ unfoldable mutual
       and_then (parameter_row list (Some []) (enter s.0, s.1)) (λ found u.
       and_then (derive at x of (leave s.0.outside u.0, u.1)) (λ ty v. within v.0 (both found ty (function at) v.1)))
 
-  pub length_held : k.Held-TypeNode-Array-1 → State → Option (Option ℕ) × State
+  pub length_held : k.Held-TypeNode-Array-1 → JudgementState → Option (Option ℕ) × JudgementState
   length_held k.TypeNode-Array-1-None' s = (Some None, s)
   length_held (k.TypeNode-Array-1-Some' _ (k.more_of-Expr x k.end_of-Expr)) s =
       and_then (judge x s) (λ a u. within u.0 (each a given_length u.1))
 
   -- the parameters of a list, whose names are declared as they come
-  pub parameter_row : {m : _} → k.Row_of-Parameter m → Option (List CType) → State → Option (List CType) × State
+  pub parameter_row : {m : _} → k.Row_of-Parameter m → Option (List CType) → JudgementState →
+      Option (List CType) × JudgementState
   parameter_row k.end_of-Parameter found s = (found, s)
   parameter_row (k.more_of-Parameter at name ty rest) found s =
       and_then (and_then (within s.0 (leaf s.0 at ty s.1)) (λ of u. and_then (derive at ty of u) (λ r.
       parameter_declared at name r))) (λ r. parameter_row rest (append_part found r))
 
 -- a type name: the type of its specifier, and what its declarator makes of it
-abbrev pub type_name : TypeName → State → Option DeclaredType × State
+abbrev pub type_name : TypeName → JudgementState → Option DeclaredType × JudgementState
 type_name name s =
     and_then (within s.0 (leaf s.0 name.at name.ty s.1)) (λ of u. and_then (derive name.at name.ty of u) (λ r v.
     within v.0 (each r (type_named name.at) v.1)))

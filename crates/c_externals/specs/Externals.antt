@@ -16,14 +16,14 @@ use Rattle.c_declared_types.specs.declared.declared.DeclaredType.TheVariants as 
 use Rattle.c_typed_tree.specs.declared.types.CType.{CType}
 use Rattle.c_definitions.specs.declared.names.Definitions.{Definitions}
 use Rattle.c_checks.specs.Checks.{each}
-use Rattle.c_judgements.specs.Types.{State, type_named}
-use Rattle.c_tag_bodies.specs.Bodies.{Scope, declared_type}
+use Rattle.c_judgements.specs.Types.{JudgementState, type_named}
+use Rattle.c_tag_bodies.specs.Bodies.{TagScope, declared_type}
 use Rattle.c_declarations.specs.Unfit.{judge_init}
 use Rattle.c_statements.specs.declared.functions.FunctionType.{FunctionType}
 use Rattle.c_statements.specs.Functions.{function}
 use Rattle.c_unit_names.specs.declared.names.NameDeclaration.{NameDeclaration}
 use Rattle.c_declarations.specs.declared.walk.UnitSoFar.{UnitSoFar}
-use Rattle.c_declarations.specs.Walk.{Walk, in_notes, with_state, declare, body_kept}
+use Rattle.c_declarations.specs.Walk.{UnitWalk, in_notes, with_state, declare, body_kept}
 use Rattle.c_declarations.specs.Objects.{faulty_object, array_object, value_object}
 use Rattle.c_declarations.specs.Functions.{function_type, function_with_type, optional_refused, init_refused, defined_type, main_seen}
 
@@ -32,24 +32,25 @@ use Rattle.c_declarations.specs.Functions.{function_type, function_with_type, op
 abbrev pub typedef_of : DeclaredType → NameDeclaration
 typedef_of ty = record { is_typedef = true; ty = ty; has_value = false }
 
-abbrev pub typedef_with : Definitions → ℕ → List ℕ → Option DeclaredType × Walk → Walk
+abbrev pub typedef_with : Definitions → ℕ → List ℕ → Option DeclaredType × UnitWalk → UnitWalk
 typedef_with ds at name r = declare ds at name (option_map typedef_of r.0) r.1
 
-abbrev pub typedef_declared : Definitions → ℕ → List ℕ → Option DeclaredType → Walk → Walk
+abbrev pub typedef_declared : Definitions → ℕ → List ℕ → Option DeclaredType → UnitWalk → UnitWalk
 typedef_declared ds at name ty w = typedef_with ds at name (in_notes w (each ty (type_named at) w.1.1))
 
 -- ---- objects; a typedef name of a function type declares a function
 
-abbrev pub prototype : Definitions → ℕ → List ℕ → Option Storage → DeclaredType → Walk → Walk
+abbrev pub prototype : Definitions → ℕ → List ℕ → Option Storage → DeclaredType → UnitWalk → UnitWalk
 prototype ds at name storage ty w = function_with_type ds at name storage false (in_notes w (function_type at ty w.1.1))
 
-abbrev pub refused_behind : Option Init → Walk → Walk
+abbrev pub refused_behind : Option Init → UnitWalk → UnitWalk
 refused_behind init w = with_state (optional_refused init w.1) w
 
-abbrev pub value_behind : Init → Walk → Walk
+abbrev pub value_behind : Init → UnitWalk → UnitWalk
 value_behind init w = with_state (init_refused init w.1) w
 
-abbrev pub object_with : Definitions → ℕ → List ℕ → Option Storage → Option Init → Option DeclaredType → Walk → Walk
+abbrev pub object_with : Definitions → ℕ → List ℕ → Option Storage → Option Init → Option DeclaredType → UnitWalk →
+    UnitWalk
 object_with ds at name storage init None w = faulty_object ds at name init w
 object_with ds at name storage init (Some (d.Value ty)) w = value_object ds at name storage init ty w
 object_with ds at name storage init (Some (d.Unsized element)) w = array_object ds at name storage init element w
@@ -63,10 +64,10 @@ main_with name None u = u
 main_with name (Some ty) u = main_seen name ty u
 
 -- a definition of `main` counts whatever fault it has but for its type
-abbrev pub with_main_in : List ℕ → Option DeclaredType × Walk → Option DeclaredType × Walk
+abbrev pub with_main_in : List ℕ → Option DeclaredType × UnitWalk → Option DeclaredType × UnitWalk
 with_main_in name r = (r.0, (main_with name r.0 r.1.0, r.1.1))
 
-abbrev pub with_definition : ℕ → TypeNode → Option DeclaredType × Walk → Option DeclaredType × Walk
+abbrev pub with_definition : ℕ → TypeNode → Option DeclaredType × UnitWalk → Option DeclaredType × UnitWalk
 with_definition at node r = in_notes r.1 (each r.0 (defined_type at node) r.1.1.1)
 
 abbrev pub type_with : CType → List CType → FunctionType
@@ -80,56 +81,58 @@ type_of_function (Some (d.Unsized element)) = None
 type_of_function (Some (d.Function of parameters)) = Some (type_with of parameters)
 
 -- a body is judged behind the declaration of its name, which may call itself there
-abbrev pub body_judged : Declaration → Option FunctionType → List Stmt → Walk → Walk
+abbrev pub body_judged : Declaration → Option FunctionType → List Stmt → UnitWalk → UnitWalk
 body_judged e of list w = body_kept e.name w.0 (function e of list w.1)
 
-abbrev pub definition_with : Definitions → Declaration → Option Storage → List Stmt → Option DeclaredType × Walk → Walk
+abbrev pub definition_with : Definitions → Declaration → Option Storage → List Stmt → Option DeclaredType × UnitWalk →
+    UnitWalk
 definition_with ds e storage list r =
     body_judged e (type_of_function r.0) list (function_with_type ds e.at e.name storage true r)
 
-abbrev pub definition : Definitions → Declaration → Option Storage → List Stmt → DeclaredType → Walk → Walk
+abbrev pub definition : Definitions → Declaration → Option Storage → List Stmt → DeclaredType → UnitWalk → UnitWalk
 definition ds e storage list ty w =
     definition_with ds e storage list
     (with_definition e.at e.ty (with_main_in e.name (in_notes w (function_type e.at ty w.1.1))))
 
-abbrev pub function_with : Definitions → Declaration → Option Storage → FunctionEnd → DeclaredType → Walk → Walk
+abbrev pub function_with : Definitions → Declaration → Option Storage → FunctionEnd → DeclaredType → UnitWalk → UnitWalk
 function_with ds e storage f.Nothing ty w = prototype ds e.at e.name storage ty w
 function_with ds e storage (f.Init init) ty w = value_behind init (prototype ds e.at e.name storage ty w)
 function_with ds e storage (f.Body list) ty w = definition ds e storage list ty w
 
 -- what stands behind a declaration with a fault
-abbrev pub end_judged : Declaration → FunctionEnd → State → State
+abbrev pub end_judged : Declaration → FunctionEnd → JudgementState → JudgementState
 end_judged e f.Nothing s = s
 end_judged e (f.Init init) s = (judge_init init s).1
 end_judged e (f.Body list) s = (function e None list s).1
 
-abbrev pub end_behind : Declaration → FunctionEnd → Walk → Walk
+abbrev pub end_behind : Declaration → FunctionEnd → UnitWalk → UnitWalk
 end_behind e end w = with_state (end_judged e end w.1) w
 
-abbrev pub function_typed : Definitions → Declaration → Option Storage → FunctionEnd → Option DeclaredType → Walk → Walk
+abbrev pub function_typed : Definitions → Declaration → Option Storage → FunctionEnd → Option DeclaredType →
+    UnitWalk → UnitWalk
 function_typed ds e storage end None w = end_behind e end (declare ds e.at e.name None w)
 function_typed ds e storage end (Some ty) w = function_with ds e storage end ty w
 
 -- ---- the type of each comes first
 
 -- what follows a type with the bodies in it
-abbrev pub behind_type : UnitSoFar → Option DeclaredType × Scope → (Option DeclaredType → Walk → Walk) →
-    UnitSoFar × Scope
+abbrev pub behind_type : UnitSoFar → Option DeclaredType × TagScope → (Option DeclaredType → UnitWalk → UnitWalk) →
+    UnitSoFar × TagScope
 behind_type u r rest = ((rest r.0 (u, r.1.1)).0, (r.1.0, (rest r.0 (u, r.1.1)).1))
 
-abbrev pub type_of : Declaration → Scope → Option DeclaredType × Scope
+abbrev pub type_of : Declaration → TagScope → Option DeclaredType × TagScope
 type_of e s = declared_type e.at e.ty s
 
 -- a declaration that declares tags alone has no place of its own
-abbrev pub tags_declared : UnitSoFar → Option DeclaredType × Scope → UnitSoFar × Scope
+abbrev pub tags_declared : UnitSoFar → Option DeclaredType × TagScope → UnitSoFar × TagScope
 tags_declared u r = (u, r.1)
 
-abbrev pub external : Definitions → External → UnitSoFar × Scope → UnitSoFar × Scope
+abbrev pub external : Definitions → External → UnitSoFar × TagScope → UnitSoFar × TagScope
 external ds (x.Typedef e) s = behind_type s.0 (type_of e s.1) (typedef_declared ds e.at e.name)
 external ds (x.Object e storage init) s = behind_type s.0 (type_of e s.1) (object_with ds e.at e.name storage init)
 external ds (x.Function e storage end) s = behind_type s.0 (type_of e s.1) (function_typed ds e storage end)
 external ds (x.Tags storage ty) s = tags_declared s.0 (declared_type 0 ty s.1)
 
-abbrev pub externals : Definitions → List External → UnitSoFar × Scope → UnitSoFar × Scope
+abbrev pub externals : Definitions → List External → UnitSoFar × TagScope → UnitSoFar × TagScope
 externals ds [] s = s
 externals ds (e ∷ es) s = externals ds es (external ds e s)

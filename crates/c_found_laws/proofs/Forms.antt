@@ -48,8 +48,8 @@ use Rattle.c_judgements.specs.Texts.{bytes_of, string_of, string}
 use Rattle.c_judgements.specs.Calls.{argument, convert_arguments, call_passing, call_of, call_by_meaning}
 use Rattle.c_judgements.specs.Members.{member_at, number_in, meaning_in, member_of, struct_number, target_number, field_in, field_named, arrow_in, arrow_named}
 use Rattle.c_judgements.specs.Leaves.{no_type, named_type, tag_named, enum_tagged, enum_type, struct_numbered, struct_tagged, struct_at, struct_type, leaf}
-use Rattle.c_judgements.specs.Types.{State, within, there, type_named, no_parameter, within_depth, parameter_type, parameter_meaning, declared_parameter, parameter_declared}
-use Rattle.c_found_laws.specs.Laws.{is_sound, are_sound_names, are_sound_members, IsSound, Tells, IsFound, Finds}
+use Rattle.c_judgements.specs.Types.{JudgementState, within, there, type_named, no_parameter, within_depth, parameter_type, parameter_meaning, declared_parameter, parameter_declared}
+use Rattle.c_found_laws.specs.Laws.{is_sound, are_sound_names, are_sound_members, NamesAreSound, Tells, IsFound, YieldsFound}
 
 -- ---- truth values and lists
 
@@ -82,14 +82,14 @@ holds test (Some x) = test x
 
 -- ---- what follows what
 
-pub tells_kept : {X : Type 0} (s later : State) → later.1.faults ≡ s.1.faults → later.1.uses ≡ s.1.uses → later.1.members ≡ s.1.members → later.0.names ≡ s.0.names → X → Tells X s later
+pub tells_kept : {X : Type 0} (s later : JudgementState) → later.1.faults ≡ s.1.faults → later.1.uses ≡ s.1.uses → later.1.members ≡ s.1.members → later.0.names ≡ s.0.names → X → Tells X s later
 tells_kept s later f v w e x = record {
   before = λ t. (sym f ∙ t.0, sym v ∙ t.1);
   stays = λ t h. (subst (λ names. IsTrue (are_sound_names names)) (sym e) h.0, subst (λ tables. IsTrue (list_all are_sound_members tables)) (sym w) h.1);
   found = λ t h. x;
 }
 
-pub tells_none : {X : Type 0} (s : State) → X → Tells X s s
+pub tells_none : {X : Type 0} (s : JudgementState) → X → Tells X s s
 tells_none s x = record { before = λ t. t; stays = λ t h. h; found = λ t h. x }
 
 pub tells_fault : {X : Type 0} (env : Env) (at : ℕ) (kind : Kind) (n : Notes) → Tells X (env, n) (env, with_fault at kind n)
@@ -106,28 +106,28 @@ tells_use env number at n = record {
   found = λ t h. append_is_not n.uses (record { number = number; at = at }) t.1;
 }
 
-pub tells_as : {X Y : Type 0} (s later : State) → (X → Y) → Tells X s later → Tells Y s later
+pub tells_as : {X Y : Type 0} (s later : JudgementState) → (X → Y) → Tells X s later → Tells Y s later
 tells_as s later f h = record { before = h.before; stays = h.stays; found = λ t g. f (h.found t g) }
 
-pub tells_then : {X Y : Type 0} (s u v : State) → Tells X s u → Tells Y u v → Tells (X × Y) s v
+pub tells_then : {X Y : Type 0} (s u v : JudgementState) → Tells X s u → Tells Y u v → Tells (X × Y) s v
 tells_then s u v h g = record {
   before = λ t. h.before (g.before t);
   stays = λ t k. g.stays t (h.stays (g.before t) k);
   found = λ t k. (h.found (g.before t) k, g.found t (h.stays (g.before t) k));
 }
 
-pub tells_both : {X Y Z : Type 0} (s u v : State) → (X → Y → Z) → Tells X s u → Tells Y u v → Tells Z s v
+pub tells_both : {X Y Z : Type 0} (s u v : JudgementState) → (X → Y → Z) → Tells X s u → Tells Y u v → Tells Z s v
 tells_both s u v f h g = tells_as s v (λ p. f p.0 p.1) (tells_then s u v h g)
 
 -- nothing is left to be said of what is not found
-pub tells_never : {X : Type 0} (s u : State) → Tells (IsTrue false) s u → Tells X s u
+pub tells_never : {X : Type 0} (s u : JudgementState) → Tells (IsTrue false) s u → Tells X s u
 tells_never s u h = tells_as s u no_true h
 
 pub ruled : {A : Type 0} (env : Env) (r : Ruling A) (n : Notes) → Tells (IsFound (note_fault r n).0) (env, n) (env, (note_fault r n).1)
 ruled env (Ok a) n = tells_none (env, n) refl
 ruled env (Err f) n = tells_fault env f.at f.kind n
 
-module _ (env : Env) (s : State) where
+module _ (env : Env) (s : JudgementState) where
   pub each_tells : {A B : Type 0} (o : Option A) (f : A → Notes → Option B × Notes) (n : Notes) → Tells (IsFound o) s (env, n) → ((a : A) → Tells (IsFound (f a n).0) (env, n) (env, (f a n).1))
       → Tells (IsFound (each o f n).0) s (env, (each o f n).1)
   each_tells None f n h g = tells_never s (env, n) h
@@ -183,7 +183,7 @@ module _ (env : Env) where
   prefix_tells at op a n =
       tells_both (env, n) (env, taken_by op a.place n) (env, (apply_prefix at op a n).1) (λ x y. y) (taken_tells op a.place n) (ruled env (unary n.structs at op a) (taken_by op a.place n))
 
-  pub choice_tells : (s : State) (at : ℕ) (c a b : Option TypedExpression) (n : Notes) → Tells ((IsFound c × IsFound a) × IsFound b) s (env, n) → Tells (IsFound (choice_of at c a b n).0) s (env, (choice_of at c a b n).1)
+  pub choice_tells : (s : JudgementState) (at : ℕ) (c a b : Option TypedExpression) (n : Notes) → Tells ((IsFound c × IsFound a) × IsFound b) s (env, n) → Tells (IsFound (choice_of at c a b n).0) s (env, (choice_of at c a b n).1)
   choice_tells s at None a b n h = tells_as s (env, n) (λ x. no_true x.0.0) h
   choice_tells s at (Some c) None b n h = tells_as s (env, n) (λ x. no_true x.0.1) h
   choice_tells s at (Some c) (Some a) None n h = tells_as s (env, n) (λ x. no_true x.1) h
@@ -199,7 +199,7 @@ module _ (env : Env) where
       choose true = tells_none (env, n) refl
       choose false = tells_fault env at BadOperand n
 
-  pub commas_tells : (s : State) (at : ℕ) (o : Option (List TypedExpression)) (n : Notes) → Tells (IsFound o) s (env, n) → Tells (IsFound (commas at o n).0) s (env, (commas at o n).1)
+  pub commas_tells : (s : JudgementState) (at : ℕ) (o : Option (List TypedExpression)) (n : Notes) → Tells (IsFound o) s (env, n) → Tells (IsFound (commas at o n).0) s (env, (commas at o n).1)
   commas_tells s at o n h = each_tells env s o (commas_between at) n h (λ l. between_tells at l n)
 
 -- ---- names, and what a sound scope says of them
@@ -256,7 +256,7 @@ module _ (env : Env) where
 
   -- ---- calls
 
-  arguments_tell : (s : State) (tys : List CType) (args : List TypedExpression) (found : Option (List TExpr)) (n : Notes) → Tells (IsFound found) s (env, n)
+  arguments_tell : (s : JudgementState) (tys : List CType) (args : List TypedExpression) (found : Option (List TExpr)) (n : Notes) → Tells (IsFound found) s (env, n)
       → Tells (IsFound (convert_arguments tys args found n).0) s (env, (convert_arguments tys args found n).1)
   arguments_tell s [] args found n h = h
   arguments_tell s (ty ∷ tys) [] found n h = h
@@ -275,7 +275,7 @@ module _ (env : Env) where
           tells_as (env, n) (env, (by (Ok l)).1) (map_found (call at callee ty) (convert_arguments tys l (Some []) n).0) (arguments_tell (env, n) tys l (Some []) n (tells_none (env, n) refl))
       of (Err f) = tells_fault env f.at f.kind n
 
-  call_by : (s : State) (at : ℕ) (o : Option NameMeaning) (args : Option (List TypedExpression)) (n : Notes) → (IsTrue (are_sound_names env.names) → IsTrue (holds is_sound o)) → Tells (IsFound args) s (env, n)
+  call_by : (s : JudgementState) (at : ℕ) (o : Option NameMeaning) (args : Option (List TypedExpression)) (n : Notes) → (IsTrue (are_sound_names env.names) → IsTrue (holds is_sound o)) → Tells (IsFound args) s (env, n)
       → Tells (IsFound (call_by_meaning at o args n).0) s (env, (call_by_meaning at o args n).1)
   call_by s at None args n h g = tells_both s (env, n) (env, with_fault at UnknownName n) (λ x y. y) g (tells_fault env at UnknownName n)
   call_by s at (Some m.Faulty) args n h g = tells_both s (env, n) (env, n) (λ x y. y) g (faulty_tells env n h)
@@ -286,7 +286,7 @@ module _ (env : Env) where
   call_by s at (Some (m.Function callee result parameters)) args n h g = each_tells env s args (call_of at callee result parameters) n g (λ l. call_of_tells at callee result parameters l n)
   call_by s at (Some (m.Typedef ty)) args n h g = tells_both s (env, n) (env, with_fault at NotFunction n) (λ x y. y) g (tells_fault env at NotFunction n)
 
-  pub call_tells : (s : State) (at : ℕ) (name : List ℕ) (args : Option (List TypedExpression)) (n : Notes) → Tells (IsFound args) s (env, n)
+  pub call_tells : (s : JudgementState) (at : ℕ) (name : List ℕ) (args : Option (List TypedExpression)) (n : Notes) → Tells (IsFound args) s (env, n)
       → Tells (IsFound (call_by_meaning at (meaning_of env name) args n).0) s (env, (call_by_meaning at (meaning_of env name) args n).1)
   call_tells s at name args n h = call_by s at (meaning_of env name) args n (meaning_sound env name) h
 
@@ -430,29 +430,29 @@ module _ (env : Env) where
   parameter_type_tells at x n = depth_tells at (parameter_of x) n
 
 -- a name with a sound meaning
-pub tells_named : {X : Type 0} (name : List ℕ) (meaning : NameMeaning) (s : State) → IsTrue (is_sound meaning) → X → Tells X s (with_name name meaning s.0, s.1)
+pub tells_named : {X : Type 0} (name : List ℕ) (meaning : NameMeaning) (s : JudgementState) → IsTrue (is_sound meaning) → X → Tells X s (with_name name meaning s.0, s.1)
 tells_named name meaning s h x = record {
   before = λ t. t;
   stays = λ t g. (also (is_sound meaning) (are_sound_names s.0.names) h g.0, g.1);
   found = λ t g. x;
 }
 
-parameter_meaning_tells : (name : List ℕ) (o : Option CType) (s u : State) → Tells (IsFound o) s u → Tells (IsFound o) s (with_name name (parameter_meaning o) u.0, u.1)
+parameter_meaning_tells : (name : List ℕ) (o : Option CType) (s u : JudgementState) → Tells (IsFound o) s u → Tells (IsFound o) s (with_name name (parameter_meaning o) u.0, u.1)
 parameter_meaning_tells name None s u h = record { before = h.before; stays = λ t g. no_true (h.found t g); found = h.found }
 parameter_meaning_tells name (Some ty) s u h = tells_both s u (with_name name (m.Local 0 ty) u.0, u.1) (λ x y. x) h (tells_named {X = Unit {0}} name (m.Local 0 ty) u refl tt)
 
-declared_tells : (at : ℕ) (name : Option (List ℕ)) (o : Option CType) (s u : State) → Tells (IsFound o) s u → Finds s (declared_parameter at name o u)
+declared_tells : (at : ℕ) (name : Option (List ℕ)) (o : Option CType) (s u : JudgementState) → Tells (IsFound o) s u → YieldsFound s (declared_parameter at name o u)
 declared_tells at None o s u h = h
 declared_tells at (Some name) o s u h = choose (stands_here u.0 (find name u.0.names))
   where
-    either : Bool → Option CType × State
+    either : Bool → Option CType × JudgementState
     either b = if b then within u.0 (no_parameter at Redeclared u.1) else (o, (with_name name (parameter_meaning o) u.0, u.1))
 
-    choose : (b : Bool) → Finds s (either b)
+    choose : (b : Bool) → YieldsFound s (either b)
     choose true = tells_both s u (u.0, with_fault at Redeclared u.1) (λ x y. y) h (tells_fault u.0 at Redeclared u.1)
     choose false = parameter_meaning_tells name o s u h
 
-pub parameter_tells : (at : ℕ) (name : Option (List ℕ)) (of : Option DeclaredType) (s u : State) → Tells (IsFound of) s u → Finds s (parameter_declared at name of u)
+pub parameter_tells : (at : ℕ) (name : Option (List ℕ)) (of : Option DeclaredType) (s u : JudgementState) → Tells (IsFound of) s u → YieldsFound s (parameter_declared at name of u)
 parameter_tells at name of s u h =
     let r = each of (parameter_type at) u.1 in
     declared_tells at name r.0 s (u.0, r.1) (each_tells u.0 s of (parameter_type at) u.1 h (λ x. parameter_type_tells u.0 at x u.1))
@@ -464,12 +464,12 @@ drop_sound test zero xs h = h
 drop_sound test (suc k) [] h = refl
 drop_sound test (suc k) (x ∷ xs) h = drop_sound test k xs (back (test x) (list_all test xs) h)
 
-pub left_tells : {X : Type 0} (s u : State) → Tells X (enter s.0, s.1) u → Tells X s (leave s.0.outside u.0, u.1)
+pub left_tells : {X : Type 0} (s u : JudgementState) → Tells X (enter s.0, s.1) u → Tells X s (leave s.0.outside u.0, u.1)
 left_tells s u h = record {
   before = h.before;
   stays = λ t g. scope (h.stays t g);
   found = h.found;
 }
   where
-    scope : IsSound u → IsSound (leave s.0.outside u.0, u.1)
+    scope : NamesAreSound u → NamesAreSound (leave s.0.outside u.0, u.1)
     scope g = (drop_sound (λ (e : Entry NameMeaning). is_sound e.value) (length u.0.names - u.0.outside) u.0.names g.0, g.1)

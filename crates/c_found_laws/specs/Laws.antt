@@ -10,7 +10,7 @@ use Rattle.c_checks.specs.declared.meanings.NameMeaning.{NameMeaning}
 use Rattle.c_checks.specs.declared.meanings.NameMeaning.TheVariants as m
 use Rattle.c_checks.specs.declared.notes.Notes.{Notes}
 use Rattle.c_judgements.specs.Leaves.{leaf}
-use Rattle.c_judgements.specs.Types.{State}
+use Rattle.c_judgements.specs.Types.{JudgementState}
 use Rattle.c_expressions.specs.Expressions.{judge, derive}
 
 -- no fault was noted, and no use of what is never defined
@@ -34,32 +34,33 @@ are_sound_names names = list_all (λ (e : Entry NameMeaning). is_sound e.value) 
 abbrev pub are_sound_members : List (Entry (Option ℕ)) → Bool
 are_sound_members names = list_all (λ (e : Entry (Option ℕ)). is_some e.value) names
 
-abbrev pub IsSound : State → Type 0
-IsSound s = IsTrue (are_sound_names s.0.names) × IsTrue (list_all are_sound_members s.1.members)
+abbrev pub NamesAreSound : JudgementState → Type 0
+NamesAreSound s = IsTrue (are_sound_names s.0.names) × IsTrue (list_all are_sound_members s.1.members)
 
 -- ---- from one state to a later one, in which nothing was noted
 
-pub record Tells (X : Type 0) (s later : State) : Type 0 where
+pub record Tells (X : Type 0) (s later : JudgementState) : Type 0 where
   pub before : IsClean later.1 → IsClean s.1
-  pub stays : IsClean later.1 → IsSound s → IsSound later
-  pub found : IsClean later.1 → IsSound s → X
+  pub stays : IsClean later.1 → NamesAreSound s → NamesAreSound later
+  pub found : IsClean later.1 → NamesAreSound s → X
 
 abbrev pub IsFound : {A : Type 0} → Option A → Type 0
 IsFound o = IsTrue (is_some o)
 
 -- what is judged is found
-abbrev pub Finds : {A : Type 0} → State → Option A × State → Type 0
-Finds s r = Tells (IsFound r.0) s r.1
+abbrev pub YieldsFound : {A : Type 0} → JudgementState → Option A × JudgementState → Type 0
+YieldsFound s r = Tells (IsFound r.0) s r.1
 
 abbrev pub ExpressionsAreFound : Type 0
-ExpressionsAreFound = (x : Expr) (s : State) → Finds s (judge x s)
+ExpressionsAreFound = (x : Expr) (s : JudgementState) → YieldsFound s (judge x s)
 
 abbrev pub SpecifiersAreFound : Type 0
 SpecifiersAreFound =
-    (env : Env) (at : ℕ) (node : TypeNode) (n : Notes) → Tells (IsFound (leaf env at node n).0) (env, n) (env, (leaf env at node n).1)
+    (env : Env) (at : ℕ) (node : TypeNode) (n : Notes) → Tells (IsFound (leaf env at node n).0) (env, n)
+    (env, (leaf env at node n).1)
 
 -- a declarator makes a type of the type of its specifier, if that was found
 abbrev pub DeclaratorsAreFound : Type 0
 DeclaratorsAreFound =
-    (at : ℕ) (node : TypeNode) (of : Option DeclaredType) (s : State) →
+    (at : ℕ) (node : TypeNode) (of : Option DeclaredType) (s : JudgementState) →
     Tells (IsFound of → IsFound (derive at node of s).0) s (derive at node of s).1

@@ -8,7 +8,7 @@ use Rattle.c_typed_tree.specs.declared.statements.TStmt.{TStmt}
 use Rattle.c_typed_tree.specs.declared.units.Local.{Local}
 use Rattle.c_checks.specs.Checks.{walk, append_part}
 use Rattle.c_checks.specs.Scopes.{enter}
-use Rattle.c_judgements.specs.Types.{State}
+use Rattle.c_judgements.specs.Types.{JudgementState}
 use Rattle.c_statement_rules.specs.Jumps.{no_jumps}
 use Rattle.c_statement_rules.specs.Locals.{BodyState, parameter_named, with_addressed}
 use Rattle.c_statements.specs.declared.functions.FunctionType.{FunctionType}
@@ -22,13 +22,13 @@ use Rattle.c_found_statement_laws.proofs.Statements.{statement_tells}
 
 -- ---- parameters: without a type for the function nothing is said of what is found
 
-parameters_tell : (ps : List Parameter) (sound : Bool) (v : State) (w : BodyState) → Tells (Unit {0}) v w.1 → Tells (Unit {0}) v (parameters ps sound w).1.1
+parameters_tell : (ps : List Parameter) (sound : Bool) (v : JudgementState) (w : BodyState) → Tells (Unit {0}) v w.1 → Tells (Unit {0}) v (parameters ps sound w).1.1
 parameters_tell [] sound v w h = h
 parameters_tell (p ∷ ps) sound v w h =
     let r = parameter_of p w in
     parameters_tell ps (sound && is_some r.0) v r.1 (tells_both v w.1 r.1.1 (λ x y. tt) h (parameter_tells p w))
 
-typed_parameters_tell : (ps : List Parameter) (tys : List CType) (sound : Bool) (v : State) (w : BodyState) → Tells (IsTrue sound) v w.1
+typed_parameters_tell : (ps : List Parameter) (tys : List CType) (sound : Bool) (v : JudgementState) (w : BodyState) → Tells (IsTrue sound) v w.1
     → Tells (IsTrue (are_as_many ps tys) → IsTrue (typed_parameters ps tys sound w).0) v (typed_parameters ps tys sound w).1.1
 typed_parameters_tell [] [] sound v w h = tells_as v w.1 (λ x k. x) h
 typed_parameters_tell [] (ty ∷ tys) sound v w h = tells_as v w.1 (λ x k. no_true k) h
@@ -50,7 +50,7 @@ declared_tells (Some of) ps w = typed_parameters_tell ps of.parameters true w.1 
 -- ---- statements
 
 module _ (of : Option CType) where
-  list_tells : (xs : List Stmt) (found : Option (List TStmt)) (v : State) (w : BodyState) → Tells (IsFound of → IsFound found) v w.1
+  list_tells : (xs : List Stmt) (found : Option (List TStmt)) (v : JudgementState) (w : BodyState) → Tells (IsFound of → IsFound found) v w.1
       → Tells (IsFound of → IsFound (walk (statement of no_jumps) xs found w).0) v (walk (statement of no_jumps) xs found w).1.1
   list_tells [] found v w h = h
   list_tells (x ∷ xs) found v w h =
@@ -66,7 +66,7 @@ made_found d (Some of) false params ls found h g k = no_true (h k)
 made_found d (Some of) true params ls None h g k = no_true (g refl)
 made_found d (Some of) true params ls (Some list) h g k = refl
 
-pub function_tells : (d : Declaration) (of : Option FunctionType) (list : List Stmt) (s : State) → Tells (IsTrue (fits of d) → IsFound (function d of list s).0) s (function d of list s).1
+pub function_tells : (d : Declaration) (of : Option FunctionType) (list : List Stmt) (s : JudgementState) → Tells (IsTrue (fits of d) → IsFound (function d of list s).0) s (function d of list s).1
 function_tells d of list s =
     let start : BodyState = ([], (enter s.0, s.1)) in
     let p = declared_parameters of (parameters_of d.ty) start in

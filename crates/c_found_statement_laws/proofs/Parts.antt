@@ -32,7 +32,7 @@ use Rattle.c_checks.specs.Checks.{and_then, each, both, walk, append_part, note_
 use Rattle.c_checks.specs.Notes.{with_fault}
 use Rattle.c_checks.specs.Scopes.{with_name, stands_here}
 use Rattle.c_judgements.specs.Leaves.{leaf}
-use Rattle.c_judgements.specs.Types.{State, parameter_type}
+use Rattle.c_judgements.specs.Types.{JudgementState, parameter_type}
 use Rattle.c_expressions.specs.Expressions.{judge, derive}
 use Rattle.c_statement_rules.specs.Members.{is_member}
 use Rattle.c_statement_rules.specs.declared.jumps.Jumps.{Jumps}
@@ -44,32 +44,32 @@ use Rattle.c_statement_rules.specs.Jumps.{bad_jump, break_statement, continue_st
 use Rattle.c_statement_rules.specs.Labels.{has_word, with_words, with_default, LabelState, beside_labels, bad_label, operand_type, case_value, case_label, default_label}
 use Rattle.c_statement_rules.specs.Locals.{BodyState, with_notes, local_of_type, local_named, no_name, parameter_named, parameter_declared, no_initialiser, initialiser, with_initialiser, local_with_value, without_initialiser}
 use Rattle.c_statements.specs.Parts.{condition_of, value_of, operand_of, optional_condition, optional_value, return_statement, type_of, initialiser_of, local_of, first_of, label_of}
-use Rattle.c_found_laws.specs.Laws.{Tells, IsFound, Finds}
+use Rattle.c_found_laws.specs.Laws.{Tells, IsFound, YieldsFound}
 use Rattle.c_found_laws.proofs.Forms.{no_true, tells_none, tells_fault, tells_as, tells_then, tells_both, tells_never, tells_named, ruled, map_found, each_tells, both_tells, each_under, append_found, parameter_type_tells, leaf_tells}
 use Rattle.c_found_laws.proofs.Walks.{one_part, judge_tells, derive_tells}
 
 -- a list of parts
-module _ {A B S : Type 0} (f : A → S → Option B × S) (state : S → State) (one : (x : A) (w : S) → Tells (IsFound (f x w).0) (state w) (state (f x w).1)) where
-  pub walk_tells : (xs : List A) (found : Option (List B)) (s : State) (w : S) → Tells (IsFound found) s (state w) → Tells (IsFound (walk f xs found w).0) s (state (walk f xs found w).1)
+module _ {A B S : Type 0} (f : A → S → Option B × S) (state : S → JudgementState) (one : (x : A) (w : S) → Tells (IsFound (f x w).0) (state w) (state (f x w).1)) where
+  pub walk_tells : (xs : List A) (found : Option (List B)) (s : JudgementState) (w : S) → Tells (IsFound found) s (state w) → Tells (IsFound (walk f xs found w).0) s (state (walk f xs found w).1)
   walk_tells [] found s w h = h
   walk_tells (x ∷ xs) found s w h = walk_tells xs (append_part found (f x w).0) s (f x w).1 (tells_both s (state w) (state (f x w).1) (append_found found (f x w).0) h (one x w))
 
 -- ---- expressions
 
-pub condition_tells : (x : Expr) (s : State) → Finds s (condition_of x s)
+pub condition_tells : (x : Expr) (s : JudgementState) → YieldsFound s (condition_of x s)
 condition_tells x s = one_part s (judge x s) condition (judge_tells x s) (λ env a n. ruled env _ n)
 
-pub value_tells : (x : Expr) (s : State) → Finds s (value_of x s)
+pub value_tells : (x : Expr) (s : JudgementState) → YieldsFound s (value_of x s)
 value_tells x s = tells_as s (judge x s).1 (map_found full_expression (judge x s).0) (judge_tells x s)
 
-pub operand_tells : (x : Expr) (s : State) → Finds s (operand_of x s)
+pub operand_tells : (x : Expr) (s : JudgementState) → YieldsFound s (operand_of x s)
 operand_tells x s = one_part s (judge x s) switch_operand (judge_tells x s) (λ env a n. ruled env _ n)
 
-pub optional_condition_tells : (x : Option Expr) (s : State) → Finds s (optional_condition x s)
+pub optional_condition_tells : (x : Option Expr) (s : JudgementState) → YieldsFound s (optional_condition x s)
 optional_condition_tells None s = tells_none s refl
 optional_condition_tells (Some x) s = tells_as s (condition_of x s).1 (map_found Some (condition_of x s).0) (condition_tells x s)
 
-pub optional_value_tells : (x : Option Expr) (s : State) → Finds s (optional_value x s)
+pub optional_value_tells : (x : Option Expr) (s : JudgementState) → YieldsFound s (optional_value x s)
 optional_value_tells None s = tells_none s refl
 optional_value_tells (Some x) s = tells_as s (value_of x s).1 (map_found Some (value_of x s).0) (value_tells x s)
 
@@ -95,7 +95,7 @@ returned_tells env at ty a n = choose (is_void (type_view ty))
     choose true = tells_fault env at BadReturn n
     choose false = tells_as (env, n) (env, (note_fault (take_value ty a) n).1) (map_found (λ e. s.Return (Some e)) (note_fault (take_value ty a) n).0) (ruled env (take_value ty a) n)
 
-pub return_tells : (of : Option CType) (at : ℕ) (x : Option Expr) (s : State) → Tells (IsFound of → IsFound (return_statement of at x s).0) s (return_statement of at x s).1
+pub return_tells : (of : Option CType) (at : ℕ) (x : Option Expr) (s : JudgementState) → Tells (IsFound of → IsFound (return_statement of at x s).0) s (return_statement of at x s).1
 return_tells of at None s = each_under s.0 s (IsFound of) of (return_nothing at) s.1 (tells_none s (λ h. h)) (λ ty. nothing_tells s.0 at ty s.1)
 return_tells None at (Some x) s = tells_as s (judge x s).1 (λ h k. no_true k) (judge_tells x s)
 return_tells (Some ty) at (Some x) s =
@@ -105,7 +105,7 @@ return_tells (Some ty) at (Some x) s =
 
 -- ---- locals
 
-pub type_tells : (at : ℕ) (ty : TypeNode) (s : State) → Finds s (type_of at ty s)
+pub type_tells : (at : ℕ) (ty : TypeNode) (s : JudgementState) → YieldsFound s (type_of at ty s)
 type_tells at ty s =
     let l = leaf s.0 at ty s.1 in
     tells_both s (s.0, l.1) (derive at ty l.0 (s.0, l.1)).1 (λ x y. y x) (leaf_tells s.0 at ty s.1) (derive_tells at ty l.0 (s.0, l.1))
@@ -122,14 +122,14 @@ object_tells env at (d.Value x) n = choose (is_member n.structs x)
 object_tells env at (d.Unsized x) n = tells_fault env at BadType n
 object_tells env at (d.Function x xs) n = tells_fault env at BadType n
 
-abbrev pub FindsIn : {A : Type 0} → State → Option A × BodyState → Type 0
+abbrev pub FindsIn : {A : Type 0} → JudgementState → Option A × BodyState → Type 0
 FindsIn s r = Tells (IsFound r.0) s r.1.1
 
-local_by_type : (name : List ℕ) (o : Option CType) (s : State) (w : BodyState) → Tells (IsFound o) s w.1 → FindsIn s (with_notes w.1.1 (local_of_type name o (w.0, w.1.0)))
+local_by_type : (name : List ℕ) (o : Option CType) (s : JudgementState) (w : BodyState) → Tells (IsFound o) s w.1 → FindsIn s (with_notes w.1.1 (local_of_type name o (w.0, w.1.0)))
 local_by_type name None s w h = record { before = h.before; stays = λ t g. no_true (h.found t g); found = λ t g. no_true (h.found t g) }
 local_by_type name (Some ty) s w h = tells_both s w.1 (with_name name (m.Local (length w.0) ty) w.1.0, w.1.1) (λ x y. y) h (tells_named name (m.Local (length w.0) ty) w.1 refl refl)
 
-pub local_named_tells : (at : ℕ) (name : List ℕ) (o : Option CType) (s : State) (w : BodyState) → Tells (IsFound o) s w.1 → FindsIn s (local_named at name o w)
+pub local_named_tells : (at : ℕ) (name : List ℕ) (o : Option CType) (s : JudgementState) (w : BodyState) → Tells (IsFound o) s w.1 → FindsIn s (local_named at name o w)
 local_named_tells at name o s w h = choose (stands_here w.1.0 (find name w.1.0.names))
   where
     either : Bool → Option NewLocal × BodyState
@@ -149,7 +149,7 @@ initialiser_tells env ty a n = choose (is_array (type_view ty))
     choose true = tells_fault env a.at BadInit n
     choose false = ruled env (take_value ty a) n
 
-initialised_tells : (new : Option NewLocal) (x : Option Expr) (s : State) (w : BodyState) → Tells (IsFound new) s w.1 → FindsIn s (initialiser_of new x w)
+initialised_tells : (new : Option NewLocal) (x : Option Expr) (s : JudgementState) (w : BodyState) → Tells (IsFound new) s w.1 → FindsIn s (initialiser_of new x w)
 initialised_tells new None s w h = tells_as s w.1 (map_found without_initialiser new) h
 initialised_tells new (Some x) s w h =
     let r = judge x w.1 in
@@ -206,11 +206,11 @@ default_tells env at s = choose (s.0.has_default)
     choose true = tells_fault env at BadLabel s.1
     choose false = tells_none (env, s.1) refl
 
-labelled : (ty : Option IntegerType) (at : ℕ) (o : Option TypedExpression) (s : State) (env : Env) (u : LabelState) → Tells (IsFound o) s (env, u.1) → Tells (IsFound (each o (case_label ty at) u).0) s (env, (each o (case_label ty at) u).1.1)
+labelled : (ty : Option IntegerType) (at : ℕ) (o : Option TypedExpression) (s : JudgementState) (env : Env) (u : LabelState) → Tells (IsFound o) s (env, u.1) → Tells (IsFound (each o (case_label ty at) u).0) s (env, (each o (case_label ty at) u).1.1)
 labelled ty at None s env u h = tells_never s (env, u.1) h
 labelled ty at (Some a) s env u h = tells_both s (env, u.1) (env, (case_label ty at a u).1.1) (λ x y. y) h (case_label_tells env ty at a u)
 
-pub label_tells : (ty : Option IntegerType) (x : Label) (u : Labels × State) → Tells (IsFound (label_of ty x u).0) u.1 (label_of ty x u).1.1
+pub label_tells : (ty : Option IntegerType) (x : Label) (u : Labels × JudgementState) → Tells (IsFound (label_of ty x u).0) u.1 (label_of ty x u).1.1
 label_tells ty (l.Case at x) u =
     let r = judge x u.1 in
     labelled ty at r.0 u.1 r.1.0 (u.0, r.1.1) (judge_tells x u.1)
@@ -231,10 +231,10 @@ module _ (env : Env) (j : Jumps) (at : ℕ) (n : Notes) where
 
 -- ---- parameters
 
-no_name_tells : (at : ℕ) (o : Option CType) (s : State) (w : BodyState) → Tells (IsFound o) s w.1 → Tells (IsFound (each o (no_name at) w.1.1).0) s (w.1.0, (each o (no_name at) w.1.1).1)
+no_name_tells : (at : ℕ) (o : Option CType) (s : JudgementState) (w : BodyState) → Tells (IsFound o) s w.1 → Tells (IsFound (each o (no_name at) w.1.1).0) s (w.1.0, (each o (no_name at) w.1.1).1)
 no_name_tells at o s w h = each_tells w.1.0 s o (no_name at) w.1.1 h (λ x. tells_fault w.1.0 at BadType w.1.1)
 
-pub parameter_named_tells : (at : ℕ) (name : Option (List ℕ)) (o : Option CType) (s : State) (w : BodyState) → Tells (IsFound o) s w.1 → FindsIn s (parameter_named at name o w)
+pub parameter_named_tells : (at : ℕ) (name : Option (List ℕ)) (o : Option CType) (s : JudgementState) (w : BodyState) → Tells (IsFound o) s w.1 → FindsIn s (parameter_named at name o w)
 parameter_named_tells at None o s w h = no_name_tells at o s w h
 parameter_named_tells at (Some name) o s w h = local_named_tells at name o s w h
 

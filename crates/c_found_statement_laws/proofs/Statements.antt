@@ -11,7 +11,7 @@ use Rattle.c_typed_tree.specs.declared.statements.TLabel.{TLabel}
 use Rattle.c_typed_tree.specs.declared.statements.TFirst.{TFirst}
 use Rattle.c_primary_rules.specs.declared.switches.SwitchValue.{SwitchValue}
 use Rattle.c_checks.specs.Checks.{append_part}
-use Rattle.c_judgements.specs.Types.{State}
+use Rattle.c_judgements.specs.Types.{JudgementState}
 use Rattle.c_statement_rules.specs.declared.jumps.Jumps.{Jumps}
 use Rattle.c_statement_rules.specs.Jumps.{in_loop, in_switch, break_statement, continue_statement}
 use Rattle.c_statement_rules.specs.Labels.{no_labels}
@@ -97,7 +97,7 @@ module _ (of : Option CType) where
     statement_tells j s.Empty w = tells_none w.1 (λ k. refl)
     statement_tells j (s.Local x) w = let r = local_of x w in tells_as w.1 r.1.1 (λ h k. map_found _ r.0 h) (local_tells x w)
 
-    pub row_tells : (j : Jumps) {m : _} (xs : b.Row_of-Stmt m) (found : Option (List TStmt)) (v : State) (w : BodyState) → Tells (Under found) v w.1 → Tells (Under (statement_row of j xs found w).0) v (statement_row of j xs found w).1.1
+    pub row_tells : (j : Jumps) {m : _} (xs : b.Row_of-Stmt m) (found : Option (List TStmt)) (v : JudgementState) (w : BodyState) → Tells (Under found) v w.1 → Tells (Under (statement_row of j xs found w).0) v (statement_row of j xs found w).1.1
     row_tells j b.end_of-Stmt found v w h = h
     row_tells j (b.more_of-Stmt x xs) found v w h =
         let r = statement of j x w in
@@ -109,7 +109,7 @@ module _ (of : Option CType) where
         let r = statement of j x w in
         tells_as w.1 r.1.1 (λ h k. map_found Some r.0 (h k)) (statement_tells j x w)
 
-    sections_tell : (j : Jumps) (ty : Option IntegerType) {m : _} (xs : b.Row_of-Section m) (found : Option (List TSection)) (v : State) (u : SwitchState) → Tells (Under found) v u.1.1
+    sections_tell : (j : Jumps) (ty : Option IntegerType) {m : _} (xs : b.Row_of-Section m) (found : Option (List TSection)) (v : JudgementState) (u : SwitchState) → Tells (Under found) v u.1.1
         → Tells (Under (section_row of j ty xs found u).0) v (section_row of j ty xs found u).1.1.1
     sections_tell j ty b.end_of-Section found v u h = h
     sections_tell j ty (b.more_of-Section label _ list rest) found v u h =

@@ -2,7 +2,7 @@
 use Rattle.std.specs.Prelude.{Bool, true, false, IsTrue, List, [], ◌∷◌, Option, Some, None}
 use Rattle.c_tree.specs.declared.types.Declaration.{Declaration}
 use Rattle.c_tree.specs.declared.statements.Stmt.{Stmt}
-use Rattle.c_judgements.specs.Types.{State}
+use Rattle.c_judgements.specs.Types.{JudgementState}
 use Rattle.c_statements.specs.declared.functions.FunctionType.{FunctionType}
 use Rattle.c_statements.specs.Functions.{parameters_of, function}
 use Rattle.c_found_laws.specs.Laws.{Tells, IsFound}
@@ -22,5 +22,5 @@ fits (Some of) d = are_as_many (parameters_of d.ty) of.parameters
 -- what is judged of a function whose declarator has no fault
 abbrev pub FunctionsAreFound : Type 0
 FunctionsAreFound =
-    (d : Declaration) (of : Option FunctionType) (list : List Stmt) (s : State) →
+    (d : Declaration) (of : Option FunctionType) (list : List Stmt) (s : JudgementState) →
     Tells (IsTrue (fits of d) → IsFound (function d of list s).0) s (function d of list s).1

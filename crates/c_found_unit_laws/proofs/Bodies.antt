@@ -21,48 +21,48 @@ use Rattle.c_checks.specs.Checks.{each, and_then}
 use Rattle.c_checks.specs.Notes.{with_fault}
 use Rattle.c_checks.specs.Scopes.{with_name, stands_here}
 use Rattle.c_judgements.specs.Leaves.{leaf, tagged_enum, tagged_struct}
-use Rattle.c_judgements.specs.Types.{State, within}
+use Rattle.c_judgements.specs.Types.{JudgementState, within}
 use Rattle.c_expressions.specs.Expressions.{judge, derive}
 use Rattle.c_tag_bodies.specs.declared.members.Members.{Members}
 use Rattle.c_tag_bodies.specs.Enums.{explicit_value, next, value_behind, value_held, constant_meaning, constant_declared, constant_row}
 use Rattle.c_tag_bodies.specs.Members.{no_members, is_member, no_member, member_type, with_member, with_faulty_member, member_named, member_declared}
 use Rattle.c_tag_bodies.specs.Structs.{DefinedTags, with_body, tagged_body, enum_begun, number_of, no_body, number_for_tag, struct_begun, struct_where, with_struct, with_untagged, too_large, with_members, complete, tag_name, struct_ended}
-use Rattle.c_tag_bodies.specs.Bodies.{Scope, enum_entered, struct_entered, struct_left, type_behind, member_entered, bodies, constants_held, members_held, member_row, declared_type}
-use Rattle.c_found_laws.specs.Laws.{are_sound_members, IsSound, Tells, IsFound, Finds}
+use Rattle.c_tag_bodies.specs.Bodies.{TagScope, enum_entered, struct_entered, struct_left, type_behind, member_entered, bodies, constants_held, members_held, member_row, declared_type}
+use Rattle.c_found_laws.specs.Laws.{are_sound_members, NamesAreSound, Tells, IsFound, YieldsFound}
 use Rattle.c_found_laws.proofs.Forms.{no_true, front, back, also, holds, tells_none, tells_kept, tells_fault, tells_as, tells_then, tells_both, tells_never, tells_named, ruled, each_tells, enum_tells, struct_tells, leaf_tells}
 use Rattle.c_found_laws.proofs.Walks.{one_part, judge_tells, derive_tells}
 
 -- nothing is said
-abbrev Told : State → State → Type 0
+abbrev Told : JudgementState → JudgementState → Type 0
 Told s later = Tells (Unit {0}) s later
 
 -- ---- enums
 
-value_tells : (env : Env) (s : State) (at : ℕ) (before : Option (Option ℕ)) (n : Notes) → Tells (IsTrue (holds is_some before)) s (env, n) → Tells (IsFound (value_behind at before n).0) s (env, (value_behind at before n).1)
+value_tells : (env : Env) (s : JudgementState) (at : ℕ) (before : Option (Option ℕ)) (n : Notes) → Tells (IsTrue (holds is_some before)) s (env, n) → Tells (IsFound (value_behind at before n).0) s (env, (value_behind at before n).1)
 value_tells env s at None n h = tells_as s (env, n) (λ x. refl) h
 value_tells env s at (Some last) n h = each_tells env s last (next at) n h (λ x. ruled env (next_value at x) n)
 
-value_held_tells : (at : ℕ) (value : k.Held-Constant-value) (before : Option (Option ℕ)) (s u : State) → Tells (IsTrue (holds is_some before)) s u → Finds s (value_held at value before u)
+value_held_tells : (at : ℕ) (value : k.Held-Constant-value) (before : Option (Option ℕ)) (s u : JudgementState) → Tells (IsTrue (holds is_some before)) s u → YieldsFound s (value_held at value before u)
 value_held_tells at k.Constant-value-None' before s u h = value_tells u.0 s at before u.1 h
 value_held_tells at (k.Constant-value-Some' x) before s u h =
     let r = judge x u in
     each_tells r.1.0 s r.0 explicit_value r.1.1 (tells_both s u r.1 (λ x y. y) h (judge_tells x u)) (λ a. ruled r.1.0 (given_value a) r.1.1)
 
-constant_named : (name : List ℕ) (value : Option ℕ) (s u : State) → Tells (IsFound value) s u → Tells (IsFound value) s (with_name name (constant_meaning value) u.0, u.1)
+constant_named : (name : List ℕ) (value : Option ℕ) (s u : JudgementState) → Tells (IsFound value) s u → Tells (IsFound value) s (with_name name (constant_meaning value) u.0, u.1)
 constant_named name None s u h = record { before = h.before; stays = λ t g. no_true (h.found t g); found = h.found }
 constant_named name (Some word) s u h = tells_both s u (with_name name (m.Constant word) u.0, u.1) (λ x y. x) h (tells_named {X = Unit {0}} name (m.Constant word) u refl tt)
 
-constant_tells : (at : ℕ) (name : List ℕ) (value : Option ℕ) (s u : State) → Tells (IsFound value) s u → Tells (IsFound value) s (constant_declared at name value u)
+constant_tells : (at : ℕ) (name : List ℕ) (value : Option ℕ) (s u : JudgementState) → Tells (IsFound value) s u → Tells (IsFound value) s (constant_declared at name value u)
 constant_tells at name value s u h = choose (stands_here u.0 (find name u.0.names))
   where
-    either : Bool → State
+    either : Bool → JudgementState
     either b = if b then (u.0, with_fault at Redeclared u.1) else (with_name name (constant_meaning value) u.0, u.1)
 
     choose : (b : Bool) → Tells (IsFound value) s (either b)
     choose true = tells_both s u (u.0, with_fault at Redeclared u.1) (λ x y. x) h (tells_fault {X = Unit {0}} u.0 at Redeclared u.1)
     choose false = constant_named name value s u h
 
-constants_tell : {m : _} (xs : k.Row_of-Constant m) (before : Option (Option ℕ)) (s u : State) → Tells (IsTrue (holds is_some before)) s u → Told s (constant_row xs before u)
+constants_tell : {m : _} (xs : k.Row_of-Constant m) (before : Option (Option ℕ)) (s u : JudgementState) → Tells (IsTrue (holds is_some before)) s u → Told s (constant_row xs before u)
 unfolding constant_row
 constants_tell k.end_of-Constant before s u h = tells_as s u (λ x. tt) h
 constants_tell (k.more_of-Constant at name value rest) before s u h =
@@ -91,7 +91,7 @@ with_sound : (name : List ℕ) (ty : Option CType) (m : Members) → AreSound m 
 with_sound name None m h g = no_true g
 with_sound name (Some ty) m h g = h
 
-member_named_tells : (at : ℕ) (name : List ℕ) (m : Members) (ty : Option CType) (s : State) (env : Env) (n : Notes) → Tells (AreSound m × IsFound ty) s (env, n)
+member_named_tells : (at : ℕ) (name : List ℕ) (m : Members) (ty : Option CType) (s : JudgementState) (env : Env) (n : Notes) → Tells (AreSound m × IsFound ty) s (env, n)
     → Tells (AreSound (member_named at name m ty n).0) s (env, (member_named at name m ty n).1)
 member_named_tells at name m ty s env n h = choose (is_some (find name m.names))
   where
@@ -102,7 +102,7 @@ member_named_tells at name m ty s env n h = choose (is_some (find name m.names))
     choose true = tells_both s (env, n) (env, with_fault at NoMember n) (λ x y. y) h (tells_fault env at NoMember n)
     choose false = tells_as s (env, n) (λ x. with_sound name ty m x.0 x.1) h
 
-member_tells : (at : ℕ) (name : List ℕ) (m : Members) (ty : Option DeclaredType) (s : State) (env : Env) (n : Notes) → Tells (AreSound m × IsFound ty) s (env, n)
+member_tells : (at : ℕ) (name : List ℕ) (m : Members) (ty : Option DeclaredType) (s : JudgementState) (env : Env) (n : Notes) → Tells (AreSound m × IsFound ty) s (env, n)
     → Tells (AreSound (member_declared at name m ty n).0) s (env, (member_declared at name m ty n).1)
 member_tells at name m ty s env n h =
     let r = each ty (member_type at) n in
@@ -151,7 +151,7 @@ set_sound [] number names h g = h
 set_sound (x ∷ xs) zero names h g = also (are_sound_members names) (list_all are_sound_members xs) g (back (are_sound_members x) (list_all are_sound_members xs) h)
 set_sound (x ∷ xs) (suc number) names h g = also (are_sound_members x) (list_all are_sound_members (slice_set xs number names)) (front (are_sound_members x) (list_all are_sound_members xs) h) (set_sound xs number names (back (are_sound_members x) (list_all are_sound_members xs) h) g)
 
-module _ (env : Env) (s : State) (at : ℕ) (number : ℕ) (m : Members) where
+module _ (env : Env) (s : JudgementState) (at : ℕ) (number : ℕ) (m : Members) where
   untagged_tells : (tag : Option (List ℕ)) (n : Notes) → Told s (env, n) → Told s (env, with_untagged at tag number n)
   untagged_tells None n h = tells_both s (env, n) (env, with_untagged at None number n) (λ x y. y) h (tells_kept (env, n) (env, with_untagged at None number n) refl refl refl refl tt)
   untagged_tells (Some name) n h = h
@@ -178,7 +178,7 @@ module _ (env : Env) (s : State) (at : ℕ) (number : ℕ) (m : Members) where
       choose true = tells_as s (env, n) (λ x. tt) h
       choose false = struct_tells_set structure n h
 
-ended_tells : (env : Env) (s : State) (at : ℕ) (tag : Option (List ℕ)) (number : Option ℕ) (m : Members) (n : Notes) → Tells (AreSound m) s (env, n) → Told s (env, struct_ended at tag number m n)
+ended_tells : (env : Env) (s : JudgementState) (at : ℕ) (tag : Option (List ℕ)) (number : Option ℕ) (m : Members) (n : Notes) → Tells (AreSound m) s (env, n) → Told s (env, struct_ended at tag number m n)
 ended_tells env s at tag None m n h = tells_as s (env, n) (λ x. tt) h
 ended_tells env s at tag (Some number) m n h =
     let o = struct_where n.structs (tag_name tag) m.fields in
@@ -186,7 +186,7 @@ ended_tells env s at tag (Some number) m n h =
 
 -- ---- the type behind the bodies
 
-behind_tells : (at : ℕ) (ty : t.TypeNode) (s : Scope) → Tells (IsFound (type_behind at ty s).0) s.1 (type_behind at ty s).1.1
+behind_tells : (at : ℕ) (ty : t.TypeNode) (s : TagScope) → Tells (IsFound (type_behind at ty s).0) s.1 (type_behind at ty s).1.1
 behind_tells at ty s =
     let l = leaf s.1.0 at ty s.1.1 in
     tells_both s.1 (s.1.0, l.1) (derive at ty l.0 (s.1.0, l.1)).1 (λ x y. y x) (leaf_tells s.1.0 at ty s.1.1) (derive_tells at ty l.0 (s.1.0, l.1))
@@ -194,7 +194,7 @@ behind_tells at ty s =
 mutual
   unfolding bodies
 
-  pub bodies_tell : (x : t.TypeNode) (s : Scope) → Told s.1 (bodies x s).1
+  pub bodies_tell : (x : t.TypeNode) (s : TagScope) → Told s.1 (bodies x s).1
   bodies_tell (t.Basic words) s = tells_none s.1 tt
   bodies_tell (t.Named name) s = tells_none s.1 tt
   bodies_tell (t.Enum' at tag constants) s = constants_held_tell at tag constants s
@@ -203,12 +203,12 @@ mutual
   bodies_tell (t.Array' _ (k.more_of-TypeNode x k.end_of-TypeNode) length) s = bodies_tell x s
   bodies_tell (t.Takes' _ (k.more_of-TypeNode x k.end_of-TypeNode) _ parameters) s = bodies_tell x s
 
-  constants_held_tell : (at : ℕ) (tag : Option (List ℕ)) (x : k.Held-TypeNode-Enum-2) (s : Scope) → Told s.1 (constants_held at tag x s).1
+  constants_held_tell : (at : ℕ) (tag : Option (List ℕ)) (x : k.Held-TypeNode-Enum-2) (s : TagScope) → Told s.1 (constants_held at tag x s).1
   constants_held_tell at tag k.TypeNode-Enum-2-None' s = tells_none s.1 tt
   constants_held_tell at tag (k.TypeNode-Enum-2-Some' _ constants) s =
       constants_tell constants None s.1 (enum_entered at tag s) (tells_as s.1 (enum_entered at tag s) (λ x. refl) (enum_begun_tells s.1.0 s.0 at tag s.1.1))
 
-  members_held_tell : (at : ℕ) (tag : Option (List ℕ)) (x : k.Held-TypeNode-Struct-2) (s : Scope) → Told s.1 (members_held at tag x s).1
+  members_held_tell : (at : ℕ) (tag : Option (List ℕ)) (x : k.Held-TypeNode-Struct-2) (s : TagScope) → Told s.1 (members_held at tag x s).1
   members_held_tell at tag k.TypeNode-Struct-2-None' s = tells_none s.1 tt
   members_held_tell at tag (k.TypeNode-Struct-2-Some' _ members) s =
       let u = struct_entered at tag s in
@@ -216,7 +216,7 @@ mutual
       ended_tells w.1.1.0 s.1 at tag u.0 w.0 w.1.1.1
       (members_tell members s.1 (no_members, u.1) (tells_as s.1 u.1.1 (λ x. refl) (struct_begun_tells s.1.0 s.0 at tag s.1.1)))
 
-  members_tell : {m : _} (xs : k.Row_of-Declaration m) (s : State) (w : Members × Scope) → Tells (AreSound w.0) s w.1.1 → Tells (AreSound (member_row xs w).0) s (member_row xs w).1.1
+  members_tell : {m : _} (xs : k.Row_of-Declaration m) (s : JudgementState) (w : Members × TagScope) → Tells (AreSound w.0) s w.1.1 → Tells (AreSound (member_row xs w).0) s (member_row xs w).1.1
   members_tell k.end_of-Declaration s w h = h
   members_tell (k.more_of-Declaration at name ty rest) s w h =
       let inner = bodies ty w.1 in
@@ -224,5 +224,5 @@ mutual
       members_tell rest s (member_entered at name w.0 r)
       (member_tells at name w.0 r.0 s r.1.1.0 r.1.1.1 (tells_then s inner.1 r.1.1 (tells_both s w.1.1 inner.1 (λ x y. x) h (bodies_tell ty w.1)) (behind_tells at ty inner)))
 
-pub declared_tells : (at : ℕ) (ty : t.TypeNode) (s : Scope) → Tells (IsFound (declared_type at ty s).0) s.1 (declared_type at ty s).1.1
+pub declared_tells : (at : ℕ) (ty : t.TypeNode) (s : TagScope) → Tells (IsFound (declared_type at ty s).0) s.1 (declared_type at ty s).1.1
 declared_tells at ty s = tells_both s.1 (bodies ty s).1 (declared_type at ty s).1.1 (λ x y. y) (bodies_tell ty s) (behind_tells at ty (bodies ty s))

@@ -16,12 +16,12 @@ use Rattle.c_checks.specs.Notes.{with_fault}
 use Rattle.c_checks.specs.Scopes.{with_name, stands_here}
 use Rattle.c_constant_rules.specs.Values.{given_value, next_value}
 use Rattle.c_judgements.specs.Leaves.{leaf}
-use Rattle.c_judgements.specs.Types.{State}
+use Rattle.c_judgements.specs.Types.{JudgementState}
 use Rattle.c_expressions.specs.Expressions.{judge, derive}
 use Rattle.c_tag_bodies.specs.declared.members.Members.{Members}
 use Rattle.c_tag_bodies.specs.Enums.{explicit_value, next, value_behind, value_held, constant_meaning, constant_declared, constant_row}
 use Rattle.c_tag_bodies.specs.Members.{no_members}
-use Rattle.c_tag_bodies.specs.Bodies.{Scope, enum_entered, struct_entered, type_behind, member_entered, bodies, constants_held, members_held, member_row, declared_type}
+use Rattle.c_tag_bodies.specs.Bodies.{TagScope, enum_entered, struct_entered, type_behind, member_entered, bodies, constants_held, members_held, member_row, declared_type}
 use Rattle.c_found_unit_laws.proofs.Names.{judge_leaves, derive_leaves}
 
 -- names that do not stand in the scope are declared, with values of the type `int`
@@ -51,20 +51,20 @@ explicit_word : (o : Option TypedExpression) (n : Notes) → IsValue (each o exp
 explicit_word None n = tt
 explicit_word (Some a) n = noted_word (given_value a) n (given_word a)
 
-held_word : (at : ℕ) (value : k.Held-Constant-value) (before : Option (Option ℕ)) (s : State) → IsValue (value_held at value before s).0
+held_word : (at : ℕ) (value : k.Held-Constant-value) (before : Option (Option ℕ)) (s : JudgementState) → IsValue (value_held at value before s).0
 held_word at k.Constant-value-None' before s = behind_word at before s.1
 held_word at (k.Constant-value-Some' x) before s = explicit_word (judge x s).0 (judge x s).1.1
 
-held_leaves : (at : ℕ) (value : k.Held-Constant-value) (before : Option (Option ℕ)) (s : State) → (value_held at value before s).1.0 ≡ s.0
+held_leaves : (at : ℕ) (value : k.Held-Constant-value) (before : Option (Option ℕ)) (s : JudgementState) → (value_held at value before s).1.0 ≡ s.0
 held_leaves at k.Constant-value-None' before s = refl
 held_leaves at (k.Constant-value-Some' x) before s = judge_leaves x s
 
 -- ---- a constant
 
-constant_enters : (at : ℕ) (name : List ℕ) (value : Option ℕ) (s : State) → IsValue value → Enters s.0 (constant_declared at name value s).0
+constant_enters : (at : ℕ) (name : List ℕ) (value : Option ℕ) (s : JudgementState) → IsValue value → Enters s.0 (constant_declared at name value s).0
 constant_enters at name value s h = choose (stands_here s.0 (find name s.0.names)) refl
   where
-    either : Bool → State
+    either : Bool → JudgementState
     either b = if b then (s.0, with_fault at Redeclared s.1) else (with_name name (constant_meaning value) s.0, s.1)
 
     choose : (b : Bool) → stands_here s.0 (find name s.0.names) ≡ b → Enters s.0 (either b).0
@@ -74,7 +74,7 @@ constant_enters at name value s h = choose (stands_here s.0 (find name s.0.names
 along_env : {a b c : Env} → b ≡ a → Enters b c → Enters a c
 along_env {c = c} e h = subst (λ x. Enters x c) e h
 
-constants_enter : {m : _} (xs : k.Row_of-Constant m) (before : Option (Option ℕ)) (s : State) → Enters s.0 (constant_row xs before s).0
+constants_enter : {m : _} (xs : k.Row_of-Constant m) (before : Option (Option ℕ)) (s : JudgementState) → Enters s.0 (constant_row xs before s).0
 unfolding constant_row
 constants_enter k.end_of-Constant before s = Same
 constants_enter (k.more_of-Constant at name value rest) before s =
@@ -87,13 +87,13 @@ constants_enter (k.more_of-Constant at name value rest) before s =
 same_env : {a b : Env} → b ≡ a → Enters a b
 same_env {a = a} e = subst (λ x. Enters a x) (sym e) Same
 
-pub behind_leaves : (at : ℕ) (ty : t.TypeNode) (s : Scope) → (type_behind at ty s).1.1.0 ≡ s.1.0
+pub behind_leaves : (at : ℕ) (ty : t.TypeNode) (s : TagScope) → (type_behind at ty s).1.1.0 ≡ s.1.0
 behind_leaves at ty s = let l = leaf s.1.0 at ty s.1.1 in derive_leaves at ty l.0 (s.1.0, l.1)
 
 mutual
   unfolding bodies
 
-  bodies_enter : (x : t.TypeNode) (s : Scope) → Enters s.1.0 (bodies x s).1.0
+  bodies_enter : (x : t.TypeNode) (s : TagScope) → Enters s.1.0 (bodies x s).1.0
   bodies_enter (t.Basic words) s = Same
   bodies_enter (t.Named name) s = Same
   bodies_enter (t.Enum' at tag constants) s = constants_held_enter at tag constants s
@@ -102,20 +102,20 @@ mutual
   bodies_enter (t.Array' _ (k.more_of-TypeNode x k.end_of-TypeNode) length) s = bodies_enter x s
   bodies_enter (t.Takes' _ (k.more_of-TypeNode x k.end_of-TypeNode) _ parameters) s = bodies_enter x s
 
-  constants_held_enter : (at : ℕ) (tag : Option (List ℕ)) (x : k.Held-TypeNode-Enum-2) (s : Scope) → Enters s.1.0 (constants_held at tag x s).1.0
+  constants_held_enter : (at : ℕ) (tag : Option (List ℕ)) (x : k.Held-TypeNode-Enum-2) (s : TagScope) → Enters s.1.0 (constants_held at tag x s).1.0
   constants_held_enter at tag k.TypeNode-Enum-2-None' s = Same
   constants_held_enter at tag (k.TypeNode-Enum-2-Some' _ constants) s = constants_enter constants None (enum_entered at tag s)
 
-  members_held_enter : (at : ℕ) (tag : Option (List ℕ)) (x : k.Held-TypeNode-Struct-2) (s : Scope) → Enters s.1.0 (members_held at tag x s).1.0
+  members_held_enter : (at : ℕ) (tag : Option (List ℕ)) (x : k.Held-TypeNode-Struct-2) (s : TagScope) → Enters s.1.0 (members_held at tag x s).1.0
   members_held_enter at tag k.TypeNode-Struct-2-None' s = Same
   members_held_enter at tag (k.TypeNode-Struct-2-Some' _ members) s = members_enter members (no_members, (struct_entered at tag s).1)
 
-  members_enter : {m : _} (xs : k.Row_of-Declaration m) (w : Members × Scope) → Enters w.1.1.0 (member_row xs w).1.1.0
+  members_enter : {m : _} (xs : k.Row_of-Declaration m) (w : Members × TagScope) → Enters w.1.1.0 (member_row xs w).1.1.0
   members_enter k.end_of-Declaration w = Same
   members_enter (k.more_of-Declaration at name ty rest) w =
       let inner = bodies ty w.1 in
       let r = type_behind at ty inner in
       enters_then (bodies_enter ty w.1) (enters_then (same_env (behind_leaves at ty inner)) (members_enter rest (member_entered at name w.0 r)))
 
-pub declared_enters : (at : ℕ) (ty : t.TypeNode) (s : Scope) → Enters s.1.0 (declared_type at ty s).1.1.0
+pub declared_enters : (at : ℕ) (ty : t.TypeNode) (s : TagScope) → Enters s.1.0 (declared_type at ty s).1.1.0
 declared_enters at ty s = enters_then (bodies_enter ty s) (same_env (behind_leaves at ty (bodies ty s)))

@@ -24,8 +24,8 @@ use Rattle.c_checks.specs.declared.env.Env.{Env}
 use Rattle.c_checks.specs.declared.notes.Notes.{Notes}
 use Rattle.c_checks.specs.Notes.{with_fault}
 use Rattle.c_judgements.specs.Leaves.{no_type}
-use Rattle.c_judgements.specs.Types.{State}
-use Rattle.c_tag_bodies.specs.Bodies.{Scope, declared_type}
+use Rattle.c_judgements.specs.Types.{JudgementState}
+use Rattle.c_tag_bodies.specs.Bodies.{TagScope, declared_type}
 use Rattle.c_statements.specs.declared.functions.FunctionType.{FunctionType}
 use Rattle.c_statements.specs.Functions.{parameters_of, function}
 use Rattle.c_initialisers.specs.Unfit.{judge_init, no_place}
@@ -45,16 +45,16 @@ use Rattle.std.specs.Bool.{beq}
 use Rattle.c_unit_names.specs.UnitNames.{is_same_declared, may_follow, object_name, function_name, value_name, first_meaning, with_declared, with_value}
 use Rattle.c_scopes.specs.Names.{Entry, find}
 use Rattle.c_declarations.specs.declared.walk.UnitSoFar.{UnitSoFar}
-use Rattle.c_declarations.specs.Walk.{Walk, in_notes, with_notes, with_state, declare, with_names, is_main, add_numbered, next_object, object_at, fill_numbered, function_at, add_function, keep_function, body_kept}
+use Rattle.c_declarations.specs.Walk.{UnitWalk, in_notes, with_notes, with_state, declare, with_names, is_main, add_numbered, next_object, object_at, fill_numbered, function_at, add_function, keep_function, body_kept}
 use Rattle.c_declarations.specs.Objects.{object_declared}
 use Rattle.c_declarations.specs.Functions.{init_refused, refusal_of, function_type, function_declared, function_of, function_with_type, name_judged, name_row, type_where, defined_type, with_main, main_seen, is_start}
 use Rattle.c_units.specs.Externals.{typedef_of, typedef_declared, prototype, refused_behind, value_behind, object_with, main_with, with_main_in, with_definition, type_with, type_of_function, body_judged, definition_with, definition, function_with, end_judged, end_behind, function_typed, behind_type, type_of, tags_declared, external, externals}
-use Rattle.c_found_laws.specs.Laws.{IsClean, is_sound, are_sound_names, IsSound, Tells, IsFound, Finds}
+use Rattle.c_found_laws.specs.Laws.{IsClean, is_sound, are_sound_names, NamesAreSound, Tells, IsFound, YieldsFound}
 use Rattle.c_type_laws.proofs.Truth.{three, either_left}
 use Rattle.c_found_laws.proofs.Forms.{no_true, also, front, back, tells_none, tells_fault, tells_as, tells_then, tells_both, each_tells, type_named_tells}
 use Rattle.c_found_statement_laws.specs.Laws.{are_as_many, fits}
 use Rattle.c_found_statement_laws.proofs.Functions.{function_tells}
-use Rattle.c_found_unit_laws.specs.Steps.{IsDeclared, First, Again, declared_as, UnitSteps, Stays, Follows, AddsConstant, SeesMain, DeclaresType, DeclaresFunction, DefinesFunction, DeclaresObject, KeepsCells, is_function_type, is_body, is_body_in, has_body}
+use Rattle.c_found_unit_laws.specs.Steps.{DeclaresName, First, Again, declared_as, UnitSteps, Stays, Follows, AddsConstant, SeesMain, DeclaresType, DeclaresFunction, DefinesFunction, DeclaresObject, KeepsCells, is_function_type, is_body, is_body_in, has_body}
 use Rattle.c_found_unit_laws.proofs.Names.{function_env}
 use Rattle.c_found_unit_laws.proofs.Bodies.{declared_tells}
 use Rattle.c_found_unit_laws.proofs.Constants.{Enters, Same, More, declared_enters}
@@ -64,11 +64,11 @@ use Rattle.c_found_unit_laws.proofs.Declarations.{Steps, tells_refused, typedef_
 
 -- ---- definitions
 
-named_tells : (env : Env) (at : ℕ) (name : Option (List ℕ)) (whole : Bool) (s : State) (n : Notes) → Tells (IsTrue whole) s (env, n) → Tells (IsTrue (name_judged at name whole n).0) s (env, (name_judged at name whole n).1)
+named_tells : (env : Env) (at : ℕ) (name : Option (List ℕ)) (whole : Bool) (s : JudgementState) (n : Notes) → Tells (IsTrue whole) s (env, n) → Tells (IsTrue (name_judged at name whole n).0) s (env, (name_judged at name whole n).1)
 named_tells env at None whole s n h = tells_both s (env, n) (env, with_fault at BadType n) (λ x y. y) h (tells_fault env at BadType n)
 named_tells env at (Some name) whole s n h = h
 
-name_row_tells : (env : Env) {m : _} (xs : k.Row_of-Parameter m) (whole : Bool) (s : State) (n : Notes) → Tells (IsTrue whole) s (env, n) → Tells (IsTrue (name_row xs whole n).0) s (env, (name_row xs whole n).1)
+name_row_tells : (env : Env) {m : _} (xs : k.Row_of-Parameter m) (whole : Bool) (s : JudgementState) (n : Notes) → Tells (IsTrue whole) s (env, n) → Tells (IsTrue (name_row xs whole n).0) s (env, (name_row xs whole n).1)
 unfolding name_row
 name_row_tells env k.end_of-Parameter whole s n h = h
 name_row_tells env (k.more_of-Parameter at name ty rest) whole s n h =
@@ -161,7 +161,7 @@ body_again : (of : FunctionType) (b : Bool) → IsTrue b → IsTrue (is_body (wi
 body_again of true h = refl
 body_again of false h = no_true h
 
-declared_body : (ds : Definitions) (name : List ℕ) (of : FunctionType) {u names : UnitNames} {env later : Env} → IsDeclared ds name (function_declared true (declared_as of)) u env names later → IsTrue (has_body name names)
+declared_body : (ds : Definitions) (name : List ℕ) (of : FunctionType) {u names : UnitNames} {env later : Env} → DeclaresName ds name (function_declared true (declared_as of)) u env names later → IsTrue (has_body name names)
 declared_body ds name of (First {u = u} e g) = found_first name (function_declared true (declared_as of)) (first_meaning ds name (function_declared true (declared_as of)) u).1 refl
 declared_body ds name of (Again {u = u} old e g) =
     found_first name (with_value (old.1.has_value || true) (function_declared true (declared_as of))) u (body_again of (old.1.has_value || true) (or_true old.1.has_value))
@@ -175,33 +175,33 @@ kept_names env name made u = added_names (function_at env name) made u
 
 module _ (ds : Definitions) (e : Declaration) (storage : Option Storage) (list : List Stmt) where
   -- what a definition leaves: its steps, and that the name has a body
-  abbrev Leaves : UnitSoFar → Env → Walk → Type 0
+  abbrev Leaves : UnitSoFar → Env → UnitWalk → Type 0
   Leaves u env v = UnitSteps ds u env v.0 v.1.0 × IsTrue (has_body e.name v.0.names)
 
   -- the body of a function of this type
-  kept_steps : (of : FunctionType) (u : UnitSoFar) (env : Env) (names : UnitNames) (s : State) (r : Option TypedFn × State) → IsDeclared ds e.name (function_declared true (declared_as of)) u.names env names s.0
+  kept_steps : (of : FunctionType) (u : UnitSoFar) (env : Env) (names : UnitNames) (s : JudgementState) (r : Option TypedFn × JudgementState) → DeclaresName ds e.name (function_declared true (declared_as of)) u.names env names s.0
       → function e (Some of) list s ≡ r → r.1.0 ≡ s.0 → IsFound r.0 → Leaves u env (body_kept e.name (with_names names u) r)
   kept_steps of u env names s (None, later) h body same found = no_true found
   kept_steps of u env names s (Some made, later) h body same found = (
-    subst (λ x. UnitSteps ds u env (keep_function x e.name (Some made) (with_names names u)) x) (sym same) (DefinesFunction e of list s.1 made h (ap (λ (p : Option TypedFn × State). p.0) body)),
+    subst (λ x. UnitSteps ds u env (keep_function x e.name (Some made) (with_names names u)) x) (sym same) (DefinesFunction e of list s.1 made h (ap (λ (p : Option TypedFn × JudgementState). p.0) body)),
     ap (has_body e.name) (kept_names later.0 e.name made (with_names names u)) ∙ declared_body ds e.name of h,
   )
 
   -- behind the type of a definition, which may be missing
-  body_none : (u : UnitSoFar) (env : Env) (s : State) (w : Walk) → Tells (IsTrue false) s w.1 → (let v = definition_with ds e storage list (None, w) in Tells (Leaves u env v) s v.1)
+  body_none : (u : UnitSoFar) (env : Env) (s : JudgementState) (w : UnitWalk) → Tells (IsTrue false) s w.1 → (let v = definition_with ds e storage list (None, w) in Tells (Leaves u env v) s v.1)
   body_none u env s w h =
       let mid = function_with_type ds e.at e.name storage true (None, w) in
       let r = function e None list mid.1 in
       tells_both s mid.1 r.1 (λ x y. x) (tells_refused s w.1 mid.1.0 h) (function_tells e None list mid.1)
 
-  body_there : (of : FunctionType) (s : State) (w : Walk) → IsTrue (are_as_many (parameters_of e.ty) of.parameters) → Tells (Unit {0}) s w.1 → (let v = definition_with ds e storage list (Some (declared_as of), w) in Tells (Leaves w.0 w.1.0 v) s v.1)
+  body_there : (of : FunctionType) (s : JudgementState) (w : UnitWalk) → IsTrue (are_as_many (parameters_of e.ty) of.parameters) → Tells (Unit {0}) s w.1 → (let v = definition_with ds e storage list (Some (declared_as of), w) in Tells (Leaves w.0 w.1.0 v) s v.1)
   body_there of s w fit h =
       let mid = function_with_type ds e.at e.name storage true (Some (declared_as of), w) in
       let r = function e (Some of) list mid.1 in
       tells_both s mid.1 r.1 (λ x y. kept_steps of w.0 w.1.0 mid.0.names mid.1 r x refl (function_env e (Some of) list mid.1) (y fit))
       (function_by ds e.at e.name storage true of.result of.parameters s w h) (function_tells e (Some of) list mid.1)
 
-  body_by : (of : FunctionType) (o : Option DeclaredType) (s : State) (w : Walk) → IsOrNone e.ty of o → Tells (IsFound o) s w.1 → (let v = definition_with ds e storage list (o, w) in Tells (Leaves w.0 w.1.0 v) s v.1)
+  body_by : (of : FunctionType) (o : Option DeclaredType) (s : JudgementState) (w : UnitWalk) → IsOrNone e.ty of o → Tells (IsFound o) s w.1 → (let v = definition_with ds e storage list (o, w) in Tells (Leaves w.0 w.1.0 v) s v.1)
   body_by of o s w (Missing same) h =
       subst (λ (o : Option DeclaredType). let v = definition_with ds e storage list (o, w) in Tells (Leaves w.0 w.1.0 v) s v.1) (sym same)
       (body_none w.0 w.1.0 s w (subst (λ (o : Option DeclaredType). Tells (IsFound o) s w.1) same h))
@@ -210,16 +210,16 @@ module _ (ds : Definitions) (e : Declaration) (storage : Option Storage) (list :
       (body_there of s w fit (tells_as s w.1 (λ x. tt) h))
 
   -- with what is seen of `main` before
-  seen : (u : UnitSoFar) (env : Env) (b : Bool) (v : Walk) → Leaves (with_main b u) env v → Leaves u env v
+  seen : (u : UnitSoFar) (env : Env) (b : Bool) (v : UnitWalk) → Leaves (with_main b u) env v → Leaves u env v
   seen u env b v h = (Follows (SeesMain b) h.0, h.1)
 
-  definition_tells : (of : FunctionType) (w : Walk) → IsTrue (declares_type e.ty of) → (let v = definition ds e storage list (declared_as of) w in Tells (Leaves w.0 w.1.0 v) w.1 v.1)
+  definition_tells : (of : FunctionType) (w : UnitWalk) → IsTrue (declares_type e.ty of) → (let v = definition ds e storage list (declared_as of) w in Tells (Leaves w.0 w.1.0 v) w.1 v.1)
   definition_tells of w fit = choose (is_declarable w.1.1.structs (declared_as of))
     where
       either : Bool → Option DeclaredType × Notes
       either b = if b then (Some (declared_as of), w.1.1) else no_type e.at BadType w.1.1
 
-      after : Bool → Walk
+      after : Bool → UnitWalk
       after b = definition_with ds e storage list (with_definition e.at e.ty (with_main_in e.name (in_notes w (either b))))
 
       choose : (b : Bool) → Tells (Leaves w.0 w.1.0 (after b)) w.1 (after b).1
@@ -246,21 +246,21 @@ never_found : (o : Option ℕ) (kind : Kind) (n : Notes) → IsFound (each o (no
 never_found None kind n h = h
 never_found (Some at) kind n h = h
 
-refused_never : {X : Type 0} (init : Init) (s : State) → Tells X s (init_refused init s)
+refused_never : {X : Type 0} (init : Init) (s : JudgementState) → Tells X s (init_refused init s)
 refused_never init s =
     let r = judge_init init s in
     tells_as s (init_refused init s) (λ h. no_true (never_found r.0 (refusal_of init) r.1.1 h)) (unfit_tells (refusal_of init) init s)
 
 module _ (ds : Definitions) where
-  abbrev Goes : External → UnitSoFar → State → Walk → Type 0
+  abbrev Goes : External → UnitSoFar → JudgementState → UnitWalk → Type 0
   Goes e u s v = UnitSteps ds u s.0 v.0 v.1.0 × Holds e v.0.names
 
-  end_tells : {X : Type 0} (e : Declaration) (end : FunctionEnd) (s u : State) → Tells X s u → Tells X s (end_judged e end u)
+  end_tells : {X : Type 0} (e : Declaration) (end : FunctionEnd) (s u : JudgementState) → Tells X s u → Tells X s (end_judged e end u)
   end_tells e f.Nothing s u h = h
   end_tells e (f.Init init) s u h = tells_both s u (judge_init init u).1 (λ x y. x) h (judge_init_tells init u)
   end_tells e (f.Body list) s u h = tells_both s u (function e None list u).1 (λ x y. x) h (function_tells e None list u)
 
-  function_with_tells : (e : Declaration) (storage : Option Storage) (end : FunctionEnd) (ty : DeclaredType) (w : Walk) → ((of : FunctionType) → ty ≡ declared_as of → IsTrue (declares_type e.ty of))
+  function_with_tells : (e : Declaration) (storage : Option Storage) (end : FunctionEnd) (ty : DeclaredType) (w : UnitWalk) → ((of : FunctionType) → ty ≡ declared_as of → IsTrue (declares_type e.ty of))
       → (let v = function_with ds e storage end ty w in Tells (Goes (x.Function e storage end) w.0 w.1 v) w.1 v.1)
   function_with_tells e storage f.Nothing ty w fit = let v = prototype ds e.at e.name storage ty w in tells_as w.1 v.1 (λ h. (h, tt)) (prototype_tells ds e.at e.name storage ty w)
   function_with_tells e storage (f.Init init) ty w fit =
@@ -272,7 +272,7 @@ module _ (ds : Definitions) where
       tells_as w.1 _ (λ h. h) (body_none ds e storage list w.0 w.1.0 w.1 (w.0, (w.1.0, with_fault e.at BadType w.1.1)) (tells_fault w.1.0 e.at BadType w.1.1))
   function_with_tells e storage (f.Body list) (d.Function of tys) w fit = definition_tells ds e storage list (type_with of tys) w (fit (type_with of tys) refl)
 
-  function_after : (e : Declaration) (storage : Option Storage) (end : FunctionEnd) (o : Option DeclaredType) (s : State) (w : Walk) → ((of : FunctionType) → o ≡ Some (declared_as of) → IsTrue (declares_type e.ty of)) → Tells (IsFound o) s w.1
+  function_after : (e : Declaration) (storage : Option Storage) (end : FunctionEnd) (o : Option DeclaredType) (s : JudgementState) (w : UnitWalk) → ((of : FunctionType) → o ≡ Some (declared_as of) → IsTrue (declares_type e.ty of)) → Tells (IsFound o) s w.1
       → (let v = function_typed ds e storage end o w in Tells (Goes (x.Function e storage end) w.0 w.1 v) s v.1)
   function_after e storage end None s w fit h =
       let mid = declare ds e.at e.name None w in
@@ -281,7 +281,7 @@ module _ (ds : Definitions) where
       let v = function_with ds e storage end ty w in
       tells_both s w.1 v.1 (λ x y. y) h (function_with_tells e storage end ty w (λ of same. fit of (ap Some same)))
 
-  object_after : (e : Declaration) (storage : Option Storage) (init : Option Init) (o : Option DeclaredType) (s : State) (w : Walk) → Tells (IsFound o) s w.1
+  object_after : (e : Declaration) (storage : Option Storage) (init : Option Init) (o : Option DeclaredType) (s : JudgementState) (w : UnitWalk) → Tells (IsFound o) s w.1
       → (let v = object_with ds e.at e.name storage init o w in Tells (Goes (x.Object e storage init) w.0 w.1 v) s v.1)
   object_after e storage init None s w h = faulty_object_tells ds e.at e.name init s w h
   object_after e storage init (Some (d.Value ty)) s w h =
@@ -297,7 +297,7 @@ module _ (ds : Definitions) where
       let v = prototype ds e.at e.name storage (d.Function of tys) w in
       tells_both s v.1 (init_refused init v.1) (λ x y. y) (tells_both s w.1 v.1 (λ x y. y) h (prototype_tells ds e.at e.name storage (d.Function of tys) w)) (refused_never init v.1)
 
-  typedef_after : (e : Declaration) (o : Option DeclaredType) (s : State) (w : Walk) → Tells (IsFound o) s w.1 → (let v = typedef_declared ds e.at e.name o w in Tells (Goes (x.Typedef e) w.0 w.1 v) s v.1)
+  typedef_after : (e : Declaration) (o : Option DeclaredType) (s : JudgementState) (w : UnitWalk) → Tells (IsFound o) s w.1 → (let v = typedef_declared ds e.at e.name o w in Tells (Goes (x.Typedef e) w.0 w.1 v) s v.1)
   typedef_after e o s w h =
       let r = each o (type_named e.at) w.1.1 in
       let v = typedef_declared ds e.at e.name o w in
@@ -333,7 +333,7 @@ enters_steps ds u (More {mid = mid} name value h free word) e sound =
     (constant_step ds u mid name value (free_none name mid (find name mid.names) (enters_outside h ∙ e) free) word (front (is_sound (constant_meaning value)) (are_sound_names mid.names) sound))
 
 -- what is sound behind some steps was sound before
-declared_before : (ds : Definitions) (name : List ℕ) (new : NameDeclaration) {u names : UnitNames} {env later : Env} → IsDeclared ds name new u env names later → IsTrue (are_sound_names later.names) → IsTrue (are_sound_names env.names)
+declared_before : (ds : Definitions) (name : List ℕ) (new : NameDeclaration) {u names : UnitNames} {env later : Env} → DeclaresName ds name new u env names later → IsTrue (are_sound_names later.names) → IsTrue (are_sound_names env.names)
 declared_before ds name new (First {u = u} {env = env} e g) sound = back (is_sound (first_meaning ds name new u).0) (are_sound_names env.names) sound
 declared_before ds name new (Again old e g) sound = sound
 
@@ -355,7 +355,7 @@ module _ (ds : Definitions) where
   Passes e u env v later = env.outside ≡ 0 → UnitSteps ds u env v later × Holds e v.names
 
   -- behind the constants that are in its type
-  with_constants : (e : External) (u : UnitSoFar) (s mid : State) (v : Walk) → Enters s.0 mid.0 → Tells (Goes ds e u mid v) s v.1 → Tells (Passes e u s.0 v.0 v.1.0) s v.1
+  with_constants : (e : External) (u : UnitSoFar) (s mid : JudgementState) (v : UnitWalk) → Enters s.0 mid.0 → Tells (Goes ds e u mid v) s v.1 → Tells (Passes e u s.0 v.0 v.1.0) s v.1
   with_constants e u s mid v enters g = record {
     before = g.before;
     stays = g.stays;
@@ -365,7 +365,7 @@ module _ (ds : Definitions) where
       passes : Goes ds e u mid v → IsTrue (are_sound_names v.1.0.names) → Passes e u s.0 v.0 v.1.0
       passes go sound file = (Follows (enters_steps ds u enters file (steps_before ds go.0 sound)) go.0, go.1)
 
-  pub external_tells : (e : External) (s : UnitSoFar × Scope) → (let v = external ds e s in Tells (Passes e s.0 s.1.1.0 v.0 v.1.1.0) s.1.1 v.1.1)
+  pub external_tells : (e : External) (s : UnitSoFar × TagScope) → (let v = external ds e s in Tells (Passes e s.0 s.1.1.0 v.0 v.1.1.0) s.1.1 v.1.1)
   external_tells (x.Typedef e) s =
       let r = type_of e s.1 in
       with_constants (x.Typedef e) s.0 s.1.1 r.1.1 (typedef_declared ds e.at e.name r.0 (s.0, r.1.1)) (declared_enters e.at e.ty s.1) (typedef_after ds e r.0 s.1.1 (s.0, r.1.1) (declared_tells e.at e.ty s.1))
@@ -383,7 +383,7 @@ module _ (ds : Definitions) where
 
 -- ---- what steps keep
 
-declared_outside : (ds : Definitions) (name : List ℕ) (new : NameDeclaration) {u names : UnitNames} {env later : Env} → IsDeclared ds name new u env names later → later.outside ≡ env.outside
+declared_outside : (ds : Definitions) (name : List ℕ) (new : NameDeclaration) {u names : UnitNames} {env later : Env} → DeclaresName ds name new u env names later → later.outside ≡ env.outside
 declared_outside ds name new (First e g) = refl
 declared_outside ds name new (Again old e g) = refl
 
@@ -421,7 +421,7 @@ found_new q name a u f h = choose (bytes_eq q name) refl
     choose true e = f e
     choose false e = h
 
-declared_keeps : (ds : Definitions) (q name : List ℕ) (new : NameDeclaration) {u names : UnitNames} {env later : Env} → IsDeclared ds name new u env names later → IsTrue (has_body q u) → IsTrue (has_body q names)
+declared_keeps : (ds : Definitions) (q name : List ℕ) (new : NameDeclaration) {u names : UnitNames} {env later : Env} → DeclaresName ds name new u env names later → IsTrue (has_body q u) → IsTrue (has_body q names)
 declared_keeps ds q name new (First {u = u} e g) h =
     found_new q name new (first_meaning ds name new u).1 (λ same. no_true (sym (ap is_body_in (ap (λ n. find n u.declared) ((bytes_eq-Decides q name).0 same) ∙ e)) ∙ h)) (meaning_keeps ds q name new u h)
 declared_keeps ds q name new (Again {u = u} old e g) h =
@@ -467,7 +467,7 @@ holds_later ds (x.Function e storage (f.Init init)) steps h = tt
 holds_later ds (x.Function e storage (f.Body list)) steps h = steps_keep_body ds e.name steps h
 holds_later ds (x.Tags storage ty) steps h = tt
 
-pub externals_tell : (ds : Definitions) (es : List External) (s : UnitSoFar × Scope) → (let v = externals ds es s in Tells (s.1.1.0.outside ≡ 0 → UnitSteps ds s.0 s.1.1.0 v.0 v.1.1.0 × AllHold es v.0.names) s.1.1 v.1.1)
+pub externals_tell : (ds : Definitions) (es : List External) (s : UnitSoFar × TagScope) → (let v = externals ds es s in Tells (s.1.1.0.outside ≡ 0 → UnitSteps ds s.0 s.1.1.0 v.0 v.1.1.0 × AllHold es v.0.names) s.1.1 v.1.1)
 externals_tell ds [] s = tells_none s.1.1 (λ file. (Stays, tt))
 externals_tell ds (e ∷ es) s =
     let u = external ds e s in

@@ -22,7 +22,7 @@ use Rattle.c_checks.specs.declared.env.Env.{Env}
 use Rattle.c_checks.specs.declared.notes.Notes.{Notes}
 use Rattle.c_checks.specs.Checks.{and_then, pure, each, note_fault}
 use Rattle.c_checks.specs.Notes.{with_fault}
-use Rattle.c_judgements.specs.Types.{State}
+use Rattle.c_judgements.specs.Types.{JudgementState}
 use Rattle.c_judgements.specs.Texts.{bytes_of}
 use Rattle.c_expressions.specs.Expressions.{judge}
 use Rattle.c_initialisers.specs.declared.lists.InitialiserItems.{InitialiserItems}
@@ -30,7 +30,7 @@ use Rattle.c_initialisers.specs.declared.lists.InitialiserItems.TheVariants as t
 use Rattle.c_initialisers.specs.Unfit.{place_of, judge_value, list_place, is_whole_with, judge_init, judge_items, no_place, unfit}
 use Rattle.c_initialisers.specs.Values.{Filling, FillingState, beside, with_env, constant_value, is_taken, put_scalar, with_notes, scalar_value, value_of, expression_value, text_in, text_value, value_by, single_value}
 use Rattle.c_initialisers.specs.Initialisers.{with_item, with_surplus, counted_by, if_part, list_of, scalar_list, list_in, initialise, item_row, cells_where, object_cells}
-use Rattle.c_found_laws.specs.Laws.{Tells, IsFound, Finds}
+use Rattle.c_found_laws.specs.Laws.{Tells, IsFound, YieldsFound}
 use Rattle.c_found_laws.proofs.Forms.{no_true, tells_none, tells_fault, tells_as, tells_then, tells_both, tells_never, ruled, map_found, each_tells}
 use Rattle.c_found_laws.proofs.Walks.{judge_tells}
 use Rattle.c_found_unit_laws.proofs.Names.{judge_leaves}
@@ -49,13 +49,13 @@ whole_found true (Some at) h g = refl
 mutual
   unfolding judge_init
 
-  pub judge_init_tells : (x : i.Init) (s : State) → Finds s (judge_init x s)
+  pub judge_init_tells : (x : i.Init) (s : JudgementState) → YieldsFound s (judge_init x s)
   judge_init_tells (i.Value x) s = tells_as s (judge x s).1 (map_found place_of (judge x s).0) (judge_tells x s)
   judge_init_tells (i.List' at _ items) s =
       let r = judge_items items true s in
       tells_as s r.1 (place_found r.0 at) (judge_items_tell items true s s (tells_none s refl))
 
-  judge_items_tell : {m : _} (xs : i.Row_of-Init m) (whole : Bool) (s u : State) → Tells (IsTrue whole) s u → Tells (IsTrue (judge_items xs whole u).0) s (judge_items xs whole u).1
+  judge_items_tell : {m : _} (xs : i.Row_of-Init m) (whole : Bool) (s u : JudgementState) → Tells (IsTrue whole) s u → Tells (IsTrue (judge_items xs whole u).0) s (judge_items xs whole u).1
   judge_items_tell i.end_of-Init whole s u h = h
   judge_items_tell (i.more_of-Init x xs) whole s u h =
       let r = judge_init x u in
@@ -64,17 +64,17 @@ mutual
 mutual
   unfolding judge_init
 
-  pub judge_init_leaves : (x : i.Init) (s : State) → (judge_init x s).1.0 ≡ s.0
+  pub judge_init_leaves : (x : i.Init) (s : JudgementState) → (judge_init x s).1.0 ≡ s.0
   judge_init_leaves (i.Value x) s = judge_leaves x s
   judge_init_leaves (i.List' at _ items) s = judge_items_leave items true s
 
-  judge_items_leave : {m : _} (xs : i.Row_of-Init m) (whole : Bool) (s : State) → (judge_items xs whole s).1.0 ≡ s.0
+  judge_items_leave : {m : _} (xs : i.Row_of-Init m) (whole : Bool) (s : JudgementState) → (judge_items xs whole s).1.0 ≡ s.0
   judge_items_leave i.end_of-Init whole s = refl
   judge_items_leave (i.more_of-Init x xs) whole s =
       let r = judge_init x s in
       judge_items_leave xs (is_whole_with whole r.0) r.1 ∙ judge_init_leaves x s
 
-pub unfit_tells : (kind : Kind) (x : i.Init) (s : State) → Finds s (unfit kind x s)
+pub unfit_tells : (kind : Kind) (x : i.Init) (s : JudgementState) → YieldsFound s (unfit kind x s)
 unfit_tells kind x s =
     let r = judge_init x s in
     each_tells r.1.0 s r.0 (no_place kind) r.1.1 (judge_init_tells x s) (λ at. tells_fault r.1.0 at kind r.1.1)
@@ -116,7 +116,7 @@ module _ (env : Env) where
       choose true = tells_none (env, f.1) refl
       choose false = tells_fault env at BadInit f.1
 
-filled_tells : (ty : CType) (place : ℕ) (s : State) (env : Env) (o : Option TypedExpression) (f : Filling) → Tells (IsFound o) s (env, f.1) → Tells (IsFound (each o (value_of ty place) f).0) s (env, (each o (value_of ty place) f).1.1)
+filled_tells : (ty : CType) (place : ℕ) (s : JudgementState) (env : Env) (o : Option TypedExpression) (f : Filling) → Tells (IsFound o) s (env, f.1) → Tells (IsFound (each o (value_of ty place) f).0) s (env, (each o (value_of ty place) f).1.1)
 filled_tells ty place s env None f h = tells_never s (env, f.1) h
 filled_tells ty place s env (Some a) f h = tells_both s (env, f.1) (env, (value_of ty place a f).1.1) (λ x y. y) h (value_tells env ty place a f)
 
@@ -154,17 +154,17 @@ surplus_whole t.Fitting (Some at) h g = refl
 surplus_whole (t.TooMany first) None h g = no_true g
 surplus_whole (t.TooMany first) (Some at) h g = refl
 
-list_of_tells : (s : State) (env : Env) (brace : ℕ) (items : InitialiserItems) (n : Notes) → Tells (IsTrue (is_whole items)) s (env, n) → Tells (IsFound (list_of brace items n).0) s (env, (list_of brace items n).1)
+list_of_tells : (s : JudgementState) (env : Env) (brace : ℕ) (items : InitialiserItems) (n : Notes) → Tells (IsTrue (is_whole items)) s (env, n) → Tells (IsFound (list_of brace items n).0) s (env, (list_of brace items n).1)
 list_of_tells s env brace t.Faulty n h = tells_never s (env, n) h
 list_of_tells s env brace t.Fitting n h = tells_as s (env, n) (λ x. refl) h
 list_of_tells s env brace (t.TooMany first) n h = tells_both s (env, n) (env, with_fault first BadInit n) (λ x y. y) h (tells_fault env first BadInit n)
 
-scalar_list_tells : (s : State) (env : Env) (brace : ℕ) (items : InitialiserItems) (n : Notes) → Tells (IsTrue (is_whole items)) s (env, n) → Tells (IsFound (scalar_list brace items n).0) s (env, (scalar_list brace items n).1)
+scalar_list_tells : (s : JudgementState) (env : Env) (brace : ℕ) (items : InitialiserItems) (n : Notes) → Tells (IsTrue (is_whole items)) s (env, n) → Tells (IsFound (scalar_list brace items n).0) s (env, (scalar_list brace items n).1)
 scalar_list_tells s env brace t.Faulty n h = tells_never s (env, n) h
 scalar_list_tells s env brace t.Fitting n h = tells_both s (env, n) (env, with_fault brace BadInit n) (λ x y. y) h (tells_fault env brace BadInit n)
 scalar_list_tells s env brace (t.TooMany first) n h = tells_both s (env, n) (env, with_fault brace BadInit n) (λ x y. y) h (tells_fault env brace BadInit n)
 
-list_tells : (s : State) (env : Env) (ty : CType) (brace : ℕ) (items : InitialiserItems) (n : Notes) → Tells (IsTrue (is_whole items)) s (env, n) → Tells (IsFound (list_in ty brace items n).0) s (env, (list_in ty brace items n).1)
+list_tells : (s : JudgementState) (env : Env) (ty : CType) (brace : ℕ) (items : InitialiserItems) (n : Notes) → Tells (IsTrue (is_whole items)) s (env, n) → Tells (IsFound (list_in ty brace items n).0) s (env, (list_in ty brace items n).1)
 list_tells s env ty brace items n h = choose (is_aggregate ty)
   where
     either : Bool → Option ℕ × Notes
@@ -196,7 +196,7 @@ mutual
       let u = item_row items ty place 0 t.Fitting s in
       list_tells s.1 u.1.1.0 ty brace u.0 u.1.1.1 (row_tells items ty place 0 t.Fitting s.1 s (tells_none s.1 refl))
 
-  row_tells : {m : _} (xs : i.Row_of-Init m) (ty : CType) (place k : ℕ) (found : InitialiserItems) (v : State) (s : FillingState) → Tells (IsTrue (is_whole found)) v s.1
+  row_tells : {m : _} (xs : i.Row_of-Init m) (ty : CType) (place k : ℕ) (found : InitialiserItems) (v : JudgementState) (s : FillingState) → Tells (IsTrue (is_whole found)) v s.1
       → Tells (IsTrue (is_whole (item_row xs ty place k found s).0)) v (item_row xs ty place k found s).1.1
   row_tells i.end_of-Init ty place k found v s h = h
   row_tells (i.more_of-Init x xs) ty place k found v s h =
@@ -226,10 +226,10 @@ cells_found : (cells : List DataCell) (o : Option ℕ) → IsFound o → IsFound
 cells_found cells None h = no_true h
 cells_found cells (Some at) h = refl
 
-pub object_cells_tell : (ty : CType) (x : i.Init) (s : State) → Finds s (object_cells ty x s)
+pub object_cells_tell : (ty : CType) (x : i.Init) (s : JudgementState) → YieldsFound s (object_cells ty x s)
 object_cells_tell ty x s =
     let r = initialise x ty 0 ([], s) in
     tells_as s r.1.1 (cells_found r.1.0 r.0) (initialise_tells x ty 0 ([], s))
 
-pub object_cells_leave : (ty : CType) (x : i.Init) (s : State) → (object_cells ty x s).1.0 ≡ s.0
+pub object_cells_leave : (ty : CType) (x : i.Init) (s : JudgementState) → (object_cells ty x s).1.0 ≡ s.0
 object_cells_leave ty x s = initialise_leaves x ty 0 ([], s)

@@ -7,7 +7,7 @@ use Rattle.c_tree.specs.declared.statements.Stmt.{Stmt}
 use Rattle.c_declared_types.specs.declared.declared.DeclaredType.{DeclaredType}
 use Rattle.c_typed_tree.specs.Typing.{Context}
 use Rattle.c_judgement_laws.specs.Covers.{IsLawfulContext}
-use Rattle.c_judgements.specs.Types.{State}
+use Rattle.c_judgements.specs.Types.{JudgementState}
 use Rattle.c_expressions.specs.Expressions.{judge, derive}
 use Rattle.c_statement_laws.proofs.Expressions.{judge_walks, derive_walks}
 use Rattle.c_statements.specs.declared.functions.FunctionType.{FunctionType}
@@ -24,11 +24,11 @@ none_below k h = omega arith
 nowhere_lawful : IsLawfulContext nowhere
 nowhere_lawful = λ k d small. absurd (none_below k small)
 
-pub judge_leaves : (x : Expr) (s : State) → (judge x s).1.0 ≡ s.0
+pub judge_leaves : (x : Expr) (s : JudgementState) → (judge x s).1.0 ≡ s.0
 judge_leaves x s = (judge_walks nowhere nowhere_lawful ⊥ x s (λ v. absurd v) (λ v. absurd v)).env
 
-pub derive_leaves : (at : ℕ) (node : TypeNode) (of : Option DeclaredType) (s : State) → (derive at node of s).1.0 ≡ s.0
+pub derive_leaves : (at : ℕ) (node : TypeNode) (of : Option DeclaredType) (s : JudgementState) → (derive at node of s).1.0 ≡ s.0
 derive_leaves at node of s = (derive_walks nowhere nowhere_lawful ⊥ at node of s (λ v. absurd v) (λ v known. absurd v)).env
 
-pub function_env : (d : Declaration) (of : Option FunctionType) (list : List Stmt) (s : State) → (function d of list s).1.0 ≡ s.0
+pub function_env : (d : Declaration) (of : Option FunctionType) (list : List Stmt) (s : JudgementState) → (function d of list s).1.0 ≡ s.0
 function_env d of list s = (function_leaves nowhere nowhere_lawful d of list s).env

@@ -33,7 +33,7 @@ use Rattle.c_units.specs.Externals.{typedef_of}
 use Rattle.c_units.specs.Units.{no_names, builtin_declared, builtins, start}
 use Rattle.c_type_laws.proofs.Truth.{no_true, front, back, also, either_left, either_right}
 use Rattle.c_found_unit_laws.specs.Laws.{is_kept}
-use Rattle.c_found_unit_laws.specs.Steps.{IsDeclared, First, Again, declared_as, UnitSteps, Stays, Follows, AddsConstant, SeesMain, DeclaresType, DeclaresFunction, DefinesFunction, DeclaresObject, KeepsCells, is_function_type, is_body, is_body_in, has_body}
+use Rattle.c_found_unit_laws.specs.Steps.{DeclaresName, First, Again, declared_as, UnitSteps, Stays, Follows, AddsConstant, SeesMain, DeclaresType, DeclaresFunction, DefinesFunction, DeclaresObject, KeepsCells, is_function_type, is_body, is_body_in, has_body}
 use Rattle.c_found_unit_laws.proofs.Externals.{same_function, same_kind, added_body, filled_names}
 
 -- ---- what is said of names
@@ -222,7 +222,7 @@ module _ (ds : Definitions) (name : List ℕ) (new : NameDeclaration) where
       choose true same h = kinds q (ap is_function_in (ap (λ n. find n u.declared) ((bytes_eq-Decides q name).0 same) ∙ e) ∙ before_function old.1 new may h) g
       choose false same h = kinds q h g
 
-  declared_kinds : {u names : UnitNames} {env later : Env} → MeansWell → IsDeclared ds name new u env names later → Kinds u env → Kinds names later
+  declared_kinds : {u names : UnitNames} {env later : Env} → MeansWell → DeclaresName ds name new u env names later → Kinds u env → Kinds names later
   declared_kinds well (First {u = u} {env = env} e free) kinds = first_kinds u env well free kinds
   declared_kinds well (Again {u = u} {env = env} old e may) kinds = again_kinds u env old (old.1.has_value || new.has_value) e may kinds
 
@@ -231,7 +231,7 @@ module _ (ds : Definitions) (name : List ℕ) (new : NameDeclaration) where
   Trees fs u env = (q : List ℕ) → IsTrue (has_body q u) → IsTrue (is_defined ds q) → IsTrue (has_tree fs (meaning_of env q))
 
   -- other names have the bodies that they had
-  other_trees : {u names : UnitNames} {env later : Env} (fs : List UnitFunction) → IsDeclared ds name new u env names later → Trees fs u env → (q : List ℕ) → bytes_eq q name ≡ false → IsTrue (has_body q names) → IsTrue (is_defined ds q) → IsTrue (has_tree fs (meaning_of later q))
+  other_trees : {u names : UnitNames} {env later : Env} (fs : List UnitFunction) → DeclaresName ds name new u env names later → Trees fs u env → (q : List ℕ) → bytes_eq q name ≡ false → IsTrue (has_body q names) → IsTrue (is_defined ds q) → IsTrue (has_tree fs (meaning_of later q))
   other_trees fs (First {u = u} {env = env} e free) trees q differs h g =
       still_says (has_tree fs) (nothing_kept fs) name (first_meaning ds name new u).0 env free q
       (trees q (sym_body q u differs h) g)
@@ -269,7 +269,7 @@ module _ (ds : Definitions) (name : List ℕ) (new : NameDeclaration) where
   abbrev NumbersWell : Type 0
   NumbersWell = (u : UnitNames) (env : Env) → meaning_of env name ≡ None → Numbers u env → Numbers (first_meaning ds name new u).1 (with_name name (first_meaning ds name new u).0 env)
 
-  declared_numbers : {u names : UnitNames} {env later : Env} → NumbersWell → IsDeclared ds name new u env names later → Numbers u env → Numbers names later
+  declared_numbers : {u names : UnitNames} {env later : Env} → NumbersWell → DeclaresName ds name new u env names later → Numbers u env → Numbers names later
   declared_numbers well (First {u = u} {env = env} e free) numbers = well u env free numbers
   declared_numbers well (Again old e may) numbers = numbers
 
@@ -349,14 +349,14 @@ old_body old new may f h =
     old_value false b e h = no_true (sym e ∙ h)
 
 -- the tree of a name that is declared again, without a body
-own_tree : (ds : Definitions) (name : List ℕ) (new : NameDeclaration) → (IsTrue (is_function new) → new.has_value ≡ false) → {u names : UnitNames} {env later : Env} (fs : List UnitFunction) → IsDeclared ds name new u env names later → Trees ds name new fs u env → (q : List ℕ) → q ≡ name
+own_tree : (ds : Definitions) (name : List ℕ) (new : NameDeclaration) → (IsTrue (is_function new) → new.has_value ≡ false) → {u names : UnitNames} {env later : Env} (fs : List UnitFunction) → DeclaresName ds name new u env names later → Trees ds name new fs u env → (q : List ℕ) → q ≡ name
     → IsTrue (has_body q names) → IsTrue (is_defined ds q) → IsTrue (has_tree fs (meaning_of later q))
 own_tree ds name new no_body fs (First {u = u} e free) trees q same body defined = no_true (sym (no_value new no_body) ∙ own_body name q new (first_meaning ds name new u).1 same body)
 own_tree ds name new no_body fs (Again {u = u} old e may) trees q same body defined =
     trees q (ap is_body_in (ap (λ n. find n u.declared) same ∙ e) ∙ old_body old.1 new may no_body (own_body name q (with_value (old.1.has_value || new.has_value) new) u same body)) defined
 
 -- a declaration that is no body of a function
-plain_trees : (ds : Definitions) (name : List ℕ) (new : NameDeclaration) → (IsTrue (is_function new) → new.has_value ≡ false) → {u names : UnitNames} {env later : Env} (fs : List UnitFunction) → IsDeclared ds name new u env names later → Trees ds name new fs u env → Trees ds name new fs names later
+plain_trees : (ds : Definitions) (name : List ℕ) (new : NameDeclaration) → (IsTrue (is_function new) → new.has_value ≡ false) → {u names : UnitNames} {env later : Env} (fs : List UnitFunction) → DeclaresName ds name new u env names later → Trees ds name new fs u env → Trees ds name new fs names later
 plain_trees ds name new no_body {later = later} fs h trees q body defined = choose (bytes_eq q name) refl
   where
     choose : (b : Bool) → bytes_eq q name ≡ b → IsTrue (has_tree fs (meaning_of later q))
@@ -372,7 +372,7 @@ own_function name a u h = choose (bytes_eq name name) ((bytes_eq-Decides name na
     choose true e = h
     choose false e = no_true e
 
-body_is_function : (ds : Definitions) (name : List ℕ) (of : FunctionType) {u names : UnitNames} {env later : Env} → IsDeclared ds name (function_declared true (declared_as of)) u env names later → IsTrue (declares_function name names)
+body_is_function : (ds : Definitions) (name : List ℕ) (of : FunctionType) {u names : UnitNames} {env later : Env} → DeclaresName ds name (function_declared true (declared_as of)) u env names later → IsTrue (declares_function name names)
 body_is_function ds name of (First {u = u} e g) = own_function name (function_declared true (declared_as of)) (first_meaning ds name (function_declared true (declared_as of)) u).1 refl
 body_is_function ds name of (Again {u = u} old e g) = own_function name (with_value (old.1.has_value || true) (function_declared true (declared_as of))) u refl
 

@@ -13,9 +13,9 @@ use Rattle.c_checks.specs.declared.notes.Notes.{Notes}
 use Rattle.c_checks.specs.Checks.{both, append_part}
 use Rattle.c_checks.specs.Scopes.{enter, leave}
 use Rattle.c_judgements.specs.Leaves.{leaf}
-use Rattle.c_judgements.specs.Types.{State, there, function, parameter_declared}
+use Rattle.c_judgements.specs.Types.{JudgementState, there, function, parameter_declared}
 use Rattle.c_expressions.specs.Expressions.{derive, parameter_row}
-use Rattle.c_tag_bodies.specs.Bodies.{Scope, bodies, declared_type}
+use Rattle.c_tag_bodies.specs.Bodies.{TagScope, bodies, declared_type}
 use Rattle.c_statements.specs.declared.functions.FunctionType.{FunctionType}
 use Rattle.c_found_statement_laws.specs.Laws.{are_as_many}
 use Rattle.c_found_unit_laws.specs.Steps.{declared_as}
@@ -54,7 +54,7 @@ none_more n = omega arith
 one_over : (b n : ℕ) → b + suc n ≡ suc b + n
 one_over b n = omega arith
 
-row_long : {m : _} (xs : k.Row_of-Parameter m) (n : ℕ) (found : Option (List CType)) (s : State) → IsLong n found → IsLong (length (k.items-the_row-Parameter m xs) + n) (parameter_row xs found s).0
+row_long : {m : _} (xs : k.Row_of-Parameter m) (n : ℕ) (found : Option (List CType)) (s : JudgementState) → IsLong n found → IsLong (length (k.items-the_row-Parameter m xs) + n) (parameter_row xs found s).0
 unfolding derive
 row_long k.end_of-Parameter n found s h = subst (λ l. IsLong l found) (none_more n) h
 row_long (k.more_of-Parameter at name ty rest) n found s h =
@@ -90,7 +90,7 @@ both_many n at (Some tys) None notes h = tt
 both_many n at (Some tys) (Some x) notes h = there_many n at (function_of x tys) notes (of_many n x tys h)
 
 -- the parameters of a declarator of a function are those of its row
-derive_fits : (at : ℕ) {m : _} (x : t.TypeNode) (list : k.Row_of-Parameter m) (of : Option DeclaredType) (s : State) →
+derive_fits : (at : ℕ) {m : _} (x : t.TypeNode) (list : k.Row_of-Parameter m) (of : Option DeclaredType) (s : JudgementState) →
     (let row = parameter_row list (Some []) (enter s.0, s.1) in let r = derive at x of (leave s.0.outside row.1.0, row.1.1) in
     IfSome (both row.0 r.0 (function at) r.1.1).0 (HasMany (length (k.items-the_row-Parameter m list))))
 derive_fits at {m} x list of s =
@@ -117,7 +117,7 @@ declares_type (t.Takes' _ result _ list) of = are_as_many (k.items-the_row-Param
 many_types : (ps : List Parameter) (o : Option DeclaredType) (of : FunctionType) → IfSome o (HasMany (length ps)) → o ≡ Some (declared_as of) → IsTrue (are_as_many ps of.parameters)
 many_types ps o of h e = as_many ps of.parameters (subst (λ (o : Option DeclaredType). IfSome o (HasMany (length ps))) e h)
 
-pub derived_type : (at : ℕ) (node : t.TypeNode) (x : Option DeclaredType) (s : State) (of : FunctionType) → (derive at node x s).0 ≡ Some (declared_as of) → IsTrue (declares_type node of)
+pub derived_type : (at : ℕ) (node : t.TypeNode) (x : Option DeclaredType) (s : JudgementState) (of : FunctionType) → (derive at node x s).0 ≡ Some (declared_as of) → IsTrue (declares_type node of)
 unfolding derive declares_type
 derived_type at (t.Basic words) x s of e = refl
 derived_type at (t.Named name) x s of e = refl
@@ -127,5 +127,5 @@ derived_type at (t.Pointer' _ target) x s of e = refl
 derived_type at (t.Array' _ element size) x s of e = refl
 derived_type at (t.Takes' _ (k.more_of-TypeNode y k.end_of-TypeNode) _ list) x s of e = many_types (k.items-the_row-Parameter _ list) _ of (derive_fits at y list x s) e
 
-pub declared_fits : (at : ℕ) (node : t.TypeNode) (s : Scope) (of : FunctionType) → (declared_type at node s).0 ≡ Some (declared_as of) → IsTrue (declares_type node of)
+pub declared_fits : (at : ℕ) (node : t.TypeNode) (s : TagScope) (of : FunctionType) → (declared_type at node s).0 ≡ Some (declared_as of) → IsTrue (declares_type node of)
 declared_fits at node s of e = let u = bodies node s in let l = leaf u.1.0 at node u.1.1 in derived_type at node l.0 (u.1.0, l.1) of e

@@ -13,21 +13,21 @@ use Rattle.c_tree.specs.declared.declarations.Init.{Init}
 use Rattle.c_tree.specs.declared.types.Declaration.{Declaration}
 use Rattle.c_scopes.specs.Names.{Entry, find}
 use Rattle.c_definitions.specs.declared.names.Definitions.{Definitions}
-use Rattle.c_definitions.specs.Definitions.{Names, with_name, nothing_defined, with_function_type, with_function, with_object, is_function, typedef_seen, is_definition, object_seen, function_seen, see, defined_behind, definitions}
+use Rattle.c_definitions.specs.Definitions.{NameSet, with_name, nothing_defined, with_function_type, with_function, with_object, is_function, typedef_seen, is_definition, object_seen, function_seen, see, defined_behind, definitions}
 use Rattle.c_type_faults.specs.declared.faults.Fault.{Fault}
-use Rattle.c_type_faults.specs.declared.faults.Kind.TheVariants.{MissingMain, NotDefined}
+use Rattle.c_type_faults.specs.declared.faults.Kind.TheVariants.{MissingMain}
 use Rattle.c_type_faults.specs.Faults.{sorted, head}
 use Rattle.c_typed_tree.specs.declared.units.TypedFn.{TypedFn}
 use Rattle.c_checks.specs.declared.env.Env.{Env}
 use Rattle.c_checks.specs.declared.meanings.Use.{Use}
 use Rattle.c_checks.specs.declared.notes.Notes.{Notes}
 use Rattle.c_checks.specs.Checks.{append_part}
-use Rattle.c_tag_bodies.specs.Bodies.{Scope}
+use Rattle.c_tag_bodies.specs.Bodies.{TagScope}
 use Rattle.c_unit_names.specs.declared.names.UnitNames.{UnitNames}
 use Rattle.c_declarations.specs.declared.walk.UnitFunction.{UnitFunction}
 use Rattle.c_declarations.specs.declared.walk.UnitSoFar.{UnitSoFar}
 use Rattle.c_units.specs.Externals.{externals}
-use Rattle.c_units.specs.Undefined.{add_number, with_use, with_uses, undefined_noted}
+use Rattle.c_units.specs.Undefined.{use_fault, with_uses, undefined_noted}
 use Rattle.c_units.specs.Units.{start, main_missed, end_notes, whole_unit, faults_of}
 use Rattle.c_type_laws.proofs.Truth.{no_true, front, back, also}
 use Rattle.c_found_laws.specs.Laws.{IsClean}
@@ -38,7 +38,7 @@ use Rattle.c_found_unit_laws.proofs.Numbers.{HasFunctions, steps_keep_functions,
 
 -- ---- what is defined has a body
 
-defined_here : (q name : List ℕ) (ns : Names) (names : UnitNames) → IsTrue (has_body name names) → (IsTrue (is_some (find q ns)) → IsTrue (has_body q names)) → IsTrue (is_some (find q (with_name name ns))) → IsTrue (has_body q names)
+defined_here : (q name : List ℕ) (ns : NameSet) (names : UnitNames) → IsTrue (has_body name names) → (IsTrue (is_some (find q ns)) → IsTrue (has_body q names)) → IsTrue (is_some (find q (with_name name ns))) → IsTrue (has_body q names)
 defined_here q name ns names h f = either (is_some (find name ns))
   where
     own : (b : Bool) → bytes_eq q name ≡ b → IsTrue (is_some (if b then Some (length ns, tt {0}) else find q ns)) → IsTrue (has_body q names)
@@ -50,7 +50,7 @@ defined_here q name ns names h f = either (is_some (find name ns))
     either false g = own (bytes_eq q name) refl g
 
 -- each name that a list of functions has
-abbrev HasBodies : Names → UnitNames → Type 0
+abbrev HasBodies : NameSet → UnitNames → Type 0
 HasBodies ns names = (q : List ℕ) → IsTrue (is_some (find q ns)) → IsTrue (has_body q names)
 
 typedef_same : (e : Declaration) (d : Definitions) → (typedef_seen e d).functions ≡ d.functions
@@ -87,21 +87,17 @@ more_is_not [] x e = let clash : ⊥ = cc in absurd clash
 more_is_not (y ∷ ys) x e = let clash : ⊥ = cc in absurd clash
 
 -- faults that are there stay
-used_faults : (b : Bool) (at : ℕ) (faults : List Fault) → with_use b at faults ≡ [] → faults ≡ []
-used_faults true at faults e = more_is_not faults (record { at = at; kind = NotDefined }) e
-used_faults false at faults e = e
+uses_faults : (us : List Use) (faults : List Fault) → with_uses us faults ≡ [] → faults ≡ []
+uses_faults [] faults e = e
+uses_faults (u ∷ us) faults e = more_is_not faults (use_fault u) (uses_faults us (faults ++ use_fault u ∷ []) e)
 
-uses_faults : (us : List Use) (seen : List ℕ) (faults : List Fault) → with_uses us seen faults ≡ [] → faults ≡ []
-uses_faults [] seen faults e = e
-uses_faults (u ∷ us) seen faults e = used_faults (add_number u.number seen).0 u.at faults (uses_faults us (add_number u.number seen).1 (with_use (add_number u.number seen).0 u.at faults) e)
-
--- the first use is a fault
-no_uses : (us : List Use) (faults : List Fault) → with_uses us [] faults ≡ [] → us ≡ []
+-- each use is a fault
+no_uses : (us : List Use) (faults : List Fault) → with_uses us faults ≡ [] → us ≡ []
 no_uses [] faults e = refl
-no_uses (u ∷ us) faults e = more_is_not faults (record { at = u.at; kind = NotDefined }) (uses_faults us (add_number u.number []).1 (with_use true u.at faults) e)
+no_uses (u ∷ us) faults e = more_is_not faults (use_fault u) (uses_faults us (faults ++ use_fault u ∷ []) e)
 
 clean_before : (n : Notes) → (undefined_noted n).faults ≡ [] → IsClean n
-clean_before n e = (uses_faults n.uses [] n.faults e, no_uses n.uses n.faults e)
+clean_before n e = (uses_faults n.uses n.faults e, no_uses n.uses n.faults e)
 
 main_before : (size : ℕ) (has_main : Bool) (n : Notes) → (main_missed size has_main n).faults ≡ [] → n.faults ≡ []
 main_before size true n e = e
@@ -109,7 +105,7 @@ main_before size false n e = more_is_not n.faults (record { at = size; kind = Mi
 
 -- ---- the end of a unit
 
-abbrev Ended : TranslationUnit → UnitSoFar × Scope
+abbrev Ended : TranslationUnit → UnitSoFar × TagScope
 Ended unit = externals (definitions unit.externals) unit.externals (start (definitions unit.externals))
 
 pub clean_unit : (unit : TranslationUnit) → (whole_unit unit).1.1.1.faults ≡ [] → IsClean (Ended unit).1.1.1

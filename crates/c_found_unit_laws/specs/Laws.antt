@@ -5,7 +5,7 @@ use Rattle.c_tree.specs.declared.types.TypeNode.{TypeNode}
 use Rattle.c_tree.specs.declared.declarations.TranslationUnit.{TranslationUnit}
 use Rattle.c_type_faults.specs.Faults.{head}
 use Rattle.c_definitions.specs.Definitions.{definitions}
-use Rattle.c_tag_bodies.specs.Bodies.{Scope, declared_type}
+use Rattle.c_tag_bodies.specs.Bodies.{TagScope, declared_type}
 use Rattle.c_declarations.specs.declared.walk.UnitFunction.{UnitFunction}
 use Rattle.c_units.specs.Units.{start, whole_unit, faults_of}
 use Rattle.c_found_laws.specs.Laws.{Tells, IsFound}
@@ -14,7 +14,7 @@ use Rattle.c_found_unit_laws.specs.Steps.{UnitSteps}
 -- the type of a declaration with the bodies in it
 abbrev pub DeclaredTypesAreFound : Type 0
 DeclaredTypesAreFound =
-    (at : ℕ) (ty : TypeNode) (s : Scope) → Tells (IsFound (declared_type at ty s).0) s.1 (declared_type at ty s).1.1
+    (at : ℕ) (ty : TypeNode) (s : TagScope) → Tells (IsFound (declared_type at ty s).0) s.1 (declared_type at ty s).1.1
 
 -- a unit without faults takes the steps of declarations without faults
 abbrev pub UnitsTakeSteps : Type 0

@@ -27,12 +27,13 @@ use Rattle.c_declarations.specs.Objects.{object_declared}
 use Rattle.c_units.specs.Externals.{typedef_of}
 
 -- a name that is declared for the first time, or again
-pub data IsDeclared (ds : Definitions) (name : List ℕ) (new : NameDeclaration) : UnitNames → Env → UnitNames → Env → Type 0 where
+pub data DeclaresName (ds : Definitions) (name : List ℕ) (new : NameDeclaration) : UnitNames → Env → UnitNames → Env →
+    Type 0 where
   First : {u : UnitNames} {env : Env} → find name u.declared ≡ None → meaning_of env name ≡ None →
-      IsDeclared ds name new u env (named_first ds name new u env).0 (named_first ds name new u env).1
+      DeclaresName ds name new u env (named_first ds name new u env).0 (named_first ds name new u env).1
   Again : {u : UnitNames} {env : Env} (old : ℕ × NameDeclaration) → find name u.declared ≡ Some old →
       IsTrue (may_follow old.1 new) →
-      IsDeclared ds name new u env (with_declared name (with_value (old.1.has_value || new.has_value) new) u) env
+      DeclaresName ds name new u env (with_declared name (with_value (old.1.has_value || new.has_value) new) u) env
 
 -- the type of a declaration of a function
 abbrev pub declared_as : FunctionType → DeclaredType
@@ -47,18 +48,18 @@ pub data UnitSteps (ds : Definitions) : UnitSoFar → Env → UnitSoFar → Env 
       IsTrue (is_word Int word) → UnitSteps ds u env u (with_name name (m.Constant word) env)
   SeesMain : {u : UnitSoFar} {env : Env} (is_defined : Bool) → UnitSteps ds u env (with_main is_defined u) env
   DeclaresType : {u : UnitSoFar} {env : Env} {names : UnitNames} {later : Env} (name : List ℕ) (ty : DeclaredType) →
-      IsDeclared ds name (typedef_of ty) u.names env names later → UnitSteps ds u env (with_names names u) later
+      DeclaresName ds name (typedef_of ty) u.names env names later → UnitSteps ds u env (with_names names u) later
   DeclaresFunction : {u : UnitSoFar} {env : Env} {names : UnitNames} {later : Env} (name : List ℕ) (of : FunctionType) →
-      IsDeclared ds name (function_declared false (declared_as of)) u.names env names later →
+      DeclaresName ds name (function_declared false (declared_as of)) u.names env names later →
       UnitSteps ds u env (with_names names u) later
   -- a function is declared, and then its body is judged
   DefinesFunction : {u : UnitSoFar} {env : Env} {names : UnitNames} {later : Env} (e : Declaration) (of : FunctionType)
       (list : List Stmt) (n : Notes) (f : TypedFn) →
-      IsDeclared ds e.name (function_declared true (declared_as of)) u.names env names later →
+      DeclaresName ds e.name (function_declared true (declared_as of)) u.names env names later →
       (function e (Some of) list (later, n)).0 ≡ Some f →
       UnitSteps ds u env (keep_function later e.name (Some f) (with_names names u)) later
   DeclaresObject : {u : UnitSoFar} {env : Env} {names : UnitNames} {later : Env} (name : List ℕ) (ty : CType)
-      (has_value : Bool) → IsDeclared ds name (object_declared ty has_value) u.names env names later →
+      (has_value : Bool) → DeclaresName ds name (object_declared ty has_value) u.names env names later →
       UnitSteps ds u env (add_object later name ty (with_names names u)) later
   KeepsCells : {u : UnitSoFar} {env : Env} (name : List ℕ) (cells : List DataCell) →
       UnitSteps ds u env (keep_cells env name (Some cells) u) env

@@ -20,19 +20,19 @@ use Rattle.c_typed_tree.specs.declared.statements.TStmt.{TStmt}
 use Rattle.c_typed_tree.specs.declared.units.Local.{Local}
 use Rattle.c_typed_tree.specs.declared.units.TypedFn.{TypedFn}
 use Rattle.c_checks.specs.declared.env.Env.{Env}
-use Rattle.c_judgements.specs.Types.{State}
+use Rattle.c_judgements.specs.Types.{JudgementState}
 use Rattle.c_checks.specs.Checks.{walk}
 use Rattle.c_checks.specs.Scopes.{enter}
 use Rattle.c_statement_rules.specs.Jumps.{no_jumps}
 use Rattle.c_statement_rules.specs.Locals.{with_addressed}
 use Rattle.c_statements.specs.Statements.{statement}
-use Rattle.c_tag_bodies.specs.Bodies.{Scope}
+use Rattle.c_tag_bodies.specs.Bodies.{TagScope}
 use Rattle.c_initialisers.specs.Initialisers.{object_cells, length_given}
 use Rattle.c_statements.specs.declared.functions.FunctionType.{FunctionType}
 use Rattle.c_statements.specs.Functions.{parameters_of, declared_parameters, result_of, typed_function, function}
 use Rattle.c_declarations.specs.declared.walk.UnitFunction.{UnitFunction}
 use Rattle.c_declarations.specs.declared.walk.UnitSoFar.{UnitSoFar}
-use Rattle.c_declarations.specs.Walk.{Walk, in_notes, with_notes, declare, main_checked, next_object, object_at, add_numbered, with_object, fill_numbered, keep_cells, function_at, add_function, keep_function}
+use Rattle.c_declarations.specs.Walk.{UnitWalk, in_notes, with_notes, declare, main_checked, next_object, object_at, add_numbered, with_object, fill_numbered, keep_cells, function_at, add_function, keep_function}
 use Rattle.c_declarations.specs.Objects.{no_object, object_type, array_type, object_declared, init_filled, object_of, array_object}
 use Rattle.c_declarations.specs.Functions.{function_type, function_of, function_with_type}
 use Rattle.c_externals.specs.Externals.{prototype, object_with, main_with, with_main_in, with_definition, type_of_function, definition, function_with, function_typed, type_of, external, externals}
@@ -57,28 +57,28 @@ kept_same : (env : Env) (name : List ℕ) (o : Option (List DataCell)) (u : Unit
 kept_same env name None u = refl
 kept_same env name (Some cells) u = filled_same (object_at env name) cells u
 
-init_same : (name : List ℕ) (ty : CType) (init : Option Init) (w : Walk) → (init_filled name ty init w).0.functions ≡ w.0.functions
+init_same : (name : List ℕ) (ty : CType) (init : Option Init) (w : UnitWalk) → (init_filled name ty init w).0.functions ≡ w.0.functions
 init_same name ty None w = refl
 init_same name ty (Some v) w = kept_same (object_cells ty v w.1).1.0 name (object_cells ty v w.1).0 w.0
 
-object_same : (ds : Definitions) (at : ℕ) (name : List ℕ) (storage : Option Storage) (init : Option Init) (o : Option CType) (w : Walk) → (object_of ds at name storage init o w).0.functions ≡ w.0.functions
+object_same : (ds : Definitions) (at : ℕ) (name : List ℕ) (storage : Option Storage) (init : Option Init) (o : Option CType) (w : UnitWalk) → (object_of ds at name storage init o w).0.functions ≡ w.0.functions
 object_same ds at name storage init None w = refl
 object_same ds at name storage init (Some ty) w =
     let v = declare ds at name (Some (object_declared ty (is_some init))) (with_notes (main_checked storage at name w.1.1) w) in
     init_same name ty init (with_object name ty v) ∙ numbered_same (object_at v.1.0 name) name ty v.0
 
-array_same : (ds : Definitions) (at : ℕ) (name : List ℕ) (storage : Option Storage) (init : Option Init) (element : CType) (w : Walk) → (array_object ds at name storage init element w).0.functions ≡ w.0.functions
+array_same : (ds : Definitions) (at : ℕ) (name : List ℕ) (storage : Option Storage) (init : Option Init) (element : CType) (w : UnitWalk) → (array_object ds at name storage init element w).0.functions ≡ w.0.functions
 array_same ds at name storage None element w = let r = in_notes w (no_object at w.1.1) in object_same ds at name storage None r.0 r.1
 array_same ds at name storage (Some v) element w = let r = in_notes w (array_type at element (length_given element v) w.1.1) in object_same ds at name storage (Some v) r.0 r.1
 
-declared_same : (ds : Definitions) (at : ℕ) (name : List ℕ) (storage : Option Storage) (has_body : Bool) (o : Option DeclaredType) (w : Walk) → (function_of ds at name storage has_body o w).0.functions ≡ w.0.functions
+declared_same : (ds : Definitions) (at : ℕ) (name : List ℕ) (storage : Option Storage) (has_body : Bool) (o : Option DeclaredType) (w : UnitWalk) → (function_of ds at name storage has_body o w).0.functions ≡ w.0.functions
 declared_same ds at name storage has_body None w = refl
 declared_same ds at name storage has_body (Some ty) w = refl
 
-prototype_same : (ds : Definitions) (at : ℕ) (name : List ℕ) (storage : Option Storage) (ty : DeclaredType) (w : Walk) → (prototype ds at name storage ty w).0.functions ≡ w.0.functions
+prototype_same : (ds : Definitions) (at : ℕ) (name : List ℕ) (storage : Option Storage) (ty : DeclaredType) (w : UnitWalk) → (prototype ds at name storage ty w).0.functions ≡ w.0.functions
 prototype_same ds at name storage ty w = let r = in_notes w (function_type at ty w.1.1) in declared_same ds at name storage false r.0 r.1
 
-typed_same : (ds : Definitions) (at : ℕ) (name : List ℕ) (storage : Option Storage) (init : Option Init) (o : Option DeclaredType) (w : Walk) → (object_with ds at name storage init o w).0.functions ≡ w.0.functions
+typed_same : (ds : Definitions) (at : ℕ) (name : List ℕ) (storage : Option Storage) (init : Option Init) (o : Option DeclaredType) (w : UnitWalk) → (object_with ds at name storage init o w).0.functions ≡ w.0.functions
 typed_same ds at name storage init None w = refl
 typed_same ds at name storage init (Some (d.Value ty)) w = let r = in_notes w (object_type at ty w.1.1) in object_same ds at name storage init r.0 r.1
 typed_same ds at name storage init (Some (d.Unsized element)) w = array_same ds at name storage init element w
@@ -96,7 +96,7 @@ made_name name (Some ty) false params ls found = tt
 made_name name (Some ty) true params ls None = tt
 made_name name (Some ty) true params ls (Some list) = refl
 
-made_function : (d : Declaration) (of : Option FunctionType) (list : List Stmt) (s : State) → IfSome (function d of list s).0 (λ f. f.name ≡ d.name)
+made_function : (d : Declaration) (of : Option FunctionType) (list : List Stmt) (s : JudgementState) → IfSome (function d of list s).0 (λ f. f.name ≡ d.name)
 made_function d of list s =
     let p = declared_parameters of (parameters_of d.ty) ([], (enter s.0, s.1)) in
     let v = walk (statement (result_of of) no_jumps) list (Some []) p.1 in
@@ -119,7 +119,7 @@ module _ (test : List ℕ → Bool) where
   kept_named env name None u e g h = h
   kept_named env name (Some made) u e g h = added_named (function_at env name) made u (ap test e ∙ g) h
 
-  definition_named : (ds : Definitions) (e : Declaration) (storage : Option Storage) (list : List Stmt) (ty : DeclaredType) (w : Walk) → IsTrue (test e.name) → AreNamed w.0.functions → AreNamed (definition ds e storage list ty w).0.functions
+  definition_named : (ds : Definitions) (e : Declaration) (storage : Option Storage) (list : List Stmt) (ty : DeclaredType) (w : UnitWalk) → IsTrue (test e.name) → AreNamed w.0.functions → AreNamed (definition ds e storage list ty w).0.functions
   definition_named ds e storage list ty w g h =
       let r = in_notes w (function_type e.at ty w.1.1) in
       let t = with_definition e.at e.ty (with_main_in e.name r) in
@@ -128,16 +128,16 @@ module _ (test : List ℕ → Bool) where
       kept_named made.1.0 e.name made.0 v.0 (made_function e (type_of_function t.0) list v.1) g
       (subst AreNamed (sym (declared_same ds e.at e.name storage true t.0 t.1 ∙ main_same e.name r.0 w.0)) h)
 
-  function_named : (ds : Definitions) (e : Declaration) (storage : Option Storage) (end : FunctionEnd) (ty : DeclaredType) (w : Walk) → IsTrue (passes test (x.Function e storage end)) → AreNamed w.0.functions → AreNamed (function_with ds e storage end ty w).0.functions
+  function_named : (ds : Definitions) (e : Declaration) (storage : Option Storage) (end : FunctionEnd) (ty : DeclaredType) (w : UnitWalk) → IsTrue (passes test (x.Function e storage end)) → AreNamed w.0.functions → AreNamed (function_with ds e storage end ty w).0.functions
   function_named ds e storage f.Nothing ty w g h = subst AreNamed (sym (prototype_same ds e.at e.name storage ty w)) h
   function_named ds e storage (f.Init init) ty w g h = subst AreNamed (sym (prototype_same ds e.at e.name storage ty w)) h
   function_named ds e storage (f.Body list) ty w g h = definition_named ds e storage list ty w g h
 
-  typed_named : (ds : Definitions) (e : Declaration) (storage : Option Storage) (end : FunctionEnd) (o : Option DeclaredType) (w : Walk) → IsTrue (passes test (x.Function e storage end)) → AreNamed w.0.functions → AreNamed (function_typed ds e storage end o w).0.functions
+  typed_named : (ds : Definitions) (e : Declaration) (storage : Option Storage) (end : FunctionEnd) (o : Option DeclaredType) (w : UnitWalk) → IsTrue (passes test (x.Function e storage end)) → AreNamed w.0.functions → AreNamed (function_typed ds e storage end o w).0.functions
   typed_named ds e storage end None w g h = h
   typed_named ds e storage end (Some ty) w g h = function_named ds e storage end ty w g h
 
-  external_named : (ds : Definitions) (e : External) (s : UnitSoFar × Scope) → IsTrue (passes test e) → AreNamed s.0.functions → AreNamed (external ds e s).0.functions
+  external_named : (ds : Definitions) (e : External) (s : UnitSoFar × TagScope) → IsTrue (passes test e) → AreNamed s.0.functions → AreNamed (external ds e s).0.functions
   external_named ds (x.Typedef e) s g h = h
   external_named ds (x.Object e storage init) s g h =
       let r = type_of e s.1 in subst AreNamed (sym (typed_same ds e.at e.name storage init r.0 (s.0, r.1.1))) h
@@ -147,7 +147,7 @@ module _ (test : List ℕ → Bool) where
   abbrev Passes : External → Type 0
   Passes e = IsTrue (passes test e)
 
-  externals_named : (ds : Definitions) (es : List External) (s : UnitSoFar × Scope) → All Passes es → AreNamed s.0.functions → AreNamed (externals ds es s).0.functions
+  externals_named : (ds : Definitions) (es : List External) (s : UnitSoFar × TagScope) → All Passes es → AreNamed s.0.functions → AreNamed (externals ds es s).0.functions
   externals_named ds [] s g h = h
   externals_named ds (e ∷ es) s g h =
       externals_named ds es (external ds e s) (All-tail Passes e es g) (external_named ds e s (All-head Passes e es g) h)

@@ -8,7 +8,7 @@ use Rattle.data_object.specs.declared.DataObject.{DataObject}
 use Rattle.data_object.specs.declared.DataCell.{DataCell}
 use Rattle.data_object.specs.declared.DataCell.TheVariants.{Byte, AddressPart}
 use Rattle.data_object.specs.Globals.{IsLawfulCell, IsLawfulObject, AreLawful}
-use Rattle.data_object.specs.Layout.{LieFrom}
+use Rattle.data_object.specs.Layout.{ObjectsLieFrom}
 use Rattle.c_typed_tree.specs.declared.types.StructDef.{StructDef}
 use Rattle.c_typed_tree.specs.Types.{PlainType, Void, Int, Pointer, Array, Struct}
 use Rattle.c_typed_tree.specs.Constants.{is_integer}
@@ -20,7 +20,7 @@ use Rattle.c_globals.specs.declared.objects.UnitObject.{UnitObject}
 use Rattle.c_globals.specs.Globals.{object_at, text_at, globals}
 use Rattle.c_layout_laws.proofs.Truth.{no_true, back, all_at}
 use Rattle.c_initial_value_laws.specs.Cells.{IsCellIn, AreBytes}
-use Rattle.c_global_laws.specs.Laws.{IsLawfulIn, AreLawfulIn, AreTexts}
+use Rattle.c_global_laws.specs.Laws.{IsLawfulIn, AreLawfulIn, AreNotedTexts}
 use Rattle.c_global_laws.proofs.Places.{after, laid_texts, laid, all_laid, all_lie}
 
 -- ---- sizes
@@ -92,19 +92,19 @@ text_lawful all end text bytes small = record {
 
 -- ---- all of them
 
-texts_lawful : (all : List DataObject) (texts : List (List ℕ)) (end : ℕ) → AreTexts texts → All (IsLawfulObject all) (laid_texts end texts)
+texts_lawful : (all : List DataObject) (texts : List (List ℕ)) (end : ℕ) → AreNotedTexts texts → All (IsLawfulObject all) (laid_texts end texts)
 texts_lawful all [] end h = All-nil (IsLawfulObject all)
 texts_lawful all (text ∷ texts) end h =
     All-cons (IsLawfulObject all) (text_at end text) (laid_texts (after (text_at end text)) texts) (text_lawful all end text h.0.bytes h.0.small) (texts_lawful all texts (after (text_at end text)) h.1)
 
-objects_lawful : (ds : List StructDef) (all : List DataObject) (os : List UnitObject) (texts : List (List ℕ)) (end : ℕ) → All (IsLawfulStruct ds) ds → AreLawfulIn ds all os → AreTexts texts → All (IsLawfulObject all) (laid ds end os texts)
+objects_lawful : (ds : List StructDef) (all : List DataObject) (os : List UnitObject) (texts : List (List ℕ)) (end : ℕ) → All (IsLawfulStruct ds) ds → AreLawfulIn ds all os → AreNotedTexts texts → All (IsLawfulObject all) (laid ds end os texts)
 objects_lawful ds all [] texts end lawful h g = texts_lawful all texts end g
 objects_lawful ds all (o ∷ os) texts end lawful h g =
     All-cons (IsLawfulObject all) (object_at ds end o) (laid ds (after (object_at ds end o)) os texts) (object_lawful ds all end o lawful h.0) (objects_lawful ds all os texts (after (object_at ds end o)) lawful h.1 g)
 
-pub all_lawful : (ds : List StructDef) (os : List UnitObject) (texts : List (List ℕ)) → All (IsLawfulStruct ds) ds → (let all = globals ds os texts in AreLawfulIn ds all os → AreTexts texts → length all < 2 ^ 32 → AreLawful all)
+pub all_lawful : (ds : List StructDef) (os : List UnitObject) (texts : List (List ℕ)) → All (IsLawfulStruct ds) ds → (let all = globals ds os texts in AreLawfulIn ds all os → AreNotedTexts texts → length all < 2 ^ 32 → AreLawful all)
 all_lawful ds os texts lawful h g count = record {
   count = count;
-  layout = subst (λ all. LieFrom 0 all) (sym (all_laid ds os texts)) (all_lie ds os texts 0);
+  layout = subst (λ all. ObjectsLieFrom 0 all) (sym (all_laid ds os texts)) (all_lie ds os texts 0);
   objects = subst (λ xs. All (IsLawfulObject (globals ds os texts)) xs) (sym (all_laid ds os texts)) (objects_lawful ds (globals ds os texts) os texts 0 lawful h g);
 }

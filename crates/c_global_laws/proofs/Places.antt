@@ -1,7 +1,7 @@
 -- The objects of static storage, one behind the other.
 use Rattle.std.proofs.Common.{◌≡◌, ℕ, zero, suc, ◌+◌, List, [], ◌∷◌, ◌++◌, length, slice_get, Some, None, refl, sym, ap, ◌∙◌, subst, append_assoc, arith}
 use Rattle.data_object.specs.declared.DataObject.{DataObject}
-use Rattle.data_object.specs.Layout.{LieFrom}
+use Rattle.data_object.specs.Layout.{ObjectsLieFrom}
 use Rattle.c_typed_tree.specs.declared.types.StructDef.{StructDef}
 use Rattle.c_globals.specs.declared.objects.UnitObject.{UnitObject}
 use Rattle.c_globals.specs.declared.globals.GlobalsSoFar.{GlobalsSoFar}
@@ -82,10 +82,10 @@ all_there ds os texts = record {
 
 -- ---- they lie one behind the other
 
-texts_lie : (texts : List (List ℕ)) (end : ℕ) → LieFrom end (laid_texts end texts)
+texts_lie : (texts : List (List ℕ)) (end : ℕ) → ObjectsLieFrom end (laid_texts end texts)
 texts_lie [] end = tt
 texts_lie (text ∷ texts) end = (refl, texts_lie texts (after (text_at end text)))
 
-pub all_lie : (ds : List StructDef) (os : List UnitObject) (texts : List (List ℕ)) (end : ℕ) → LieFrom end (laid ds end os texts)
+pub all_lie : (ds : List StructDef) (os : List UnitObject) (texts : List (List ℕ)) (end : ℕ) → ObjectsLieFrom end (laid ds end os texts)
 all_lie ds [] texts end = texts_lie texts end
 all_lie ds (o ∷ os) texts end = (refl, all_lie ds os texts (after (object_at ds end o)))

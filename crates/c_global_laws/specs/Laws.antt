@@ -10,7 +10,7 @@ use Rattle.c_typed_tree.specs.View.{type_view}
 use Rattle.c_typed_tree.specs.Lawful.{IsLawfulStruct}
 use Rattle.c_globals.specs.declared.objects.UnitObject.{UnitObject}
 use Rattle.c_globals.specs.Globals.{object_at, text_at, globals}
-use Rattle.c_initial_value_laws.specs.Cells.{AreCells, AreBytes}
+use Rattle.c_initial_value_laws.specs.Cells.{AreInitialCells, AreBytes}
 
 -- an object with a name stands at its number, and a text behind all of them, each somewhere
 pub record HasObject (structs : List StructDef) (all : List DataObject) (k : ℕ) (o : UnitObject) : Type 0 where
@@ -34,7 +34,7 @@ GlobalsAreThere =
 pub record IsLawfulIn (structs : List StructDef) (all : List DataObject) (o : UnitObject) : Type 0 where
   pub type : IsTrue (is_type structs (type_view o.ty))
   pub object : IsTrue (is_object structs (type_view o.ty))
-  pub cells : AreCells all (size_of structs (type_view o.ty)) o.cells
+  pub cells : AreInitialCells all (size_of structs (type_view o.ty)) o.cells
 
 abbrev pub AreLawfulIn : List StructDef → List DataObject → List UnitObject → Type 0
 AreLawfulIn structs all [] = Unit {0}
@@ -46,12 +46,12 @@ pub record IsText (text : List ℕ) : Type 0 where
   pub some : 1 ≤ length text
   pub small : length text ≤ MOST_DATA
 
-abbrev pub AreTexts : List (List ℕ) → Type 0
-AreTexts [] = Unit {0}
-AreTexts (text ∷ texts) = IsText text × AreTexts texts
+abbrev pub AreNotedTexts : List (List ℕ) → Type 0
+AreNotedTexts [] = Unit {0}
+AreNotedTexts (text ∷ texts) = IsText text × AreNotedTexts texts
 
 abbrev pub GlobalsAreLawful : Type 0
 GlobalsAreLawful =
     (structs : List StructDef) (os : List UnitObject) (texts : List (List ℕ)) → All (IsLawfulStruct structs) structs →
     (let all = globals structs os texts in
-    AreLawfulIn structs all os → AreTexts texts → length all < 2 ^ 32 → AreLawful all)
+    AreLawfulIn structs all os → AreNotedTexts texts → length all < 2 ^ 32 → AreLawful all)

@@ -1,7 +1,7 @@
 -- The objects of a unit lie one behind the other.
 use Rattle.std.proofs.Common.{◌≡◌, ℕ, ◌+◌, List, [], ◌∷◌, ◌++◌, refl, sym, ap, subst, ◌∙◌}
 use Rattle.data_object.specs.declared.DataObject.{DataObject}
-use Rattle.data_object.specs.Layout.{place_after, LieFrom}
+use Rattle.data_object.specs.Layout.{place_after, ObjectsLieFrom}
 use Rattle.c_typed_tree.specs.declared.types.StructDef.{StructDef}
 use Rattle.c_globals.specs.declared.objects.UnitObject.{UnitObject}
 use Rattle.c_globals.specs.declared.globals.GlobalsSoFar.{GlobalsSoFar}
@@ -17,7 +17,7 @@ pub one_more : (begin end : ℕ) (os : List DataObject) (o : DataObject)
 one_more begin end [] o lies at = (at ∙ ap place_after (sym lies), refl)
 one_more begin end (p ∷ os) o lies at = (lies.0, one_more (p.offset + p.size) end os o lies.1 at)
 
-pub lie_from : (begin end : ℕ) (os : List DataObject) → LieUpTo begin os end → LieFrom begin os
+pub lie_from : (begin end : ℕ) (os : List DataObject) → LieUpTo begin os end → ObjectsLieFrom begin os
 lie_from begin end [] lies = tt
 lie_from begin end (o ∷ os) lies = (lies.0, lie_from (o.offset + o.size) end os lies.1)
 
@@ -34,8 +34,8 @@ texts_lie (bytes ∷ texts) g lies =
     texts_lie texts (with_global (text_at g.end bytes) g) (one_more 0 g.end g.globals (text_at g.end bytes) lies refl)
 
 pub globals_lie : (ds : List StructDef) (os : List UnitObject) (texts : List (List ℕ)) (r : List DataObject)
-    → r ≡ globals ds os texts → LieFrom 0 r
+    → r ≡ globals ds os texts → ObjectsLieFrom 0 r
 globals_lie ds os texts r e =
-    subst (λ l. LieFrom 0 l) (sym e)
+    subst (λ l. ObjectsLieFrom 0 l) (sym e)
     (lie_from 0 (with_texts texts (with_objects ds os no_globals)).end (globals ds os texts)
     (texts_lie texts (with_objects ds os no_globals) (objects_lie ds os no_globals refl)))

@@ -1,7 +1,7 @@
 //! Where the objects lie.
 
 ghost use Rattle.std.specs.Prelude.{◌≡◌, ◌+◌, ◌++◌, OnOk, IfOk, map};
-ghost use Rattle.data_object.specs.Layout.{place_after, LieFrom};
+ghost use Rattle.data_object.specs.Layout.{place_after, ObjectsLieFrom};
 ghost use Rattle.data_object.specs.declared.DataCell.TheVariants.{Byte};
 ghost use Rattle.c_typed_tree.specs.Layout as layout;
 ghost use Rattle.c_typed_tree.specs.View.{type_view};
@@ -147,7 +147,7 @@ pub fn lay_out_globals(
     texts: &[Seq<u8>],
 ) -> Result<Seq<DataObject>, AllocError>
     ensures exact { IfOk result (λ globals. globals ≡ spec.globals structs.now objects texts.now) }
-    ensures layout { IfOk result (λ globals. LieFrom 0 globals) }
+    ensures layout { IfOk result (λ globals. ObjectsLieFrom 0 globals) }
 {
     let mut so_far = GlobalsSoFar {
         globals: Seq::new(alloc),

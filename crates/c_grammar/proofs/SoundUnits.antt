@@ -28,7 +28,7 @@ use Rattle.c_grammar.specs.Grammar.{IsExpr, IsDeclarator}
 use Rattle.c_grammar.specs.Specifiers.{IsDeclared, IsSpecifier}
 use Rattle.c_grammar.specs.Statements.{AreItems}
 use Rattle.c_grammar.specs.Units.{IsInit, AreInits, IsStorage, end_by, is_function, external_of, IsObject, AreObjects, with_type, AreTypedefs, IsExternal, AreExternals}
-use Rattle.c_grammar.specs.Parser.{ParseOutcome, IsEnd, Parser, and_then, ◌>>=◌, pure, expect}
+use Rattle.c_grammar.specs.Parser.{ParseOutcome, IsSuffix, Parser, and_then, ◌>>=◌, pure, expect}
 use Rattle.c_grammar.specs.ParseExpr.{expr, declarator}
 use Rattle.c_grammar.specs.ParseSpecifiers.{declaration, braced_list_from, specifier}
 use Rattle.c_grammar.specs.ParseStatements.{items_from, stmt}
@@ -239,7 +239,7 @@ refused_begins toks r size e =
     (v.0, v.1, v.2, record { externals = v.3; length = size }, record { externals = v.4; length = refl })
 
 -- The tokens from the refused one on are the last of them.
-pub refused_end : (toks : Toks) (r : List Lexeme) → unit toks ≡ Err r → IsEnd r toks.items
+pub refused_end : (toks : Toks) (r : List Lexeme) → unit toks ≡ Err r → IsSuffix r toks.items
 refused_end toks r e = let v = refused_begins toks r 0 e in (v.0, v.1)
 
 same_tree : {t u : TranslationUnit} → ◌≡◌ {A = Result TranslationUnit (List Lexeme)} (Ok t) (Ok u) → t ≡ u

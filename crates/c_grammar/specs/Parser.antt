@@ -11,8 +11,8 @@ abbrev pub ParseOutcome : Type 0 → Type 0
 ParseOutcome A = Result (A × List Lexeme) (List Lexeme)
 
 -- these tokens are the last of those
-abbrev pub IsEnd : List Lexeme → List Lexeme → Type 0
-IsEnd rest ts = (front : List Lexeme) × (ts ≡ front ++ rest)
+abbrev pub IsSuffix : List Lexeme → List Lexeme → Type 0
+IsSuffix rest ts = (front : List Lexeme) × (ts ≡ front ++ rest)
 
 abbrev pub Parser : Type 0 → Type 0
 Parser A = List Lexeme → ParseOutcome A

@@ -7,7 +7,7 @@ ghost use Rattle.c_tree.specs.Nodes.{unit_nodes};
 ghost use Rattle.c_grammar.specs.Levels as grammar;
 ghost use Rattle.c_grammar.specs.declared.levels.TheConstants as code;
 ghost use Rattle.c_grammar.specs.Units.{Reads};
-ghost use Rattle.c_grammar.specs.Parser.{IsEnd};
+ghost use Rattle.c_grammar.specs.Parser.{IsSuffix};
 ghost use Rattle.c_grammar.specs.Refused.{RefusedFrom};
 ghost use Rattle.c_grammar.specs.ParseUnits.{unit};
 
@@ -33,7 +33,7 @@ pub fn nodes_are_few()
 /// What the function `unit` refuses are the last of the tokens, from the refused one on.
 #[tactic(auto, using(crate::proofs::SoundUnits::refused_end))]
 pub fn refused_tokens_are_the_last()
-    ensures { (toks : Toks) (rest : List Lexeme) → unit toks ≡ Err rest → IsEnd rest toks.items }
+    ensures { (toks : Toks) (rest : List Lexeme) → unit toks ≡ Err rest → IsSuffix rest toks.items }
 {}
 
 /// `unit` refuses from the first token on that ends no front of a list with a reading: some list with a

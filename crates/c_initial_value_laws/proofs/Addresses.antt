@@ -22,13 +22,13 @@ use Rattle.c_initial_values.specs.Values.{word_value, address_value, value_by, v
 use Rattle.c_type_laws.specs.Typed.{AreKnown, IsTypedIn}
 use Rattle.c_type_laws.proofs.Truth.{no_true, front, back, given_some}
 use Rattle.c_type_laws.proofs.Types.{known_size}
-use Rattle.c_initial_value_laws.specs.Cells.{HasSize, IsAddressIn, IsValueIn}
+use Rattle.c_initial_value_laws.specs.Cells.{ObjectHasSize, IsAddressIn, IsValueIn}
 
 module _ (c : Context) (ds : List StructDef) (known : AreKnown ds c.structs) where
   abbrev Is : Address → Type 0
   Is a = IsAddressIn c.globals a
 
-  size_there : (o : Option DataObject) (ty : PlainType) → IsTrue (has_global_type c.structs o ty) → IsTrue (is_object ds ty) → HasSize (size_of ds ty) o
+  size_there : (o : Option DataObject) (ty : PlainType) → IsTrue (has_global_type c.structs o ty) → IsTrue (is_object ds ty) → ObjectHasSize (size_of ds ty) o
   size_there None ty h k = no_true h
   size_there (Some o) ty h k = sym (eqb-true (size_of c.structs ty) o.size (back (is_object c.structs ty) (size_of c.structs ty == o.size) h)) ∙ known_size ds c.structs known ty k
 

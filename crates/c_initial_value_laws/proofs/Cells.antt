@@ -14,7 +14,7 @@ use Rattle.data_object.specs.Globals.{Reaches, StandsWhole}
 use Rattle.c_initial_values.specs.declared.values.InitialValue.{InitialValue}
 use Rattle.c_initial_values.specs.declared.values.InitialValue.TheVariants as v
 use Rattle.c_initial_values.specs.Cells.{zero_cells, word_cells, address_cells, value_cells, text_cells, reach, put}
-use Rattle.c_initial_value_laws.specs.Cells.{HasSize, IsAddressIn, IsValueIn, IsCellIn, AreCells, AreBytes}
+use Rattle.c_initial_value_laws.specs.Cells.{ObjectHasSize, IsAddressIn, IsValueIn, IsCellIn, AreInitialCells, AreBytes}
 use Rattle.c_initial_value_laws.specs.Laws.{IsMultiple, IsPlaceFor, value_size}
 
 -- ---- cells by their place
@@ -62,7 +62,7 @@ module _ (globals : List DataObject) where
   byte_at (Byte b ∷ xs) all at (suc k) x h e = byte_at xs all at k x h.1 e
   byte_at (AddressPart g plus part ∷ xs) all at k x h e = absurd h
 
-  more_bytes : (end : ℕ) (xs ys : List DataCell) → AreCells globals end xs → HoldBytes ys → AreCells globals (end + length ys) (xs ++ ys)
+  more_bytes : (end : ℕ) (xs ys : List DataCell) → AreInitialCells globals end xs → HoldBytes ys → AreInitialCells globals (end + length ys) (xs ++ ys)
   more_bytes end xs ys h g = record {
     within = let w : length xs ≤ end = h.within in omega (arith, length-append xs ys);
     lawful = λ at x e. of at x (stands xs ys at x e);
@@ -88,10 +88,10 @@ module _ (globals : List DataObject) where
   -- ---- as far as a place
 
   record Reached (place : ℕ) (cells : List DataCell) : Type 0 where
-    cells_lawful : AreCells globals place (reach place cells)
+    cells_lawful : AreInitialCells globals place (reach place cells)
     far : length (reach place cells) ≡ place
 
-  reached : (place : ℕ) (cells : List DataCell) → AreCells globals place cells → Reached place cells
+  reached : (place : ℕ) (cells : List DataCell) → AreInitialCells globals place cells → Reached place cells
   reached place cells h =
       let gap = place - length cells in
       let w : length cells ≤ place = h.within in
@@ -103,10 +103,10 @@ module _ (globals : List DataObject) where
         far = far;
       }
 
-  shorter : (end later : ℕ) (cells : List DataCell) → end ≤ later → AreCells globals end cells → AreCells globals later cells
+  shorter : (end later : ℕ) (cells : List DataCell) → end ≤ later → AreInitialCells globals end cells → AreInitialCells globals later cells
   shorter end later cells less h = record { within = let w : length cells ≤ end = h.within in omega arith; lawful = h.lawful }
 
-  bytes_put : (place size : ℕ) (piece cells : List DataCell) → HoldBytes piece → length piece ≤ size → AreCells globals place cells → AreCells globals (place + size) (put place piece cells)
+  bytes_put : (place size : ℕ) (piece cells : List DataCell) → HoldBytes piece → length piece ≤ size → AreInitialCells globals place cells → AreInitialCells globals (place + size) (put place piece cells)
   bytes_put place size piece cells g less h =
       shorter (place + length piece) (place + size) (put place piece cells) (omega arith) (more_bytes place (reach place cells) piece (reached place cells h).cells_lawful g)
 
@@ -127,12 +127,12 @@ module _ (globals : List DataObject) where
   few_parts : (a : Address) (part : ℕ) (x : DataCell) → slice_get (address_cells a) part ≡ Some x → part < 8
   few_parts a part x e = slice_get_within (address_cells a) part x e
 
-  reaches : (a : Address) (o : Option DataObject) → HasSize a.size o → a.plus ≤ a.size → Reaches a.plus o
+  reaches : (a : Address) (o : Option DataObject) → ObjectHasSize a.size o → a.plus ≤ a.size → Reaches a.plus o
   reaches a None h less = absurd h
   reaches a (Some o) h less = omega (arith, h)
 
   -- eight cells at a multiple of 8
-  address_more : (q : ℕ) (xs : List DataCell) (a : Address) → length xs ≡ q * 8 → IsAddressIn globals a → AreCells globals (q * 8) xs → AreCells globals (q * 8 + 8) (xs ++ address_cells a)
+  address_more : (q : ℕ) (xs : List DataCell) (a : Address) → length xs ≡ q * 8 → IsAddressIn globals a → AreInitialCells globals (q * 8) xs → AreInitialCells globals (q * 8 + 8) (xs ++ address_cells a)
   address_more q xs a far there h = record {
     within = omega (arith, far, length-append xs (address_cells a));
     lawful = λ at x e. of at x (stands xs (address_cells a) at x e);
@@ -153,18 +153,18 @@ module _ (globals : List DataObject) where
           let less = few_parts a k x f in
           subst (IsCellIn globals (xs ++ address_cells a) at) (same_Some (AddressPart a.global a.plus k) x (sym (part_of a k less) ∙ f)) (one at k e less)
 
-  address_put : (place : ℕ) (a : Address) (cells : List DataCell) → IsMultiple 8 place → IsAddressIn globals a → AreCells globals place cells → AreCells globals (place + 8) (put place (address_cells a) cells)
+  address_put : (place : ℕ) (a : Address) (cells : List DataCell) → IsMultiple 8 place → IsAddressIn globals a → AreInitialCells globals place cells → AreInitialCells globals (place + 8) (put place (address_cells a) cells)
   address_put place a cells m there h =
       let r = reached place cells h in
-      subst (λ n. AreCells globals (n + 8) (put place (address_cells a) cells)) (sym m.same)
-      (address_more m.times (reach place cells) a (r.far ∙ m.same) there (subst (λ n. AreCells globals n (reach place cells)) m.same r.cells_lawful))
+      subst (λ n. AreInitialCells globals (n + 8) (put place (address_cells a) cells)) (sym m.same)
+      (address_more m.times (reach place cells) a (r.far ∙ m.same) there (subst (λ n. AreInitialCells globals n (reach place cells)) m.same r.cells_lawful))
 
   word_length : (count word : ℕ) → length (word_cells count word) ≡ count
   word_length zero word = refl
   word_length (suc count) word = ap suc (word_length count (word / 256))
 
-  put_value : (to : Option IntegerType) (value : InitialValue) (place : ℕ) (cells : List DataCell) → IsValueIn globals value → IsPlaceFor to place → AreCells globals place cells
-      → AreCells globals (place + value_size to) (put place (value_cells to value) cells)
+  put_value : (to : Option IntegerType) (value : InitialValue) (place : ℕ) (cells : List DataCell) → IsValueIn globals value → IsPlaceFor to place → AreInitialCells globals place cells
+      → AreInitialCells globals (place + value_size to) (put place (value_cells to value) cells)
   put_value None (v.Word t word) place cells there m h = bytes_put place 8 (zero_cells 8) cells (zeros_bytes 8) (omega arith) h
   put_value None v.Null place cells there m h = bytes_put place 8 (zero_cells 8) cells (zeros_bytes 8) (omega arith) h
   put_value None (v.Address a) place cells there m h = address_put place a cells m there h
@@ -178,10 +178,10 @@ module _ (globals : List DataObject) where
   text_length (suc room) [] = omega arith
   text_length (suc room) (b ∷ text) = omega (arith, text_length room text)
 
-pub value_put : (globals : List DataObject) (to : Option IntegerType) (value : InitialValue) (place : ℕ) (cells : List DataCell) → IsValueIn globals value → IsPlaceFor to place → AreCells globals place cells
-    → AreCells globals (place + value_size to) (put place (value_cells to value) cells)
+pub value_put : (globals : List DataObject) (to : Option IntegerType) (value : InitialValue) (place : ℕ) (cells : List DataCell) → IsValueIn globals value → IsPlaceFor to place → AreInitialCells globals place cells
+    → AreInitialCells globals (place + value_size to) (put place (value_cells to value) cells)
 value_put globals to value place cells there m h = put_value globals to value place cells there m h
 
-pub text_put : (globals : List DataObject) (room : ℕ) (text : List ℕ) (place : ℕ) (cells : List DataCell) → AreBytes text → AreCells globals place cells
-    → AreCells globals (place + room) (put place (text_cells room text) cells)
+pub text_put : (globals : List DataObject) (room : ℕ) (text : List ℕ) (place : ℕ) (cells : List DataCell) → AreBytes text → AreInitialCells globals place cells
+    → AreInitialCells globals (place + room) (put place (text_cells room text) cells)
 text_put globals room text place cells all h = bytes_put globals place room (text_cells room text) cells (text_bytes globals room text all) (text_length globals room text) h

@@ -11,13 +11,13 @@ use Rattle.c_initial_values.specs.declared.values.InitialValue.TheVariants as v
 -- ---- addresses
 
 -- an object of so many bytes is there
-abbrev pub HasSize : (size : ℕ) → Option DataObject → Type 0
-HasSize size None = ⊥
-HasSize size (Some o) = o.size ≡ size
+abbrev pub ObjectHasSize : (size : ℕ) → Option DataObject → Type 0
+ObjectHasSize size None = ⊥
+ObjectHasSize size (Some o) = o.size ≡ size
 
 -- an address lies in its object, or at its end
 pub record IsAddressIn (globals : List DataObject) (a : Address) : Type 0 where
-  pub there : HasSize a.size (slice_get globals a.global)
+  pub there : ObjectHasSize a.size (slice_get globals a.global)
   pub within : a.plus ≤ a.size
 
 abbrev pub IsValueIn : List DataObject → InitialValue → Type 0
@@ -34,7 +34,7 @@ IsCellIn globals cells at (AddressPart global plus part) =
     StandsWhole cells (at / 8 * 8) global plus × Reaches plus (slice_get globals global)
 
 -- lawful cells that go no further than a place
-pub record AreCells (globals : List DataObject) (end : ℕ) (cells : List DataCell) : Type 0 where
+pub record AreInitialCells (globals : List DataObject) (end : ℕ) (cells : List DataCell) : Type 0 where
   pub within : length cells ≤ end
   pub lawful : (at : ℕ) (x : DataCell) → slice_get cells at ≡ Some x → IsCellIn globals cells at x
 

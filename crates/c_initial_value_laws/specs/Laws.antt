@@ -13,7 +13,7 @@ use Rattle.c_initial_values.specs.declared.values.InitialValue.{InitialValue}
 use Rattle.c_initial_values.specs.Values.{initial_value}
 use Rattle.c_initial_values.specs.Cells.{value_cells, text_cells, put}
 use Rattle.c_type_laws.specs.Typed.{AreKnown, IsTypedIn}
-use Rattle.c_initial_value_laws.specs.Cells.{IsAddressIn, IsValueIn, AreCells, AreBytes}
+use Rattle.c_initial_value_laws.specs.Cells.{IsAddressIn, IsValueIn, AreInitialCells, AreBytes}
 
 -- an address constant lies in an object of the context, where the structs that it is judged by are known there
 abbrev pub AddressIsThere : Type 0
@@ -43,11 +43,11 @@ IsPlaceFor (Some t) place = Unit {0}
 abbrev pub ValueIsPut : Type 0
 ValueIsPut =
     (globals : List DataObject) (to : Option IntegerType) (value : InitialValue) (place : ℕ) (cells : List DataCell) →
-    IsValueIn globals value → IsPlaceFor to place → AreCells globals place cells →
-    AreCells globals (place + value_size to) (put place (value_cells to value) cells)
+    IsValueIn globals value → IsPlaceFor to place → AreInitialCells globals place cells →
+    AreInitialCells globals (place + value_size to) (put place (value_cells to value) cells)
 
 abbrev pub TextIsPut : Type 0
 TextIsPut =
     (globals : List DataObject) (room : ℕ) (text : List ℕ) (place : ℕ) (cells : List DataCell) →
-    AreBytes text → AreCells globals place cells →
-    AreCells globals (place + room) (put place (text_cells room text) cells)
+    AreBytes text → AreInitialCells globals place cells →
+    AreInitialCells globals (place + room) (put place (text_cells room text) cells)

@@ -2,7 +2,7 @@
 
 ghost use Rattle.std.specs.Prelude.{◌≡◌};
 ghost use Rattle.c_typed_tree.specs.View.{expr_view};
-ghost use Rattle.c_type_rules.specs.Rulings.{Gives};
+ghost use Rattle.c_type_rules.specs.Rulings.{RuleGives};
 ghost use Rattle.c_initial_values.specs.Values as spec;
 
 use c_arithmetic::integer_type::IntegerType;
@@ -52,7 +52,7 @@ fn value_by(structs: &[StructDef], of: Option<IntegerType>, tree: &TExpr) -> Opt
 /// The value of an expression, of which an array is a pointer already: an integer constant, a null pointer constant, or
 /// an address constant (C99 6.6). What is none has the fault NotConstant.
 pub fn initial_value(structs: &[StructDef], a: &TypedExpression) -> Result<InitialValue, Refusal>
-    ensures { Gives (spec.initial_value structs.now a.now) result }
+    ensures { RuleGives (spec.initial_value structs.now a.now) result }
 {
     match value_by(structs, integer_of(&a.ty), &a.tree) {
         None => Err(refuse(a.at, Kind::NotConstant)),

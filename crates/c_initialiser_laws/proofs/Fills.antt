@@ -4,7 +4,7 @@ use Rattle.c_tree.specs.declared.expressions.Expr.{Expr}
 use Rattle.c_typed_tree.specs.Typing.{Context}
 use Rattle.c_type_rules.specs.declared.typed.TypedExpression.{TypedExpression}
 use Rattle.c_checks.specs.declared.env.Env.{Env}
-use Rattle.c_judgements.specs.Types.{State}
+use Rattle.c_judgements.specs.Types.{JudgementState}
 use Rattle.c_expressions.specs.Expressions.{judge}
 use Rattle.c_initialisers.specs.Values.{FillingState}
 use Rattle.c_type_laws.specs.Typed.{IsTypedIn}
@@ -18,7 +18,7 @@ use Rattle.c_struct_laws.proofs.Growth.{grow_itself, grow_then}
 use Rattle.c_body_laws.proofs.Notes.{steps_keep}
 
 -- the names in scope are those of the context, where anything is asked of them
-pub record Names (c : Context) (names : Type 0) (s : State) : Type 0 where
+pub record Names (c : Context) (names : Type 0) (s : JudgementState) : Type 0 where
   pub meanings : names → HasNames c s.0
   pub typedefs : names → HasTypedefs c s.0.names
 

@@ -12,7 +12,7 @@ use Rattle.c_typed_tree.specs.declared.types.Member.{Member}
 use Rattle.c_typed_tree.specs.Types.{PlainType, Void, Int, Pointer, Array, Struct}
 use Rattle.c_typed_tree.specs.View.{type_view}
 use Rattle.c_typed_tree.specs.model.View.{opens}
-use Rattle.c_typed_tree.specs.Layout.{is_object, is_complete, size_of, align_of, struct_align, struct_size, struct_member, aligned_up, LieFrom, greatest_align}
+use Rattle.c_typed_tree.specs.Layout.{is_object, is_complete, size_of, align_of, struct_align, struct_size, struct_member, aligned_up, MembersLieFrom, greatest_align}
 use Rattle.c_typed_tree.specs.Typing.{is_type, depth_of, most_depth}
 use Rattle.c_typed_tree.specs.Lawful.{IsLawfulStruct, IsCompleteStruct, is_object_type}
 use Rattle.c_struct_layout.proofs.Rounding.{aligned_up_ge}
@@ -73,7 +73,7 @@ aligned_multiple (suc a) end h = record { times = (end + a) / suc a; same = refl
 
 -- ---- members
 
-member_multiple : (ds : List StructDef) (end k : ℕ) (ms : List Member) (m : Member) → LieFrom ds end ms → slice_get ms k ≡ Some m → IsTrue (is_alignment (align_of ds (type_view m.ty))) → IsMultiple (align_of ds (type_view m.ty)) m.offset
+member_multiple : (ds : List StructDef) (end k : ℕ) (ms : List Member) (m : Member) → MembersLieFrom ds end ms → slice_get ms k ≡ Some m → IsTrue (is_alignment (align_of ds (type_view m.ty))) → IsMultiple (align_of ds (type_view m.ty)) m.offset
 member_multiple ds end k [] m h e s = absurd (none-some m e)
 member_multiple ds end zero (x ∷ ms) m h e s =
     let same : x ≡ m = same_Some x m e in
@@ -89,7 +89,7 @@ member_less ds zero (x ∷ ms) m e =
 member_less ds (suc k) (x ∷ ms) m e = omega (arith, member_less ds k ms m e)
 
 -- each stands behind the one before it
-members_follow : (ds : List StructDef) (end k : ℕ) (ms : List Member) (m next : Member) → LieFrom ds end ms → slice_get ms k ≡ Some m → slice_get ms (suc k) ≡ Some next → m.offset + size_of ds (type_view m.ty) ≤ next.offset
+members_follow : (ds : List StructDef) (end k : ℕ) (ms : List Member) (m next : Member) → MembersLieFrom ds end ms → slice_get ms k ≡ Some m → slice_get ms (suc k) ≡ Some next → m.offset + size_of ds (type_view m.ty) ≤ next.offset
 members_follow ds end k [] m next h e f = absurd (none-some m e)
 members_follow ds end zero (x ∷ []) m next h e f = absurd (none-some next f)
 members_follow ds end zero (x ∷ y ∷ ms) m next h e f =

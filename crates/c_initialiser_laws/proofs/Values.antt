@@ -36,7 +36,7 @@ use Rattle.c_type_laws.proofs.Values.{decay_typed}
 use Rattle.c_judgement_laws.specs.Covers.{IsLawfulContext}
 use Rattle.c_judgement_laws.proofs.Notes.{later_itself, later_fault}
 use Rattle.c_struct_laws.proofs.Growth.{grow_itself}
-use Rattle.c_initial_value_laws.specs.Cells.{IsValueIn, AreCells, AreBytes}
+use Rattle.c_initial_value_laws.specs.Cells.{IsValueIn, AreInitialCells, AreBytes}
 use Rattle.c_initial_value_laws.specs.Laws.{value_size, IsMultiple, IsPlaceFor}
 use Rattle.c_initial_value_laws.proofs.Addresses.{value_there}
 use Rattle.c_initial_value_laws.proofs.Cells.{value_put, text_put}
@@ -114,7 +114,7 @@ pub record IsSpot (ds : List StructDef) (ty : t.CType) (place : ℕ) : Type 0 wh
 -- the cells before a place go on with those of a part, where its initialiser has no fault
 abbrev pub Goes : Context → List StructDef → t.CType → (place : ℕ) → List DataCell → Option ℕ → List DataCell → Type 0
 Goes c ds ty place cells found after =
-    AreCells c.globals place cells → IfSome found (λ at. AreCells c.globals (place + size_of ds (type_view ty)) after)
+    AreInitialCells c.globals place cells → IfSome found (λ at. AreInitialCells c.globals (place + size_of ds (type_view ty)) after)
 
 module _ (c : Context) (names : Type 0) (lawful : IsLawfulContext c) (ds : List StructDef) where
   -- a fault, behind which nothing is known
@@ -131,7 +131,7 @@ module _ (c : Context) (names : Type 0) (lawful : IsLawfulContext c) (ds : List 
     later = later_itself c s.1.1;
     grow = grow_itself s.1.1.structs;
     found = λ v known t g cells.
-        subst (λ n. AreCells c.globals (place + n) (put place (value_cells (integer_of (type_view ty)) value) s.0)) (scalar_size ds (type_view ty) (spot v).type (spot v).object single)
+        subst (λ n. AreInitialCells c.globals (place + n) (put place (value_cells (integer_of (type_view ty)) value) s.0)) (scalar_size ds (type_view ty) (spot v).type (spot v).object single)
         (value_put c.globals (integer_of (type_view ty)) value place s.0 (h known.structs_known.complete g) (scalar_place ds (type_view ty) place (spot v).type (spot v).object single (spot v).multiple) cells);
   }
   scalar_by ty place at (Ok value) (Err f) s given spot single h = fills_fault f.at f.kind s (λ g cells. tt)
@@ -178,7 +178,7 @@ module _ (c : Context) (names : Type 0) (lawful : IsLawfulContext c) (ds : List 
         env = refl;
         later = later_itself c s.1.1;
         grow = grow_itself s.1.1.structs;
-        found = λ v known t cells. subst (λ n. AreCells c.globals (place + n) (put place (text_cells room bytes) s.0)) e (text_put c.globals room bytes place s.0 (all v) cells);
+        found = λ v known t cells. subst (λ n. AreInitialCells c.globals (place + n) (put place (text_cells room bytes) s.0)) e (text_put c.globals room bytes place s.0 (all v) cells);
       }
       choose false = fills_fault at BadInit s (λ cells. tt)
 

@@ -12,7 +12,7 @@ use Rattle.c_typed_tree.specs.Layout.{size_of}
 use Rattle.c_typed_tree.specs.Typing.{Context}
 use Rattle.c_typed_tree.specs.Lawful.{IsLawfulStruct}
 use Rattle.c_type_faults.specs.declared.faults.Kind.TheVariants.{BadInit}
-use Rattle.c_judgements.specs.Types.{State}
+use Rattle.c_judgements.specs.Types.{JudgementState}
 use Rattle.c_expressions.specs.Expressions.{judge}
 use Rattle.c_initial_values.specs.declared.parts.ObjectPart.{ObjectPart}
 use Rattle.c_initial_values.specs.Parts.{is_aggregate, part_of}
@@ -25,7 +25,7 @@ use Rattle.c_type_laws.proofs.Types.{known_size}
 use Rattle.c_judgement_laws.specs.Covers.{IsLawfulContext}
 use Rattle.c_struct_laws.specs.Growth.{Grow}
 use Rattle.c_struct_laws.proofs.Growth.{grow_itself, grow_then}
-use Rattle.c_initial_value_laws.specs.Cells.{AreCells}
+use Rattle.c_initial_value_laws.specs.Cells.{AreInitialCells}
 use Rattle.c_initialiser_laws.specs.Laws.{HoldsBytes, HoldBytes, IsInitialisedIn, LeavesState}
 use Rattle.c_initialiser_laws.proofs.Parts.{IsPart, is_part, part_known, multiple_none}
 use Rattle.c_initialiser_laws.proofs.Fills.{Names, Fills, names_behind, fills_as, fills_then, fills_none, judge_fills}
@@ -33,13 +33,13 @@ use Rattle.c_initialiser_laws.proofs.Values.{IsSpot, Goes, fills_fault, single_f
 
 -- ---- cells
 
-farther : (globals : List DataObject) (end later : ℕ) (cells : List DataCell) → end ≤ later → AreCells globals end cells → AreCells globals later cells
+farther : (globals : List DataObject) (end later : ℕ) (cells : List DataCell) → end ≤ later → AreInitialCells globals end cells → AreInitialCells globals later cells
 farther globals end later cells less h = record { within = let w = h.within in omega arith; lawful = h.lawful }
 
 nothing_more : (n : ℕ) → 0 + n ≡ n
 nothing_more n = omega arith
 
-no_cells : (globals : List DataObject) → AreCells globals 0 []
+no_cells : (globals : List DataObject) → AreInitialCells globals 0 []
 no_cells globals = record { within = omega arith; lawful = λ at x e. absurd (none-some x e) }
 
 -- there is a part, or there is none
@@ -99,14 +99,14 @@ module _ (c : Context) (names : Type 0) (lawful : IsLawfulContext c) where
     -- the items so far go to an end, behind which the next part begins
     pub record Ends (ty : CType) (place k : ℕ) (cells : List DataCell) : Type 0 where
       pub end : ℕ
-      pub filled : AreCells c.globals (place + end) cells
+      pub filled : AreInitialCells c.globals (place + end) cells
       pub within : end ≤ size_of ds (type_view ty)
       pub next : (p : ObjectPart) → part_of ds ty k ≡ Some p → end ≤ p.place
 
     abbrev Whole : CType → ℕ → List DataCell → Type 0
-    Whole ty place cells = AreCells c.globals (place + size_of ds (type_view ty)) cells
+    Whole ty place cells = AreInitialCells c.globals (place + size_of ds (type_view ty)) cells
 
-    ends_first : (ty : CType) (place : ℕ) (cells : List DataCell) → AreCells c.globals place cells → Ends ty place 0 cells
+    ends_first : (ty : CType) (place : ℕ) (cells : List DataCell) → AreInitialCells c.globals place cells → Ends ty place 0 cells
     ends_first ty place cells h = record {
       end = 0;
       filled = farther c.globals place (place + 0) cells (omega arith) h;
@@ -184,11 +184,11 @@ module _ (c : Context) (names : Type 0) (lawful : IsLawfulContext c) where
 
 -- ---- whole objects
 
-cells_lawful : (globals : List DataObject) (size : ℕ) (cells : List DataCell) (o : Option ℕ) → IfSome o (λ at. AreCells globals size cells) → IfSome (cells_where cells o) (AreCells globals size)
+cells_lawful : (globals : List DataObject) (size : ℕ) (cells : List DataCell) (o : Option ℕ) → IfSome o (λ at. AreInitialCells globals size cells) → IfSome (cells_where cells o) (AreInitialCells globals size)
 cells_lawful globals size cells None h = tt
 cells_lawful globals size cells (Some at) h = h
 
-pub object_lawful : (c : Context) → IsLawfulContext c → (ty : CType) (x : i.Init) (s : State) → IsInitialisedIn c ty x s (object_cells ty x s).1 → IfSome (object_cells ty x s).0 (AreCells c.globals (size_of c.structs (type_view ty)))
+pub object_lawful : (c : Context) → IsLawfulContext c → (ty : CType) (x : i.Init) (s : JudgementState) → IsInitialisedIn c ty x s (object_cells ty x s).1 → IfSome (object_cells ty x s).0 (AreInitialCells c.globals (size_of c.structs (type_view ty)))
 object_lawful c lawful ty x s given =
     let ds = s.1.structs in
     let start : FillingState = ([], s) in
@@ -199,12 +199,12 @@ object_lawful c lawful ty x s given =
     (λ v. given.texts) (λ v. grow_itself ds) in
     let known = (fills.later.knows given.knows).structs_known.complete in
     cells_lawful c.globals (size_of c.structs (type_view ty)) r.1.0 r.0
-    (subst (λ n. IfSome r.0 (λ at. AreCells c.globals n r.1.0)) (nothing_more (size_of ds (type_view ty)) ∙ sym (known_size ds c.structs known (type_view ty) given.object)) (fills.found tt given.knows given.takes (no_cells c.globals)))
+    (subst (λ n. IfSome r.0 (λ at. AreInitialCells c.globals n r.1.0)) (nothing_more (size_of ds (type_view ty)) ∙ sym (known_size ds c.structs known (type_view ty) given.object)) (fills.found tt given.knows given.takes (no_cells c.globals)))
 
 leaves_from : (c : Context) {X : Type 0} (s u : FillingState) → Fills c ⊥ X s u → LeavesState c s.1 u.1
 leaves_from c s u h = record { env = h.env; first = h.later.first; knows = h.later.knows; takes = h.later.takes }
 
-pub object_leaves : (c : Context) → IsLawfulContext c → (ty : CType) (x : i.Init) (s : State) → LeavesState c s (object_cells ty x s).1 × LeavesState c s (judge_init x s).1
+pub object_leaves : (c : Context) → IsLawfulContext c → (ty : CType) (x : i.Init) (s : JudgementState) → LeavesState c s (object_cells ty x s).1 × LeavesState c s (judge_init x s).1
 object_leaves c lawful ty x s =
     let start : FillingState = ([], s) in
     let none : Names c ⊥ s = record { meanings = λ v. absurd v; typedefs = λ v. absurd v } in (

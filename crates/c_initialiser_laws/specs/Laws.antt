@@ -7,13 +7,13 @@ use Rattle.c_typed_tree.specs.Layout.{is_object, size_of}
 use Rattle.c_typed_tree.specs.Typing.{Context, is_type}
 use Rattle.c_typed_tree.specs.Lawful.{IsLawfulStruct}
 use Rattle.c_judgements.specs.Texts.{bytes_of}
-use Rattle.c_judgements.specs.Types.{State}
+use Rattle.c_judgements.specs.Types.{JudgementState}
 use Rattle.c_initialisers.specs.Values.{text_in}
 use Rattle.c_initialisers.specs.Initialisers.{object_cells}
 use Rattle.c_initialisers.specs.Unfit.{judge_init}
 use Rattle.c_judgement_laws.specs.Covers.{Knows, Takes, IsLawfulContext}
 use Rattle.c_expression_laws.specs.Laws.{HasScope}
-use Rattle.c_initial_value_laws.specs.Cells.{AreCells, AreBytes}
+use Rattle.c_initial_value_laws.specs.Cells.{AreInitialCells, AreBytes}
 
 -- each text that fills an array holds bytes
 unfoldable mutual
@@ -27,7 +27,7 @@ unfoldable mutual
 
 -- what is known where an object of a type is initialised: the names in scope, the structs before, and what was noted
 -- behind
-pub record IsInitialisedIn (c : Context) (ty : CType) (x : i.Init) (s later : State) : Type 0 where
+pub record IsInitialisedIn (c : Context) (ty : CType) (x : i.Init) (s later : JudgementState) : Type 0 where
   pub scope : HasScope c s
   pub lawful : All (IsLawfulStruct s.1.structs) s.1.structs
   pub type : IsTrue (is_type s.1.structs (type_view ty))
@@ -38,12 +38,12 @@ pub record IsInitialisedIn (c : Context) (ty : CType) (x : i.Init) (s later : St
 
 abbrev pub ObjectIsLawful : Type 0
 ObjectIsLawful =
-    (c : Context) → IsLawfulContext c → (ty : CType) (x : i.Init) (s : State) →
+    (c : Context) → IsLawfulContext c → (ty : CType) (x : i.Init) (s : JudgementState) →
     IsInitialisedIn c ty x s (object_cells ty x s).1 →
-    IfSome (object_cells ty x s).0 (AreCells c.globals (size_of c.structs (type_view ty)))
+    IfSome (object_cells ty x s).0 (AreInitialCells c.globals (size_of c.structs (type_view ty)))
 
 -- names in scope stay as they were, and what a context has behind an initialiser, it had before
-pub record LeavesState (c : Context) (s later : State) : Type 0 where
+pub record LeavesState (c : Context) (s later : JudgementState) : Type 0 where
   pub env : later.0 ≡ s.0
   pub first : later.1.first_text ≡ s.1.first_text
   pub knows : Knows c later.1 → Knows c s.1
@@ -52,5 +52,5 @@ pub record LeavesState (c : Context) (s later : State) : Type 0 where
 -- also where it initialises nothing
 abbrev pub InitialiserLeaves : Type 0
 InitialiserLeaves =
-    (c : Context) → IsLawfulContext c → (ty : CType) (x : i.Init) (s : State) →
+    (c : Context) → IsLawfulContext c → (ty : CType) (x : i.Init) (s : JudgementState) →
     LeavesState c s (object_cells ty x s).1 × LeavesState c s (judge_init x s).1

@@ -6,7 +6,7 @@ use Rattle.data_object.specs.declared.DataCell.{DataCell}
 use Rattle.c_checks.specs.declared.env.Env.{Env}
 use Rattle.c_checks.specs.declared.notes.Notes.{Notes}
 use Rattle.c_checks.specs.Checks.{pure, and_then, Finds}
-use Rattle.c_judgements.specs.Types.{State}
+use Rattle.c_judgements.specs.Types.{JudgementState}
 use Rattle.c_initialisers.specs.declared.lists.InitialiserItems.{InitialiserItems}
 use Rattle.c_initialisers.specs.declared.lists.InitialiserItems.TheVariants.{Fitting}
 use Rattle.c_initialisers.specs.Unfit.{judge_init, list_place}
@@ -15,7 +15,7 @@ use Rattle.c_initialisers.specs.Initialisers.{initialise, list_in, length_given}
 use Rattle.c_initialisers.specs.model.Parts.{judge_inits, items_from}
 use Rattle.c_initialisers.proofs.Rows.{judge_init-List, initialise-List, length_given-List}
 
-pub list_judged : (v : i.Init) (at : ℕ) (xs ys : List i.Init) (s u : State) (whole : Bool) (r : Option ℕ)
+pub list_judged : (v : i.Init) (at : ℕ) (xs ys : List i.Init) (s u : JudgementState) (whole : Bool) (r : Option ℕ)
     → v ≡ i.List at xs → ys ≡ xs → judge_inits ys true s ≡ (whole, u) → r ≡ list_place at whole → judge_init v s ≡ (r, u)
 list_judged v at xs ys s u whole r form same parts given =
     ap (λ w. judge_init w s) form ∙ (judge_init-List at xs s

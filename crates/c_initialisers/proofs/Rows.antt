@@ -5,7 +5,7 @@ use Rattle.c_tree.specs.declared.declarations.Init as i
 use Rattle.c_tree.specs.declared.declarations.Init.TheBlock as k
 use Rattle.c_typed_tree.specs.declared.types.CType.{CType}
 use Rattle.c_checks.specs.Checks.{pure, and_then}
-use Rattle.c_judgements.specs.Types.{State}
+use Rattle.c_judgements.specs.Types.{JudgementState}
 use Rattle.c_initialisers.specs.declared.lists.InitialiserItems.{InitialiserItems}
 use Rattle.c_initialisers.specs.declared.lists.InitialiserItems.TheVariants.{Fitting}
 use Rattle.c_initialisers.specs.Unfit.{judge_init, judge_items, list_place, is_whole_with}
@@ -14,12 +14,12 @@ use Rattle.c_initialisers.specs.Initialisers.{initialise, item_row, list_in, row
 use Rattle.c_initialisers.specs.model.Opens.{opens}
 use Rattle.c_initialisers.specs.model.Parts.{judge_inits, one_item, items_from}
 
-judge_items_is : (m : Count) (xs : i.Row_of-Init m) (whole : Bool) (s : State) → judge_items xs whole s ≡ judge_inits (i.items-the_row-Init m xs) whole s
+judge_items_is : (m : Count) (xs : i.Row_of-Init m) (whole : Bool) (s : JudgementState) → judge_items xs whole s ≡ judge_inits (i.items-the_row-Init m xs) whole s
 unfolding judge_init
 judge_items_is m i.end_of-Init whole s = refl
 judge_items_is m (i.more_of-Init x xs) whole s = judge_items_is _ xs (is_whole_with whole (judge_init x s).0) (judge_init x s).1
 
-pub judge_items-hidden : (xs : List i.Init) (whole : Bool) (s : State) → judge_items (k.hidden-the_row-Init-0 xs) whole s ≡ judge_inits xs whole s
+pub judge_items-hidden : (xs : List i.Init) (whole : Bool) (s : JudgementState) → judge_items (k.hidden-the_row-Init-0 xs) whole s ≡ judge_inits xs whole s
 judge_items-hidden xs whole s = judge_items_is _ (k.hidden-the_row-Init-0 xs) whole s ∙ ap (λ l. judge_inits l whole s) (k.items_hidden-the_row-Init-0 xs)
 
 item_row_is : (m : Count) (xs : i.Row_of-Init m) (ty : CType) (place n : ℕ) (found : InitialiserItems) (s : FillingState) → item_row xs ty place n found s ≡ items_from (i.items-the_row-Init m xs) ty place n found s
@@ -40,7 +40,7 @@ row_length-hidden xs = row_length_is _ (k.hidden-the_row-Init-0 xs) ∙ ap lengt
 
 -- ---- forms with lists, as code sees them
 
-pub judge_init-List : (at : ℕ) (xs : List i.Init) (s : State) → judge_init (i.List at xs) s ≡ and_then (judge_inits xs true s) (λ whole. pure (list_place at whole))
+pub judge_init-List : (at : ℕ) (xs : List i.Init) (s : JudgementState) → judge_init (i.List at xs) s ≡ and_then (judge_inits xs true s) (λ whole. pure (list_place at whole))
 unfolding opens
 judge_init-List at xs s = ap (λ q. and_then q (λ whole. pure (list_place at whole))) (judge_items-hidden xs true s)
 

@@ -10,7 +10,7 @@ use Rattle.c_initial_values.specs.Parts.{is_aggregate, is_character, part_of}
 use Rattle.c_typed_tree.specs.View.{type_view}
 use Rattle.c_judgements.specs.Texts.{bytes_of}
 use Rattle.c_checks.specs.Checks.{Check, and_then}
-use Rattle.c_judgements.specs.Types.{State}
+use Rattle.c_judgements.specs.Types.{JudgementState}
 use Rattle.c_initialisers.specs.declared.lists.InitialiserItems.{InitialiserItems}
 use Rattle.c_initialisers.specs.declared.lists.InitialiserItems.TheVariants as t
 use Rattle.c_initialisers.specs.Unfit.{judge_init, no_place}
@@ -77,11 +77,11 @@ abbrev pub cells_where : List DataCell → Option ℕ → Option (List DataCell)
 cells_where cells None = None
 cells_where cells (Some at) = Some cells
 
-abbrev pub cells_with : Option ℕ × FillingState → Option (List DataCell) × State
+abbrev pub cells_with : Option ℕ × FillingState → Option (List DataCell) × JudgementState
 cells_with r = (cells_where r.1.0 r.0, r.1.1)
 
 -- the cells of an object, if its initialiser has no fault
-abbrev pub object_cells : CType → i.Init → State → Option (List DataCell) × State
+abbrev pub object_cells : CType → i.Init → JudgementState → Option (List DataCell) × JudgementState
 object_cells ty x s = cells_with (initialise x ty 0 ([], s))
 
 -- ---- an array without a length has that of its initialiser (6.7.8). Another value than a text gives none, and is a

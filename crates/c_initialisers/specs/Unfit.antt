@@ -7,14 +7,14 @@ use Rattle.c_tree.specs.declared.declarations.Init as i
 use Rattle.c_type_faults.specs.declared.faults.Kind.{Kind}
 use Rattle.c_type_rules.specs.declared.typed.TypedExpression.{TypedExpression}
 use Rattle.c_checks.specs.Checks.{Check, pure, and_then, each, fault}
-use Rattle.c_judgements.specs.Types.{State, within}
+use Rattle.c_judgements.specs.Types.{JudgementState, within}
 use Rattle.c_expressions.specs.Expressions.{judge}
 
 abbrev pub place_of : TypedExpression → ℕ
 place_of a = a.at
 
 -- the place of an expression, if it has no fault
-abbrev pub judge_value : Expr → State → Option ℕ × State
+abbrev pub judge_value : Expr → JudgementState → Option ℕ × JudgementState
 judge_value x s = and_then (judge x s) (λ a. pure (option_map place_of a))
 
 -- a list is without fault where its items are
@@ -29,11 +29,11 @@ is_whole_with true (Some at) = true
 
 -- the place of an initialiser, if no expression in it has a fault
 unfoldable mutual
-  pub judge_init : i.Init → State → Option ℕ × State
+  pub judge_init : i.Init → JudgementState → Option ℕ × JudgementState
   judge_init (i.Value x) s = judge_value x s
   judge_init (i.List' at _ items) s = and_then (judge_items items true s) (λ whole. pure (list_place at whole))
 
-  pub judge_items : {m : _} → i.Row_of-Init m → (whole : Bool) → State → Bool × State
+  pub judge_items : {m : _} → i.Row_of-Init m → (whole : Bool) → JudgementState → Bool × JudgementState
   judge_items i.end_of-Init whole s = (whole, s)
   judge_items (i.more_of-Init x xs) whole s =
       and_then (judge_init x s) (λ place. judge_items xs (is_whole_with whole place))
@@ -42,5 +42,5 @@ abbrev pub no_place : Kind → ℕ → Check (Option ℕ)
 no_place kind at = fault at kind
 
 -- an initialiser that has this fault
-abbrev pub unfit : Kind → i.Init → State → Option ℕ × State
+abbrev pub unfit : Kind → i.Init → JudgementState → Option ℕ × JudgementState
 unfit kind x s = and_then (judge_init x s) (λ place u. within u.0 (each place (no_place kind) u.1))

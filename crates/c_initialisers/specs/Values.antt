@@ -17,7 +17,7 @@ use Rattle.c_initial_values.specs.Parts.{is_aggregate, is_room_for, room_of}
 use Rattle.c_checks.specs.declared.env.Env.{Env}
 use Rattle.c_checks.specs.declared.notes.Notes.{Notes}
 use Rattle.c_checks.specs.Checks.{Check, pure, and_then, each, note_fault}
-use Rattle.c_judgements.specs.Types.{State}
+use Rattle.c_judgements.specs.Types.{JudgementState}
 use Rattle.c_judgements.specs.Texts.{bytes_of}
 use Rattle.c_expressions.specs.Expressions.{judge}
 use Rattle.c_initialisers.specs.Unfit.{no_place}
@@ -28,7 +28,7 @@ Filling = List DataCell × Notes
 
 -- these, with the names in scope
 abbrev pub FillingState : Type 0
-FillingState = List DataCell × State
+FillingState = List DataCell × JudgementState
 
 -- what is judged beside the cells
 abbrev pub beside : {A S : Type 0} → List DataCell → A × S → A × (List DataCell × S)

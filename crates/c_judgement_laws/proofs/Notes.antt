@@ -15,7 +15,7 @@ use Rattle.c_checks.specs.Notes.{with_address, with_fault, with_use, new_text}
 use Rattle.c_judgements.specs.Operators.{taken_by}
 use Rattle.c_type_laws.specs.Typed.{may_be_memory, is_memory, IsTypedIn, TakesMemory}
 use Rattle.c_type_laws.proofs.Truth.{no_true}
-use Rattle.c_judgement_laws.specs.Covers.{AreInMemory, HasText, HaveTexts, Knows, Takes, IsJudged, Judges}
+use Rattle.c_judgement_laws.specs.Covers.{AreInMemory, IsTextObject, HaveTexts, Knows, Takes, IsJudged, Judges}
 use Rattle.c_judgement_laws.proofs.Whole.{V}
 
 -- ---- lists of what was taken
@@ -35,12 +35,12 @@ texts_front c k (x ∷ xs) ys h = (h.0, texts_front c (1 + k) xs ys h.1)
 further : (k n : ℕ) → 1 + k + n ≡ k + suc n
 further k n = omega arith
 
-pub texts_last : (c : Context) (k : ℕ) (xs : List (List ℕ)) (x : List ℕ) → HaveTexts c k (xs ++ x ∷ []) → HasText c (k + length xs) (length x)
-texts_last c k [] x h = subst (λ j. HasText c j (length x)) (start k) h.0
+pub texts_last : (c : Context) (k : ℕ) (xs : List (List ℕ)) (x : List ℕ) → HaveTexts c k (xs ++ x ∷ []) → IsTextObject c (k + length xs) (length x)
+texts_last c k [] x h = subst (λ j. IsTextObject c j (length x)) (start k) h.0
   where
     start : (k : ℕ) → k ≡ k + 0
     start k = omega arith
-texts_last c k (y ∷ ys) x h = subst (λ j. HasText c j (length x)) (further k (length ys)) (texts_last c (1 + k) ys x h.1)
+texts_last c k (y ∷ ys) x h = subst (λ j. IsTextObject c j (length x)) (further k (length ys)) (texts_last c (1 + k) ys x h.1)
 
 -- ---- one note is later than another
 

@@ -77,13 +77,13 @@ AreInMemory c [] = Unit {0}
 AreInMemory c (number ∷ rest) = IsTrue (may_be_memory (slice_get c.locals number)) × AreInMemory c rest
 
 -- an object of so many bytes, as a string literal is
-abbrev pub HasText : Context → (number length : ℕ) → Type 0
-HasText c number size = IsTrue (has_global_type c.structs (slice_get c.globals number) (type_view (text_type size)))
+abbrev pub IsTextObject : Context → (number length : ℕ) → Type 0
+IsTextObject c number size = IsTrue (has_global_type c.structs (slice_get c.globals number) (type_view (text_type size)))
 
 -- the texts are objects, from a number on
 abbrev pub HaveTexts : Context → (number : ℕ) → List (List ℕ) → Type 0
 HaveTexts c number [] = Unit {0}
-HaveTexts c number (text ∷ rest) = HasText c number (length text) × HaveTexts c (1 + number) rest
+HaveTexts c number (text ∷ rest) = IsTextObject c number (length text) × HaveTexts c (1 + number) rest
 
 -- the locals whose address is taken are in memory, and each text is an object
 pub record HasTaken (c : Context) (addressed : List ℕ) (first_text : ℕ) (texts : List (List ℕ)) : Type 0 where

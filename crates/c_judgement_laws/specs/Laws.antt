@@ -24,41 +24,43 @@ use Rattle.c_type_laws.specs.Typed.{IsFitType}
 use Rattle.c_judgement_laws.specs.Covers.{is_whole, HasNames, Knows, Takes, IsLawfulContext, IsJudged, AreJudged, Judges}
 
 -- an operand that was judged before these notes
-abbrev pub IsOperand : Context → Env → Notes → TypedExpression → Type 0
-IsOperand c env n a = HasNames c env → Knows c n → IsJudged c (Takes c n) a
+abbrev pub IsJudgedOperand : Context → Env → Notes → TypedExpression → Type 0
+IsJudgedOperand c env n a = HasNames c env → Knows c n → IsJudged c (Takes c n) a
 
 -- ---- operators
 
 abbrev pub PrefixIsJudged : Type 0
 PrefixIsJudged =
     (c : Context) → IsLawfulContext c → (env : Env) (at : ℕ) (op : UnaryOp) (a : TypedExpression) (n : Notes) →
-    IsOperand c env n a → Judges c (HasNames c env) (IsJudged c) n (apply_prefix at op a n)
+    IsJudgedOperand c env n a → Judges c (HasNames c env) (IsJudged c) n (apply_prefix at op a n)
 
 abbrev pub BetweenIsJudged : Type 0
 BetweenIsJudged =
     (c : Context) → IsLawfulContext c → (env : Env) (at : ℕ) (op : BinaryOp) (a b : TypedExpression) (n : Notes) →
-    IsOperand c env n a → IsOperand c env n b → Judges c (HasNames c env) (IsJudged c) n (between at op a b n)
+    IsJudgedOperand c env n a → IsJudgedOperand c env n b → Judges c (HasNames c env)
+    (IsJudged c) n (between at op a b n)
 
 abbrev pub AssignmentIsJudged : Type 0
 AssignmentIsJudged =
     (c : Context) → IsLawfulContext c → (env : Env) (at : ℕ) (op : AssignOp) (a b : TypedExpression) (n : Notes) →
-    IsOperand c env n a → IsOperand c env n b → Judges c (HasNames c env) (IsJudged c) n (assignment at op a b n)
+    IsJudgedOperand c env n a → IsJudgedOperand c env n b → Judges c (HasNames c env)
+    (IsJudged c) n (assignment at op a b n)
 
 abbrev pub ElementIsJudged : Type 0
 ElementIsJudged =
     (c : Context) → IsLawfulContext c → (env : Env) (at : ℕ) (a b : TypedExpression) (n : Notes) →
-    IsOperand c env n a → IsOperand c env n b → Judges c (HasNames c env) (IsJudged c) n (element at a b n)
+    IsJudgedOperand c env n a → IsJudgedOperand c env n b → Judges c (HasNames c env) (IsJudged c) n (element at a b n)
 
 abbrev pub ChoiceIsJudged : Type 0
 ChoiceIsJudged =
     (c : Context) → IsLawfulContext c → (env : Env) (at : ℕ) (q a b : TypedExpression) (n : Notes) →
-    IsOperand c env n q → IsOperand c env n a → IsOperand c env n b →
+    IsJudgedOperand c env n q → IsJudgedOperand c env n a → IsJudgedOperand c env n b →
     Judges c (HasNames c env) (IsJudged c) n (choice at q a b n)
 
 abbrev pub StepIsJudged : Type 0
 StepIsJudged =
     (c : Context) → IsLawfulContext c → (env : Env) (at : ℕ) (op : StepOp) (a : TypedExpression) (n : Notes) →
-    IsOperand c env n a → Judges c (HasNames c env) (IsJudged c) n (behind at op a n)
+    IsJudgedOperand c env n a → Judges c (HasNames c env) (IsJudged c) n (behind at op a n)
 
 abbrev pub CommaIsJudged : Type 0
 CommaIsJudged =
@@ -71,7 +73,7 @@ CommaIsJudged =
 abbrev pub CastIsJudged : Type 0
 CastIsJudged =
     (c : Context) → IsLawfulContext c → (env : Env) (at : ℕ) (to : DeclaredType) (a : TypedExpression) (n : Notes) →
-    (HasNames c env → Knows c n → IsFitType c to) → IsOperand c env n a →
+    (HasNames c env → Knows c n → IsFitType c to) → IsJudgedOperand c env n a →
     Judges c (HasNames c env) (IsJudged c) n (cast at to a n)
 
 abbrev pub SizeIsJudged : Type 0
@@ -90,12 +92,12 @@ SizeOfNameIsJudged =
 abbrev pub FieldIsJudged : Type 0
 FieldIsJudged =
     (c : Context) → IsLawfulContext c → (env : Env) (at : ℕ) (name : List ℕ) (a : TypedExpression) (n : Notes) →
-    IsOperand c env n a → Judges c (HasNames c env) (IsJudged c) n (field_named at name a n)
+    IsJudgedOperand c env n a → Judges c (HasNames c env) (IsJudged c) n (field_named at name a n)
 
 abbrev pub ArrowIsJudged : Type 0
 ArrowIsJudged =
     (c : Context) → IsLawfulContext c → (env : Env) (at : ℕ) (name : List ℕ) (a : TypedExpression) (n : Notes) →
-    IsOperand c env n a → Judges c (HasNames c env) (IsJudged c) n (arrow_named at name a n)
+    IsJudgedOperand c env n a → Judges c (HasNames c env) (IsJudged c) n (arrow_named at name a n)
 
 -- ---- constants, texts, names and calls
 

@@ -21,11 +21,11 @@ use Rattle.c_checks.specs.Scopes.{with_name, stands_here}
 use Rattle.c_judgements.specs.Leaves.{no_type}
 
 -- the names in scope, and what was noted
-abbrev pub State : Type 0
-State = Env × Notes
+abbrev pub JudgementState : Type 0
+JudgementState = Env × Notes
 
 -- a judgement that declares nothing
-abbrev pub within : {A : Type 0} → Env → A × Notes → A × State
+abbrev pub within : {A : Type 0} → Env → A × Notes → A × JudgementState
 within env x = (x.0, (env, x.1))
 
 -- the type that there is
@@ -66,15 +66,17 @@ abbrev pub parameter_meaning : Option CType → NameMeaning
 parameter_meaning None = m.Faulty
 parameter_meaning (Some ty) = m.Local 0 ty
 
-abbrev pub named_parameter : ℕ → List ℕ → Option CType → State → Option CType × State
+abbrev pub named_parameter : ℕ → List ℕ → Option CType → JudgementState → Option CType × JudgementState
 named_parameter at name ty s =
     if stands_here s.0 (find name s.0.names) then within s.0 (no_parameter at Redeclared s.1)
     else (ty, (with_name name (parameter_meaning ty) s.0, s.1))
 
-abbrev pub declared_parameter : ℕ → (name : Option (List ℕ)) → Option CType → State → Option CType × State
+abbrev pub declared_parameter : ℕ → (name : Option (List ℕ)) → Option CType → JudgementState →
+    Option CType × JudgementState
 declared_parameter at None ty s = (ty, s)
 declared_parameter at (Some name) ty s = named_parameter at name ty s
 
-abbrev pub parameter_declared : ℕ → (name : Option (List ℕ)) → Option DeclaredType → State → Option CType × State
+abbrev pub parameter_declared : ℕ → (name : Option (List ℕ)) → Option DeclaredType → JudgementState →
+    Option CType × JudgementState
 parameter_declared at name ty s =
     and_then (within s.0 (each ty (parameter_type at) s.1)) (λ r. declared_parameter at name r)

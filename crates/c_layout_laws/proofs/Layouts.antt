@@ -9,7 +9,7 @@ use Rattle.c_typed_tree.specs.declared.types.StructDef.{StructDef}
 use Rattle.c_typed_tree.specs.declared.types.Member.{Member}
 use Rattle.c_typed_tree.specs.Types.{PlainType, Void, Int, Pointer, Array, Struct}
 use Rattle.c_typed_tree.specs.View.{type_view}
-use Rattle.c_typed_tree.specs.Layout.{is_object, is_complete, size_of, align_of, struct_align, aligned_up, LieFrom, end_from, greatest_align}
+use Rattle.c_typed_tree.specs.Layout.{is_object, is_complete, size_of, align_of, struct_align, aligned_up, MembersLieFrom, end_from, greatest_align}
 use Rattle.c_typed_tree.specs.Typing.{is_type, depth_of, struct_depth, most_depth}
 use Rattle.c_typed_tree.specs.Lawful.{IsLawfulStruct, IsStruct, IsCompleteStruct, is_object_type, greatest_depth}
 use Rattle.c_struct_layout.proofs.Rounding.{aligned_up_ge}
@@ -57,11 +57,11 @@ module _ (ds : List StructDef) where
 
   -- ---- members
 
-  pub ends_ge : (end : ℕ) (ms : List Member) → LieFrom ds end ms → end ≤ end_from ds end ms
+  pub ends_ge : (end : ℕ) (ms : List Member) → MembersLieFrom ds end ms → end ≤ end_from ds end ms
   ends_ge end [] h = omega arith
   ends_ge end (m ∷ ms) h = omega (arith, h.0, aligned_up_ge (align_of ds (type_view m.ty)) end, ends_ge (m.offset + size_of ds (type_view m.ty)) ms h.1)
 
-  pub member_within : (end k : ℕ) (ms : List Member) (m : Member) → LieFrom ds end ms → slice_get ms k ≡ Some m → m.offset + size_of ds (type_view m.ty) ≤ end_from ds end ms
+  pub member_within : (end k : ℕ) (ms : List Member) (m : Member) → MembersLieFrom ds end ms → slice_get ms k ≡ Some m → m.offset + size_of ds (type_view m.ty) ≤ end_from ds end ms
   member_within end k [] m h e = none_some m e
   member_within end zero (x ∷ ms) m h e =
       let same : x ≡ m = cc in

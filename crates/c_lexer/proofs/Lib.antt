@@ -1,4 +1,5 @@
 pub mod Options
+pub mod Keywords
 pub mod Close
 pub mod QuoteEnds
 pub mod Values

@@ -10,7 +10,7 @@ use Rattle.c_lexer.specs.declared.piece.Piece.{Piece}
 use Rattle.c_lexer.specs.declared.piece.Piece.TheVariants as p
 use Rattle.c_lexer.specs.Blanks.{is_line_start}
 use Rattle.c_lexer.specs.Pieces.{Begins, Cuts, Lexeme, Pieces, IsStuck}
-use Rattle.c_lexer.specs.Steps.{TextPlace, IsEnd, Gives, Refuses}
+use Rattle.c_lexer.specs.Steps.{TextPlace, IsEndToken, LexerGives, Refuses}
 use Rattle.c_lexer.proofs.Once.{Stops, nothing_left, end_stops, cuts_some}
 
 -- pieces, and then pieces
@@ -32,12 +32,12 @@ skip_more text from at n d c = pieces-append d (Pieces.blank n [] c Pieces.none)
 
 -- ---- the answer of a lexer that stands at a fault, or at the end
 
-pub stuck_again : (old new : TextPlace) (r : Result Token LexFault) → IfOk r (λ t. Gives old t new) → IfErr r (λ f. Refuses old f new) → IsStuck old.text old.at
+pub stuck_again : (old new : TextPlace) (r : Result Token LexFault) → IfOk r (λ t. LexerGives old t new) → IfErr r (λ f. Refuses old f new) → IsStuck old.text old.at
     → r ≡ Err (record { at = old.at })
 stuck_again old new (Ok t) given other stuck =
     let e : old.at ≡ t.at = (nothing_left given.skipped stuck.none).0 in
     let none : Cuts old.text t.at t.len (p.Token t.kind) → ⊥ = subst (λ i. Cuts old.text i t.len (p.Token t.kind) → ⊥) e (stuck.none t.len (p.Token t.kind)) in
-    absurd (⊎_elim (λ (end : IsEnd old.text t). let at = end.at in let some = stuck.some in omega arith) (λ (c : Cuts old.text t.at t.len (p.Token t.kind)). none c) given.token)
+    absurd (⊎_elim (λ (end : IsEndToken old.text t). let at = end.at in let some = stuck.some in omega arith) (λ (c : Cuts old.text t.at t.len (p.Token t.kind)). none c) given.token)
 stuck_again old new (Err f) other refused stuck =
     let e : old.at ≡ f.at = (nothing_left refused.skipped stuck.none).0 in
     let fault : ℕ → Result Token LexFault = λ i. Err (record { at = i }) in
@@ -48,13 +48,13 @@ end_is t at kind len e =
     let of : TokenKind → ℕ → ℕ → Token = λ k a n. record { kind = k; at = a; len = n } in
     ap (λ k. of k t.at t.len) kind ∙ ap₂ (λ a n. of End a n) (sym e) len
 
-pub end_again : (old new : TextPlace) (r : Result Token LexFault) → IfOk r (λ t. Gives old t new) → IfErr r (λ f. Refuses old f new) → old.at ≡ length old.text
+pub end_again : (old new : TextPlace) (r : Result Token LexFault) → IfOk r (λ t. LexerGives old t new) → IfErr r (λ f. Refuses old f new) → old.at ≡ length old.text
     → r ≡ Ok (record { kind = End; at = old.at; len = 0 })
 end_again old new (Ok t) given other is =
     let stops : Stops old.text old.at = subst (Stops old.text) (sym is) (end_stops old.text) in
     let e : old.at ≡ t.at = (nothing_left given.skipped stops).0 in
     let of : Token → Result Token LexFault = λ t. Ok t in
-    ⊎_elim (λ (end : IsEnd old.text t). ap of (end_is t old.at end.kind end.len e))
+    ⊎_elim (λ (end : IsEndToken old.text t). ap of (end_is t old.at end.kind end.len e))
     (λ (c : Cuts old.text t.at t.len (p.Token t.kind)). absurd (let w = cuts_some old.text t.at t.len (p.Token t.kind) c in omega arith)) given.token
 end_again old new (Err f) other refused is =
     let stops : Stops old.text old.at = subst (Stops old.text) (sym is) (end_stops old.text) in

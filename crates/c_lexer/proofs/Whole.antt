@@ -17,7 +17,7 @@ use Rattle.c_lexer.specs.Numbers.{is_number}
 use Rattle.c_lexer.specs.Literals.{char_end, text_end}
 use Rattle.c_lexer.specs.Blanks.{is_linemarker}
 use Rattle.c_lexer.specs.Pieces.{is_at, is_comment, when, mark_piece, piece_of, Cuts, Lexeme, lexeme, lexemes, Pieces, Tokens, IsStuck, FaultAt}
-use Rattle.c_lexer.specs.Steps.{TextPlace, IsEnd, Gives, Refuses}
+use Rattle.c_lexer.specs.Steps.{TextPlace, IsEndToken, LexerGives, Refuses}
 use Rattle.c_lexer.proofs.Options.{by_test}
 use Rattle.c_lexer.proofs.Walk.{pieces-append}
 
@@ -70,12 +70,12 @@ no_end text at n c = piece_no_end (take n (drop at text)) c.begins_with.piece.is
 
 -- ---- a walk
 
-pub walk_token : (text : List ℕ) (ts : List Lexeme) (old new : TextPlace) (t : Token) → text ≡ old.text → Pieces text 0 ts old.at → Gives old t new → (t.kind ≡ k.End → ⊥)
+pub walk_token : (text : List ℕ) (ts : List Lexeme) (old new : TextPlace) (t : Token) → text ≡ old.text → Pieces text 0 ts old.at → LexerGives old t new → (t.kind ≡ k.End → ⊥)
     → (text ≡ new.text) × Pieces text 0 (ts ++ lexeme text t ∷ []) new.at
 walk_token text ts old new t same so_far given other =
     let skipped : Pieces text old.at [] t.at = subst (λ s. Pieces s old.at [] t.at) (sym same) given.skipped in
     let cuts : Cuts text t.at t.len (p.Token t.kind) =
-    ⊎_elim (λ (end : IsEnd old.text t). absurd (other end.kind)) (λ (c : Cuts old.text t.at t.len (p.Token t.kind)). subst (λ s. Cuts s t.at t.len (p.Token t.kind)) (sym same) c) given.token in
+    ⊎_elim (λ (end : IsEndToken old.text t). absurd (other end.kind)) (λ (c : Cuts old.text t.at t.len (p.Token t.kind)). subst (λ s. Cuts s t.at t.len (p.Token t.kind)) (sym same) c) given.token in
     let one : Pieces text t.at (lexeme text t ∷ []) (t.at + t.len) = Pieces.token t.len t.kind [] cuts Pieces.none in
     (same ∙ sym given.text, subst (λ i. Pieces text 0 (ts ++ lexeme text t ∷ []) i) (sym given.at) (pieces-append so_far (pieces-append skipped one)))
 
@@ -84,19 +84,19 @@ lexemes-append text [] t = refl
 lexemes-append text (u ∷ ts) t = ap (λ r. lexeme text u ∷ r) (lexemes-append text ts t)
 
 -- One more token in the list of the tokens that `next` gave.
-pub walk_push : (text : List ℕ) (ts : List Token) (old new : TextPlace) (t : Token) → text ≡ old.text → Pieces text 0 (lexemes text ts) old.at → Gives old t new → (t.kind ≡ k.End → ⊥)
+pub walk_push : (text : List ℕ) (ts : List Token) (old new : TextPlace) (t : Token) → text ≡ old.text → Pieces text 0 (lexemes text ts) old.at → LexerGives old t new → (t.kind ≡ k.End → ⊥)
     → (text ≡ new.text) × Pieces text 0 (lexemes text (ts ++ t ∷ [])) new.at
 walk_push text ts old new t same so_far given other =
     let w = walk_token text (lexemes text ts) old new t same so_far given other in
     (w.0, subst (λ r. Pieces text 0 r new.at) (sym (lexemes-append text ts t)) w.1)
 
 -- At the end these are the tokens of the text.
-pub walk_end : (text : List ℕ) (ts : List Lexeme) (old new : TextPlace) (t : Token) → text ≡ old.text → Pieces text 0 ts old.at → Gives old t new → t.kind ≡ k.End
+pub walk_end : (text : List ℕ) (ts : List Lexeme) (old new : TextPlace) (t : Token) → text ≡ old.text → Pieces text 0 ts old.at → LexerGives old t new → t.kind ≡ k.End
     → Tokens text (record { items = ts; size = length text })
 walk_end text ts old new t same so_far given kind =
     let skipped : Pieces text old.at [] t.at = subst (λ s. Pieces s old.at [] t.at) (sym same) given.skipped in
     let at : t.at ≡ length old.text =
-    ⊎_elim (λ (end : IsEnd old.text t). end.at)
+    ⊎_elim (λ (end : IsEndToken old.text t). end.at)
     (λ (c : Cuts old.text t.at t.len (p.Token t.kind)). absurd (no_end old.text t.at t.len (subst (λ kind. Cuts old.text t.at t.len (p.Token kind)) kind c))) given.token in
     let all : Pieces text 0 (ts ++ []) t.at = pieces-append so_far skipped in
     let whole : Pieces text 0 ts (length text) = subst (λ us. Pieces text 0 us (length text)) (append-nil ts) (subst (λ i. Pieces text 0 (ts ++ []) i) (at ∙ ap length (sym same)) all) in

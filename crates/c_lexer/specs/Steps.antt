@@ -18,15 +18,15 @@ place_code =
     (λ p. (p.text, p.at)) (λ p. record { text = p.0; at = p.1 }) (λ _. refl)
 
 -- the end of the text
-pub record IsEnd (text : List ℕ) (t : Token) : Type 0 where
+pub record IsEndToken (text : List ℕ) (t : Token) : Type 0 where
   pub kind : t.kind ≡ End
   pub at : t.at ≡ length text
   pub len : t.len ≡ 0
 
 -- past blanks, comments and linemarkers stands this token, or the end, and the lexer stands behind it
-pub record Gives (old : TextPlace) (t : Token) (new : TextPlace) : Type 0 where
+pub record LexerGives (old : TextPlace) (t : Token) (new : TextPlace) : Type 0 where
   pub skipped : Pieces old.text old.at [] t.at
-  pub token : IsEnd old.text t ⊎ Cuts old.text t.at t.len (p.Token t.kind)
+  pub token : IsEndToken old.text t ⊎ Cuts old.text t.at t.len (p.Token t.kind)
   pub text : new.text ≡ old.text
   pub at : new.at ≡ t.at + t.len
 

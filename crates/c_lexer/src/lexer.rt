@@ -33,7 +33,7 @@ impl<'a> Lexer<'a> {
     ghost use Rattle.std.specs.Prelude.{◌≡◌, ◌≤◌, IfOk, IfErr, length};
     ghost use Rattle.c_lexer.specs.Limits.{text_limit};
     ghost use Rattle.c_lexer.specs.Pieces.{IsStuck};
-    ghost use Rattle.c_lexer.specs.Steps.{Gives, Refuses};
+    ghost use Rattle.c_lexer.specs.Steps.{LexerGives, Refuses};
 
     /// A lexer at the beginning of a text of at most [`TEXT_LIMIT`](crate::TEXT_LIMIT) bytes.
     pub fn new(text: &'a [u8]) -> Lexer<'a>
@@ -44,7 +44,7 @@ impl<'a> Lexer<'a> {
     }
 
     fn advance(&mut self) -> Result<Token, LexFault>
-        ensures token { IfOk result (λ t. Gives self.old t self.new) }
+        ensures token { IfOk result (λ t. LexerGives self.old t self.new) }
         ensures fault { IfErr result (λ f. Refuses self.old f self.new) }
     {
         loop {
@@ -90,7 +90,7 @@ impl<'a> Lexer<'a> {
     /// [`LexFault`] with the offset of the first byte past them, where no token begins there. It is
     /// answered again by each later call.
     pub fn next(&mut self) -> Result<Token, LexFault>
-        ensures token { IfOk result (λ t. Gives self.old t self.new) }
+        ensures token { IfOk result (λ t. LexerGives self.old t self.new) }
         ensures fault { IfErr result (λ f. Refuses self.old f self.new) }
         ensures fault_again { IsStuck self.old.text self.old.at → result ≡ Err (record { at = self.old.at }) }
         ensures end_again { self.old.at ≡ length self.old.text

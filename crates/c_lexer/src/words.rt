@@ -1,49 +1,11 @@
 //! The words: names and keywords (C99 6.4.1, 6.4.2).
 
-ghost use Rattle.std.specs.Prelude.{◌≡◌};
+ghost use Rattle.std.specs.Prelude.{◌≡◌, find};
+ghost use Rattle.std.specs.Str.{bytes_eq};
 ghost use Rattle.c_lexer.specs.Words.{keyword_of, kind_of_word, spelling};
+ghost use Rattle.c_lexer.specs.model.Keywords as model;
 
 use crate::token::{Keyword, TokenKind};
-
-const KEYWORDS: [Keyword; 37] = [
-    Keyword::Auto,
-    Keyword::Break,
-    Keyword::Case,
-    Keyword::Char,
-    Keyword::Const,
-    Keyword::Continue,
-    Keyword::Default,
-    Keyword::Do,
-    Keyword::Double,
-    Keyword::Else,
-    Keyword::Enum,
-    Keyword::Extern,
-    Keyword::Float,
-    Keyword::For,
-    Keyword::Goto,
-    Keyword::If,
-    Keyword::Inline,
-    Keyword::Int,
-    Keyword::Long,
-    Keyword::Register,
-    Keyword::Restrict,
-    Keyword::Return,
-    Keyword::Short,
-    Keyword::Signed,
-    Keyword::Sizeof,
-    Keyword::Static,
-    Keyword::Struct,
-    Keyword::Switch,
-    Keyword::Typedef,
-    Keyword::Union,
-    Keyword::Unsigned,
-    Keyword::Void,
-    Keyword::Volatile,
-    Keyword::While,
-    Keyword::Bool,
-    Keyword::Complex,
-    Keyword::Imaginary,
-];
 
 #[tactic(auto, unfolding(crate::specs::Words::spelling))]
 fn spelling_of(keyword: Keyword) -> &'static [u8]
@@ -90,14 +52,62 @@ fn spelling_of(keyword: Keyword) -> &'static [u8]
     }
 }
 
-#[tactic(auto, unfolding(crate::specs::Words::keyword_of, crate::specs::Words::keywords))]
-fn keyword_of_word(word: &[u8]) -> Option<Keyword>
-    ensures { result ≡ keyword_of word.now }
+/// The keywords that begin with this byte: a word is compared with these alone, and no byte has more than six.
+#[tactic(auto, unfolding(crate::specs::model::Keywords::keywords_with))]
+fn keywords_with(first: u8) -> &'static [Keyword]
+    ensures { result.now ≡ model.keywords_with first }
 {
-    KEYWORDS
+    match first {
+        b'a' => &[Keyword::Auto],
+        b'b' => &[Keyword::Break],
+        b'c' => &[
+            Keyword::Case,
+            Keyword::Char,
+            Keyword::Const,
+            Keyword::Continue,
+        ],
+        b'd' => &[Keyword::Default, Keyword::Do, Keyword::Double],
+        b'e' => &[Keyword::Else, Keyword::Enum, Keyword::Extern],
+        b'f' => &[Keyword::Float, Keyword::For],
+        b'g' => &[Keyword::Goto],
+        b'i' => &[Keyword::If, Keyword::Inline, Keyword::Int],
+        b'l' => &[Keyword::Long],
+        b'r' => &[Keyword::Register, Keyword::Restrict, Keyword::Return],
+        b's' => &[
+            Keyword::Short,
+            Keyword::Signed,
+            Keyword::Sizeof,
+            Keyword::Static,
+            Keyword::Struct,
+            Keyword::Switch,
+        ],
+        b't' => &[Keyword::Typedef],
+        b'u' => &[Keyword::Union, Keyword::Unsigned],
+        b'v' => &[Keyword::Void, Keyword::Volatile],
+        b'w' => &[Keyword::While],
+        b'_' => &[Keyword::Bool, Keyword::Complex, Keyword::Imaginary],
+        _ => &[],
+    }
+}
+
+/// The one of these keywords that the word spells.
+fn keyword_among(keywords: &[Keyword], word: &[u8]) -> Option<Keyword>
+    ensures { result ≡ find (λ keyword. bytes_eq word.now (spelling keyword)) keywords.now }
+{
+    keywords
         .iter()
         .copied()
         .find(|keyword| word == spelling_of(*keyword))
+}
+
+#[tactic(auto, using(crate::proofs::Keywords::empty_is_none))]
+fn keyword_of_word(word: &[u8]) -> Option<Keyword>
+    ensures { result ≡ keyword_of word.now }
+{
+    match word {
+        [] => None,
+        [first, ..] => keyword_among(keywords_with(*first), word),
+    }
 }
 
 /// What a run of letters and digits is: a keyword, or a name.

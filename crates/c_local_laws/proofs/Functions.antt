@@ -11,7 +11,7 @@ use Rattle.c_typed_tree.specs.Declarations.{declarations}
 use Rattle.c_typed_tree.proofs.Views.{view_block}
 use Rattle.c_checks.specs.Checks.{walk}
 use Rattle.c_checks.specs.Scopes.{enter}
-use Rattle.c_judgements.specs.Types.{State}
+use Rattle.c_judgements.specs.Types.{JudgementState}
 use Rattle.c_statement_rules.specs.Jumps.{no_jumps}
 use Rattle.c_statement_rules.specs.Locals.{memory_at, with_addressed}
 use Rattle.c_statements.specs.Statements.{statement}
@@ -47,7 +47,7 @@ typed_says name (Some ty) true params ls (Some list) h = record {
   declares = λ k. ap (declarations k) (view_block list) ∙ (h k).due;
 }
 
-pub function_says : (d : Declaration) (of : Option FunctionType) (list : List Stmt) (s : State) → IfSome (function d of list s).0 DeclaresItsLocals
+pub function_says : (d : Declaration) (of : Option FunctionType) (list : List Stmt) (s : JudgementState) → IfSome (function d of list s).0 DeclaresItsLocals
 function_says d of list s =
     let p = declared_parameters of (parameters_of d.ty) ([], (enter s.0, s.1)) in
     let f = walk (statement (result_of of) no_jumps) list (Some []) p.1 in

@@ -24,7 +24,7 @@ use Rattle.c_type_rules.specs.declared.typed.TypedExpression.{TypedExpression}
 use Rattle.c_operators.specs.Null.{take_value}
 use Rattle.c_checks.specs.declared.notes.Notes.{Notes}
 use Rattle.c_checks.specs.Checks.{append_part, both, note_fault, and_then, pure}
-use Rattle.c_judgements.specs.Types.{State}
+use Rattle.c_judgements.specs.Types.{JudgementState}
 use Rattle.c_expressions.specs.Expressions.{judge}
 use Rattle.c_statement_rules.specs.declared.jumps.Jumps.{Jumps}
 use Rattle.c_statement_rules.specs.Jumps.{in_loop, in_switch, break_statement, continue_statement}
@@ -151,7 +151,7 @@ module _ (k : ℕ) where
       by true = tt
       by false = return_of_count (note_fault (take_value ty a) n).0
 
-  return_count : (of : Option CType) (at : ℕ) (e : Option Expr) (w : State) → Is (count_of stmt_here (return_statement of at e w).0) (Some 0)
+  return_count : (of : Option CType) (at : ℕ) (e : Option Expr) (w : JudgementState) → Is (count_of stmt_here (return_statement of at e w).0) (Some 0)
   unfolding opens
   return_count None at None w = tt
   return_count (Some ty) at None w = jump_count (is_void (type_view ty)) (t.Return None) _ _ refl

@@ -7,7 +7,7 @@ use Rattle.c_lexer.specs.declared.token.LexFault.{LexFault}
 use Rattle.c_lexer.specs.declared.token.TokenKind.TheVariants.{End}
 use Rattle.c_lexer.specs.declared.piece.Piece.TheVariants as p
 use Rattle.c_lexer.specs.Pieces.{Cuts, Lexeme, Pieces, FaultAt, lexemes}
-use Rattle.c_lexer.specs.Steps.{TextPlace, IsEnd, Gives}
+use Rattle.c_lexer.specs.Steps.{TextPlace, IsEndToken, LexerGives}
 use Rattle.c_lexer.proofs.Once.{cuts_some}
 use Rattle.c_nesting.specs.declared.fault.ScanFault.{ScanFault}
 use Rattle.c_nesting.specs.declared.fault.ScanFault.TheVariants.{Lex}
@@ -28,12 +28,12 @@ pieces_rise (Pieces.blank n ts c d) = let h = pieces_rise d in omega arith
 pieces_rise (Pieces.token n kind ts c d) = let h = pieces_rise d in omega arith
 
 -- a token takes the lexer on, within the text
-pub walk_on : (text : List ℕ) (old new : TextPlace) (t : Token) → text ≡ old.text → Gives old t new → (t.kind ≡ End → ⊥) → (old.at < new.at) × (new.at ≤ length text)
+pub walk_on : (text : List ℕ) (old new : TextPlace) (t : Token) → text ≡ old.text → LexerGives old t new → (t.kind ≡ End → ⊥) → (old.at < new.at) × (new.at ≤ length text)
 walk_on text old new t same given other =
     let rise : old.at ≤ t.at = pieces_rise given.skipped in
     let at : new.at ≡ t.at + t.len = given.at in
     let w : (0 < t.len) × (t.at + t.len ≤ length old.text) =
-    ⊎_elim (λ (end : IsEnd old.text t). absurd (other end.kind)) (λ (c : Cuts old.text t.at t.len (p.Token t.kind)). cuts_some old.text t.at t.len (p.Token t.kind) c) given.token in
+    ⊎_elim (λ (end : IsEndToken old.text t). absurd (other end.kind)) (λ (c : Cuts old.text t.at t.len (p.Token t.kind)). cuts_some old.text t.at t.len (p.Token t.kind) c) given.token in
     let some : 0 < t.len = w.0 in
     let within : t.at + t.len ≤ length old.text = w.1 in
     let size : length text ≡ length old.text = ap length same in

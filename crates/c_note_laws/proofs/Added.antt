@@ -3,7 +3,7 @@ use Rattle.std.proofs.Common.{◌≡◌, ℕ, Bool, true, false, ◌&&◌, IsTru
 use Rattle.std.specs.List.{list_all}
 use Rattle.c_checks.specs.declared.notes.Notes.{Notes}
 use Rattle.c_judgements.specs.Leaves.{incomplete}
-use Rattle.c_note_laws.specs.Steps.{is_sized, Steps}
+use Rattle.c_note_laws.specs.Steps.{is_sized, NoteSteps}
 use Rattle.c_note_laws.specs.Laws.{StandsFirst, OnlyAdds}
 
 append_none : {A : Type 0} (xs : List A) → xs ≡ xs ++ []
@@ -27,9 +27,9 @@ all_more (x ∷ texts) text h k = by (is_sized x) h (λ rest. all_more texts tex
     by true h f = f h
     by false h f = h
 
-pub steps_add : {n later : Notes} → Steps n later → OnlyAdds n later
-steps_add {n = n} Steps.Stays = record { structs = itself n.structs; faults = itself n.faults; texts = itself n.texts; first = refl; sized = λ h. h }
-steps_add {n = n} (Steps.Follows {m = m} {later = later} h g) =
+pub steps_add : {n later : Notes} → NoteSteps n later → OnlyAdds n later
+steps_add {n = n} NoteSteps.Stays = record { structs = itself n.structs; faults = itself n.faults; texts = itself n.texts; first = refl; sized = λ h. h }
+steps_add {n = n} (NoteSteps.Follows {m = m} {later = later} h g) =
     let a = steps_add h in
     let b = steps_add g in
     record {
@@ -39,12 +39,12 @@ steps_add {n = n} (Steps.Follows {m = m} {later = later} h g) =
       first = b.first ∙ a.first;
       sized = λ k. b.sized (a.sized k);
     }
-steps_add {n = n} (Steps.AddsFault at kind) = record { structs = itself n.structs; faults = one_more n.faults _; texts = itself n.texts; first = refl; sized = λ h. h }
-steps_add {n = n} (Steps.AddsUse number at) = record { structs = itself n.structs; faults = itself n.faults; texts = itself n.texts; first = refl; sized = λ h. h }
-steps_add {n = n} (Steps.ListsAddresses addressed) = record { structs = itself n.structs; faults = itself n.faults; texts = itself n.texts; first = refl; sized = λ h. h }
-steps_add {n = n} (Steps.AddsText bytes k) = record { structs = itself n.structs; faults = itself n.faults; texts = one_more n.texts bytes; first = refl; sized = λ h. all_more n.texts bytes h k }
-steps_add {n = n} (Steps.Aside inner) =
+steps_add {n = n} (NoteSteps.AddsFault at kind) = record { structs = itself n.structs; faults = one_more n.faults _; texts = itself n.texts; first = refl; sized = λ h. h }
+steps_add {n = n} (NoteSteps.AddsUse number at) = record { structs = itself n.structs; faults = itself n.faults; texts = itself n.texts; first = refl; sized = λ h. h }
+steps_add {n = n} (NoteSteps.ListsAddresses addressed) = record { structs = itself n.structs; faults = itself n.faults; texts = itself n.texts; first = refl; sized = λ h. h }
+steps_add {n = n} (NoteSteps.AddsText bytes k) = record { structs = itself n.structs; faults = itself n.faults; texts = one_more n.texts bytes; first = refl; sized = λ h. all_more n.texts bytes h k }
+steps_add {n = n} (NoteSteps.Aside inner) =
     let a = steps_add inner in
     record { structs = a.structs; faults = a.faults; texts = itself n.texts; first = a.first; sized = λ h. h }
-steps_add {n = n} (Steps.AddsEnum name) = record { structs = itself n.structs; faults = itself n.faults; texts = itself n.texts; first = refl; sized = λ h. h }
-steps_add {n = n} (Steps.AddsStruct name) = record { structs = one_more n.structs (incomplete name); faults = itself n.faults; texts = itself n.texts; first = refl; sized = λ h. h }
+steps_add {n = n} (NoteSteps.AddsEnum name) = record { structs = itself n.structs; faults = itself n.faults; texts = itself n.texts; first = refl; sized = λ h. h }
+steps_add {n = n} (NoteSteps.AddsStruct name) = record { structs = one_more n.structs (incomplete name); faults = itself n.faults; texts = itself n.texts; first = refl; sized = λ h. h }

@@ -15,20 +15,20 @@ use Rattle.c_checks.specs.Scopes.{enter, leave, meaning_of}
 use Rattle.c_judgements.specs.Leaves.{leaf}
 use Rattle.c_judgements.specs.Operators.{apply_prefix, between, assignment, element, cast, size_of_value, size_of_name, behind}
 use Rattle.c_judgements.specs.Members.{field_named, arrow_named}
-use Rattle.c_judgements.specs.Types.{State, within, pointer, given_length, array, function, type_named, parameter_declared}
+use Rattle.c_judgements.specs.Types.{JudgementState, within, pointer, given_length, array, function, type_named, parameter_declared}
 use Rattle.c_expressions.specs.Expressions.{judge, judge_row, derive, length_held, parameter_row}
-use Rattle.c_note_laws.specs.Steps.{Steps}
-use Rattle.c_note_laws.specs.Steps.Steps.{Stays, Aside}
+use Rattle.c_note_laws.specs.Steps.{NoteSteps}
+use Rattle.c_note_laws.specs.Steps.NoteSteps.{Stays, Aside}
 use Rattle.c_note_laws.proofs.Forms.{adds_then, ruled, each_adds, both_adds, prefix_adds, choice_adds, commas_adds, name_adds, string_adds, call_adds, field_adds, arrow_adds, leaf_adds, there_adds, named_type_adds, parameter_adds}
 
 -- a form of one part, and of two
-one_part : {A B : Type 0} (n m : Notes) (o : Option A) (f : A → Notes → Option B × Notes) → Steps n m → ((a : A) → Steps m (f a m).1) → Steps n (each o f m).1
+one_part : {A B : Type 0} (n m : Notes) (o : Option A) (f : A → Notes → Option B × Notes) → NoteSteps n m → ((a : A) → NoteSteps m (f a m).1) → NoteSteps n (each o f m).1
 one_part n m o f h g = adds_then n m (each o f m).1 h (each_adds o f m g)
 
 mutual
   unfolding judge
 
-  pub judge_adds : (x : e.Expr) (s : State) → Steps s.1 (judge x s).1.1
+  pub judge_adds : (x : e.Expr) (s : JudgementState) → NoteSteps s.1 (judge x s).1.1
   judge_adds (e.Name at name) s = name_adds at (meaning_of s.0 name) s.1
   judge_adds (e.Number at spelling) s = ruled (integer_constant at spelling) s.1
   judge_adds (e.Character at spelling) s = ruled (character_constant at spelling) s.1
@@ -75,13 +75,13 @@ mutual
       let u = judge_row operands (Some []) s in
       adds_then s.1 u.1.1 _ (row_adds operands (Some []) s) (commas_adds at u.0 u.1.1)
 
-  pub row_adds : {m : _} (xs : k.Row_of-Expr m) (found : Option (List TypedExpression)) (s : State) → Steps s.1 (judge_row xs found s).1.1
+  pub row_adds : {m : _} (xs : k.Row_of-Expr m) (found : Option (List TypedExpression)) (s : JudgementState) → NoteSteps s.1 (judge_row xs found s).1.1
   row_adds k.end_of-Expr found s = Stays
   row_adds (k.more_of-Expr x xs) found s =
       let r = judge x s in
       adds_then s.1 r.1.1 _ (judge_adds x s) (row_adds xs (append_part found r.0) r.1)
 
-  pub derive_adds : (at : ℕ) (node : t.TypeNode) (of : Option DeclaredType) (s : State) → Steps s.1 (derive at node of s).1.1
+  pub derive_adds : (at : ℕ) (node : t.TypeNode) (of : Option DeclaredType) (s : JudgementState) → NoteSteps s.1 (derive at node of s).1.1
   derive_adds at (t.Basic words) of s = Stays
   derive_adds at (t.Named name) of s = Stays
   derive_adds at (t.Enum' place tag constants) of s = Stays
@@ -93,16 +93,16 @@ mutual
       let count = length_held size s in let r = derive at x of count.1 in
       adds_then s.1 r.1.1 _ (adds_then s.1 count.1.1 r.1.1 (length_adds size s) (derive_adds at x of count.1)) (both_adds count.0 r.0 (array at) r.1.1 (λ a b. there_adds at _ r.1.1))
   derive_adds at (t.Takes' _ (k.more_of-TypeNode x k.end_of-TypeNode) _ list) of s =
-      let row = parameter_row list (Some []) (enter s.0, s.1) in let outer : State = (leave s.0.outside row.1.0, row.1.1) in let r = derive at x of outer in
+      let row = parameter_row list (Some []) (enter s.0, s.1) in let outer : JudgementState = (leave s.0.outside row.1.0, row.1.1) in let r = derive at x of outer in
       adds_then s.1 r.1.1 _ (adds_then s.1 row.1.1 r.1.1 (parameters_add list (Some []) (enter s.0, s.1)) (derive_adds at x of outer)) (both_adds row.0 r.0 (function at) r.1.1 (λ a b. there_adds at _ r.1.1))
 
-  pub length_adds : (size : k.Held-TypeNode-Array-1) (s : State) → Steps s.1 (length_held size s).1.1
+  pub length_adds : (size : k.Held-TypeNode-Array-1) (s : JudgementState) → NoteSteps s.1 (length_held size s).1.1
   length_adds k.TypeNode-Array-1-None' s = Stays
   length_adds (k.TypeNode-Array-1-Some' _ (k.more_of-Expr x k.end_of-Expr)) s =
       let r = judge x s in
       one_part s.1 r.1.1 r.0 given_length (judge_adds x s) (λ a. ruled (length a) r.1.1)
 
-  pub parameters_add : {m : _} (xs : k.Row_of-Parameter m) (found : Option (List CType)) (s : State) → Steps s.1 (parameter_row xs found s).1.1
+  pub parameters_add : {m : _} (xs : k.Row_of-Parameter m) (found : Option (List CType)) (s : JudgementState) → NoteSteps s.1 (parameter_row xs found s).1.1
   parameters_add k.end_of-Parameter found s = Stays
   parameters_add (k.more_of-Parameter at name ty rest) found s =
       let l = leaf s.0 at ty s.1 in let r = derive at ty l.0 (s.0, l.1) in let named = parameter_declared at name r.0 r.1 in

@@ -7,21 +7,21 @@ use Rattle.c_declared_types.specs.declared.declared.DeclaredType.{DeclaredType}
 use Rattle.c_checks.specs.declared.env.Env.{Env}
 use Rattle.c_checks.specs.declared.notes.Notes.{Notes}
 use Rattle.c_judgements.specs.Leaves.{leaf}
-use Rattle.c_judgements.specs.Types.{State}
+use Rattle.c_judgements.specs.Types.{JudgementState}
 use Rattle.c_expressions.specs.Expressions.{judge, derive}
-use Rattle.c_note_laws.specs.Steps.{is_sized, Steps}
+use Rattle.c_note_laws.specs.Steps.{is_sized, NoteSteps}
 
 -- ---- what is noted on the way
 
 abbrev pub ExpressionsTakeSteps : Type 0
-ExpressionsTakeSteps = (x : Expr) (s : State) → Steps s.1 (judge x s).1.1
+ExpressionsTakeSteps = (x : Expr) (s : JudgementState) → NoteSteps s.1 (judge x s).1.1
 
 abbrev pub SpecifiersTakeSteps : Type 0
-SpecifiersTakeSteps = (env : Env) (at : ℕ) (node : TypeNode) (n : Notes) → Steps n (leaf env at node n).1
+SpecifiersTakeSteps = (env : Env) (at : ℕ) (node : TypeNode) (n : Notes) → NoteSteps n (leaf env at node n).1
 
 abbrev pub DeclaratorsTakeSteps : Type 0
 DeclaratorsTakeSteps =
-    (at : ℕ) (node : TypeNode) (of : Option DeclaredType) (s : State) → Steps s.1 (derive at node of s).1.1
+    (at : ℕ) (node : TypeNode) (of : Option DeclaredType) (s : JudgementState) → NoteSteps s.1 (derive at node of s).1.1
 
 -- ---- what follows of it
 
@@ -39,4 +39,4 @@ pub record OnlyAdds (n later : Notes) : Type 0 where
   pub sized : IsTrue (list_all is_sized n.texts) → IsTrue (list_all is_sized later.texts)
 
 abbrev pub StepsAdd : Type 0
-StepsAdd = (n later : Notes) → Steps n later → OnlyAdds n later
+StepsAdd = (n later : Notes) → NoteSteps n later → OnlyAdds n later

@@ -13,15 +13,15 @@ abbrev pub is_sized : (text : List ℕ) → Bool
 is_sized text = nat_le 1 (length text) && nat_le (length text) MOST_DATA
 
 -- one after the other
-pub data Steps : (n later : Notes) → Type 0 where
-  Stays : {n : Notes} → Steps n n
-  Follows : {n m later : Notes} → Steps n m → Steps m later → Steps n later
-  AddsFault : {n : Notes} (at : ℕ) (kind : Kind) → Steps n (with_fault at kind n)
-  AddsUse : {n : Notes} (number at : ℕ) → Steps n (with_use number at n)
-  ListsAddresses : {n : Notes} (addressed : List ℕ) → Steps n (with_taken addressed n.texts n)
-  AddsText : {n : Notes} (bytes : List ℕ) → IsTrue (is_sized bytes) → Steps n (new_text bytes n).1
+pub data NoteSteps : (n later : Notes) → Type 0 where
+  Stays : {n : Notes} → NoteSteps n n
+  Follows : {n m later : Notes} → NoteSteps n m → NoteSteps m later → NoteSteps n later
+  AddsFault : {n : Notes} (at : ℕ) (kind : Kind) → NoteSteps n (with_fault at kind n)
+  AddsUse : {n : Notes} (number at : ℕ) → NoteSteps n (with_use number at n)
+  ListsAddresses : {n : Notes} (addressed : List ℕ) → NoteSteps n (with_taken addressed n.texts n)
+  AddsText : {n : Notes} (bytes : List ℕ) → IsTrue (is_sized bytes) → NoteSteps n (new_text bytes n).1
   -- what an operand that is not evaluated takes is forgotten
-  Aside : {n m : Notes} → Steps (apart n) m → Steps n (rejoin n.addressed n.texts m)
-  AddsEnum : {n : Notes} (name : List ℕ) → Steps n (with_tag name g.Enum n)
+  Aside : {n m : Notes} → NoteSteps (apart n) m → NoteSteps n (rejoin n.addressed n.texts m)
+  AddsEnum : {n : Notes} (name : List ℕ) → NoteSteps n (with_tag name g.Enum n)
   AddsStruct : {n : Notes} (name : List ℕ) →
-      Steps n (with_tag name (g.Struct (length n.structs)) (new_struct (incomplete name) n).1)
+      NoteSteps n (with_tag name (g.Struct (length n.structs)) (new_struct (incomplete name) n).1)

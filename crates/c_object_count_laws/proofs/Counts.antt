@@ -4,7 +4,7 @@ use Rattle.std.specs.Option.{option_map}
 use Rattle.std.proofs.lemmas.Slice.Eq.{bytes_eq-Decides}
 use Rattle.c_scopes.specs.Names.{Entry, find}
 use Rattle.c_definitions.specs.declared.names.Definitions.{Definitions}
-use Rattle.c_definitions.specs.Definitions.{Names}
+use Rattle.c_definitions.specs.Definitions.{NameSet}
 use Rattle.c_declared_types.specs.declared.declared.DeclaredType.{DeclaredType}
 use Rattle.c_declared_types.specs.declared.declared.DeclaredType.TheVariants as d
 use Rattle.c_typed_tree.specs.declared.types.CType.{CType}
@@ -22,7 +22,7 @@ use Rattle.c_declarations.specs.Functions.{function_declared}
 use Rattle.c_declarations.specs.Objects.{object_declared}
 use Rattle.c_found_unit_laws.specs.Externals.{typedef_of}
 use Rattle.c_type_laws.proofs.Truth.{no_true}
-use Rattle.c_found_unit_laws.specs.Steps.{IsDeclared, First, Again, declared_as, UnitSteps, Stays, Follows, AddsConstant, SeesMain, DeclaresType, DeclaresFunction, DefinesFunction, DeclaresObject, KeepsCells}
+use Rattle.c_found_unit_laws.specs.Steps.{DeclaresName, First, Again, declared_as, UnitSteps, Stays, Follows, AddsConstant, SeesMain, DeclaresType, DeclaresFunction, DefinesFunction, DeclaresObject, KeepsCells}
 use Rattle.c_found_unit_laws.proofs.Externals.{added_body, filled_names}
 
 -- ---- names and what they mean
@@ -69,12 +69,12 @@ abbrev pub one_if : Bool → ℕ
 one_if false = 0
 one_if true = 1
 
-abbrev pub count : Env → Names → ℕ
+abbrev pub count : Env → NameSet → ℕ
 count env [] = 0
 count env (e ∷ ns) = one_if (is_object (meaning_of env e.name)) + count env ns
 
 -- each name stands once
-abbrev pub AreDistinct : Names → Type 0
+abbrev pub AreDistinct : NameSet → Type 0
 AreDistinct [] = Unit {0}
 AreDistinct (e ∷ ns) = (find e.name ns ≡ None) × AreDistinct ns
 
@@ -82,11 +82,11 @@ module _ (name : List ℕ) (x : NameMeaning) (env : Env) where
   abbrev Later : Env
   Later = with_name name x env
 
-  first_skipped : (e : Entry (Unit {0})) (ns : Names) (b : Bool) → bytes_eq name e.name ≡ b → (if b then Some (length ns, e.value) else find name ns) ≡ None → (name ≡ e.name → ⊥) × (find name ns ≡ None)
+  first_skipped : (e : Entry (Unit {0})) (ns : NameSet) (b : Bool) → bytes_eq name e.name ≡ b → (if b then Some (length ns, e.value) else find name ns) ≡ None → (name ≡ e.name → ⊥) × (find name ns ≡ None)
   first_skipped e ns true g h = none_some h
   first_skipped e ns false g h = (λ same. no_true (sym g ∙ (bytes_eq-Decides name e.name).1 same), h)
 
-  count_free : (ns : Names) → find name ns ≡ None → count Later ns ≡ count env ns
+  count_free : (ns : NameSet) → find name ns ≡ None → count Later ns ≡ count env ns
   count_free [] h = refl
   count_free (e ∷ ns) h =
       let r = first_skipped e ns (bytes_eq name e.name) refl h in
@@ -98,7 +98,7 @@ module _ (name : List ℕ) (x : NameMeaning) (env : Env) where
 
   -- the name was not there
   module _ (free : meaning_of env name ≡ None) where
-    own_here : (e : Entry (Unit {0})) (ns : Names) → name ≡ e.name → find e.name ns ≡ None → count Later (e ∷ ns) ≡ one_if (is_object (Some x)) + count env (e ∷ ns)
+    own_here : (e : Entry (Unit {0})) (ns : NameSet) → name ≡ e.name → find e.name ns ≡ None → count Later (e ∷ ns) ≡ one_if (is_object (Some x)) + count env (e ∷ ns)
     own_here e ns same apart =
         subst (λ q. find q ns ≡ None → one_if (is_object (meaning_of Later q)) + count Later ns ≡ one_if (is_object (Some x)) + (one_if (is_object (meaning_of env q)) + count env ns)) same here apart
       where
@@ -111,19 +111,19 @@ module _ (name : List ℕ) (x : NameMeaning) (env : Env) where
             ∙ (ap (λ n. one_if (is_object (Some x)) + n) (count_free ns apart)
             ∙ (zero_more (one_if (is_object (Some x))) (count env ns) ∙ ap (λ o. one_if (is_object (Some x)) + (one_if (is_object o) + count env ns)) (sym free)))
 
-    found_by : (e : Entry (Unit {0})) (ns : Names) (b : Bool) → bytes_eq name e.name ≡ b → find e.name ns ≡ None → IsTrue (is_some (if b then Some (length ns, e.value) else find name ns))
+    found_by : (e : Entry (Unit {0})) (ns : NameSet) (b : Bool) → bytes_eq name e.name ≡ b → find e.name ns ≡ None → IsTrue (is_some (if b then Some (length ns, e.value) else find name ns))
         → (IsTrue (is_some (find name ns)) → count Later ns ≡ one_if (is_object (Some x)) + count env ns) → count Later (e ∷ ns) ≡ one_if (is_object (Some x)) + count env (e ∷ ns)
     found_by e ns true g apart h rest = own_here e ns ((bytes_eq-Decides name e.name).0 g) apart
     found_by e ns false g apart h rest =
         ap (λ o. one_if (is_object o) + count Later ns) (other_meaning e.name name x env (not_same e.name name (λ same. no_true (sym g ∙ (bytes_eq-Decides name e.name).1 (sym same)))))
         ∙ one_more (one_if (is_object (meaning_of env e.name))) (one_if (is_object (Some x))) (count env ns) (count Later ns) (rest h)
 
-    count_found : (ns : Names) → AreDistinct ns → IsTrue (is_some (find name ns)) → count Later ns ≡ one_if (is_object (Some x)) + count env ns
+    count_found : (ns : NameSet) → AreDistinct ns → IsTrue (is_some (find name ns)) → count Later ns ≡ one_if (is_object (Some x)) + count env ns
     count_found [] apart h = no_true h
     count_found (e ∷ ns) apart h = found_by e ns (bytes_eq name e.name) refl apart.0 h (λ k. count_found ns apart.1 k)
 
     -- only a name that is in the list may mean an object
-    count_with : (ns : Names) → AreDistinct ns → (IsTrue (is_object (Some x)) → IsTrue (is_some (find name ns))) → count Later ns ≡ one_if (is_object (Some x)) + count env ns
+    count_with : (ns : NameSet) → AreDistinct ns → (IsTrue (is_object (Some x)) → IsTrue (is_some (find name ns))) → count Later ns ≡ one_if (is_object (Some x)) + count env ns
     count_with ns apart own = either (is_some (find name ns)) refl
       where
         either : (b : Bool) → is_some (find name ns) ≡ b → count Later ns ≡ one_if (is_object (Some x)) + count env ns
@@ -167,7 +167,7 @@ module _ (ds : Definitions) (apart : AreDistinct ds.objects) where
   abbrev pub IsCounted : UnitNames → Env → Type 0
   IsCounted u env = u.objects ≡ count env ds.objects
 
-  declared_counts : (name : List ℕ) (new : NameDeclaration) {u names : UnitNames} {env later : Env} → IsDeclared ds name new u env names later → IsCounted u env → IsCounted names later
+  declared_counts : (name : List ℕ) (new : NameDeclaration) {u names : UnitNames} {env later : Env} → DeclaresName ds name new u env names later → IsCounted u env → IsCounted names later
   declared_counts name new (First {u = u} {env = env} e free) h =
       let r = first_meaning ds name new u in
       let c = first_counts ds name new u in
@@ -201,7 +201,7 @@ module _ (ds : Definitions) (apart : AreDistinct ds.objects) where
 
 -- ---- all names, and none
 
-pub count_all : (env : Env) (ns : Names) → AreDistinct ns → ((q : List ℕ) → IsTrue (is_some (find q ns)) → IsTrue (is_object (meaning_of env q))) → count env ns ≡ length ns
+pub count_all : (env : Env) (ns : NameSet) → AreDistinct ns → ((q : List ℕ) → IsTrue (is_some (find q ns)) → IsTrue (is_object (meaning_of env q))) → count env ns ≡ length ns
 count_all env [] apart h = refl
 count_all env (e ∷ ns) apart h =
     ap (λ (b : Bool). one_if b + count env ns) (h e.name here) ∙ (ap (λ n. 1 + n) (count_all env ns apart.1 (λ q k. h q (behind q k))) ∙ next (length ns))
@@ -219,6 +219,6 @@ count_all env (e ∷ ns) apart h =
         either true = refl
         either false = k
 
-pub count_none : (env : Env) (ns : Names) → ((q : List ℕ) → is_object (meaning_of env q) ≡ false) → count env ns ≡ 0
+pub count_none : (env : Env) (ns : NameSet) → ((q : List ℕ) → is_object (meaning_of env q) ≡ false) → count env ns ≡ 0
 count_none env [] h = refl
 count_none env (e ∷ ns) h = ap (λ (b : Bool). one_if b + count env ns) (h e.name) ∙ (zero-add (count env ns) ∙ count_none env ns h)

@@ -21,7 +21,7 @@ use Rattle.c_declarations.specs.Functions.{function_declared}
 use Rattle.c_declarations.specs.Objects.{object_declared}
 use Rattle.c_found_unit_laws.specs.Externals.{typedef_of}
 use Rattle.c_type_laws.proofs.Truth.{no_true, front, back, also}
-use Rattle.c_found_unit_laws.specs.Steps.{IsDeclared, First, Again, declared_as, UnitSteps, Stays, Follows, AddsConstant, SeesMain, DeclaresType, DeclaresFunction, DefinesFunction, DeclaresObject, KeepsCells}
+use Rattle.c_found_unit_laws.specs.Steps.{DeclaresName, First, Again, declared_as, UnitSteps, Stays, Follows, AddsConstant, SeesMain, DeclaresType, DeclaresFunction, DefinesFunction, DeclaresObject, KeepsCells}
 use Rattle.c_found_unit_laws.proofs.Externals.{added_body, filled_names}
 use Rattle.c_object_count_laws.proofs.Counts.{is_object, own_meaning, other_meaning, free_name}
 
@@ -154,7 +154,7 @@ module _ (ds : Definitions) where
       choose true same k = h q (ap is_of_object_in (ap (λ n. find n u.declared) ((bytes_eq-Decides q name).0 same) ∙ e) ∙ before_object old.1 new may k) g
       choose false same k = h q k g
 
-  declared_means : (name : List ℕ) (new : NameDeclaration) {u names : UnitNames} {env later : Env} → IsDeclared ds name new u env names later → MeansObjects u env → MeansObjects names later
+  declared_means : (name : List ℕ) (new : NameDeclaration) {u names : UnitNames} {env later : Env} → DeclaresName ds name new u env names later → MeansObjects u env → MeansObjects names later
   declared_means name new (First {u = u} {env = env} e free) h = first_means name new u env free h
   declared_means name new (Again {u = u} {env = env} old e may) h = again_means name new u env old (old.1.has_value || new.has_value) e may h
 
@@ -187,7 +187,7 @@ module _ (ds : Definitions) where
 
   -- ---- a declaration that is there stays
 
-  declared_keeps : (q name : List ℕ) (new : NameDeclaration) {u names : UnitNames} {env later : Env} → IsDeclared ds name new u env names later → IsTrue (declares_object q u) → IsTrue (declares_object q names)
+  declared_keeps : (q name : List ℕ) (new : NameDeclaration) {u names : UnitNames} {env later : Env} → DeclaresName ds name new u env names later → IsTrue (declares_object q u) → IsTrue (declares_object q names)
   declared_keeps q name new (First {u = u} e free) h = choose (bytes_eq q name) refl
     where
       r : NameMeaning × UnitNames

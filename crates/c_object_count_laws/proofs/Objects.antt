@@ -16,21 +16,21 @@ use Rattle.c_type_faults.specs.declared.faults.Kind.TheVariants.{BadType, Redecl
 use Rattle.c_checks.specs.declared.env.Env.{Env}
 use Rattle.c_checks.specs.declared.notes.Notes.{Notes}
 use Rattle.c_checks.specs.Notes.{with_fault}
-use Rattle.c_judgements.specs.Types.{State}
-use Rattle.c_tag_bodies.specs.Bodies.{Scope}
+use Rattle.c_judgements.specs.Types.{JudgementState}
+use Rattle.c_tag_bodies.specs.Bodies.{TagScope}
 use Rattle.c_tag_bodies.specs.Members.{is_member}
 use Rattle.c_initialisers.specs.Unfit.{judge_init}
 use Rattle.c_initialisers.specs.Initialisers.{object_cells, length_given}
 use Rattle.c_unit_names.specs.declared.names.UnitNames.{UnitNames}
 use Rattle.c_unit_names.specs.UnitNames.{object_name, first_meaning, with_value, declaration}
 use Rattle.c_declarations.specs.declared.walk.UnitSoFar.{UnitSoFar}
-use Rattle.c_declarations.specs.Walk.{Walk, with_names, declare, is_main, main_checked, object_at, add_object, keep_cells}
+use Rattle.c_declarations.specs.Walk.{UnitWalk, with_names, declare, is_main, main_checked, object_at, add_object, keep_cells}
 use Rattle.c_declarations.specs.Objects.{no_object, object_type, type_there, array_type, init_judged, init_filled, object_declared, object_of, array_object, value_object}
 use Rattle.c_declarations.specs.Functions.{optional_refused}
 use Rattle.c_found_unit_laws.specs.Externals.{prototype, object_with, type_of, external}
 use Rattle.c_found_laws.specs.Laws.{is_sound, Tells, IsFound}
 use Rattle.c_found_laws.proofs.Forms.{tells_none, tells_fault, tells_as, tells_both}
-use Rattle.c_found_unit_laws.specs.Steps.{IsDeclared, First, Again}
+use Rattle.c_found_unit_laws.specs.Steps.{DeclaresName, First, Again}
 use Rattle.c_found_unit_laws.proofs.Bodies.{declared_tells}
 use Rattle.c_found_unit_laws.proofs.Initialisers.{judge_init_tells, object_cells_tell}
 use Rattle.c_found_unit_laws.proofs.Declarations.{tells_refused, declaration_tells, faulty_object_tells, prototype_tells, optional_refused_tells}
@@ -68,11 +68,11 @@ there_tells env at (Some (d.Value ty)) n = type_tells env at ty n
 there_tells env at (Some (d.Unsized y)) n = tells_fault env at BadType n
 there_tells env at (Some (d.Function y ys)) n = tells_fault env at BadType n
 
-judged_tells : (init : Option Init) (s : State) → Tells (Unit {0}) s (init_judged init s)
+judged_tells : (init : Option Init) (s : JudgementState) → Tells (Unit {0}) s (init_judged init s)
 judged_tells None s = tells_none s tt
 judged_tells (Some v) s = tells_as s (judge_init v s).1 (λ y. tt) (judge_init_tells v s)
 
-filled_tells : (name : List ℕ) (ty : CType) (init : Option Init) (w : Walk) → Tells (Unit {0}) w.1 (init_filled name ty init w).1
+filled_tells : (name : List ℕ) (ty : CType) (init : Option Init) (w : UnitWalk) → Tells (Unit {0}) w.1 (init_filled name ty init w).1
 filled_tells name ty None w = tells_none w.1 tt
 filled_tells name ty (Some v) w = tells_as w.1 (object_cells ty v w.1).1 (λ h. tt) (object_cells_tell ty v w.1)
 
@@ -80,7 +80,7 @@ kept_names : (env : Env) (name : List ℕ) (o : Option (List DataCell)) (u : Uni
 kept_names env name None u = refl
 kept_names env name (Some cells) u = filled_names (object_at env name) cells u
 
-init_names : (name : List ℕ) (ty : CType) (init : Option Init) (w : Walk) → (init_filled name ty init w).0.names ≡ w.0.names
+init_names : (name : List ℕ) (ty : CType) (init : Option Init) (w : UnitWalk) → (init_filled name ty init w).0.names ≡ w.0.names
 init_names name ty None w = refl
 init_names name ty (Some v) w = let r = object_cells ty v w.1 in kept_names r.1.0 name r.0 w.0
 
@@ -88,7 +88,7 @@ object_sound : (ty : CType) (defined : Bool) (u : UnitNames) → IsTrue (is_soun
 object_sound ty true u = refl
 object_sound ty false u = refl
 
-declared_object : (ds : Definitions) (name : List ℕ) (ty : CType) (has_value : Bool) {u names : UnitNames} {env later : Env} → IsDeclared ds name (object_declared ty has_value) u env names later → IsTrue (declares_object name names)
+declared_object : (ds : Definitions) (name : List ℕ) (ty : CType) (has_value : Bool) {u names : UnitNames} {env later : Env} → DeclaresName ds name (object_declared ty has_value) u env names later → IsTrue (declares_object name names)
 declared_object ds name ty has_value (First {u = u} e free) = let new = object_declared ty has_value in declared_here name new (first_meaning ds name new u).1 refl
 declared_object ds name ty has_value (Again {u = u} old e may) =
     let new = object_declared ty has_value in declared_here name (with_value (old.1.has_value || has_value) new) u refl
@@ -96,7 +96,7 @@ declared_object ds name ty has_value (Again {u = u} old e may) =
 -- ---- declarations of objects
 
 module _ (ds : Definitions) (at : ℕ) (name : List ℕ) (storage : Option Storage) (init : Option Init) where
-  of_declares : (o : Option CType) (s : State) (w : Walk) → Tells (IsFound o) s w.1 → (let v = object_of ds at name storage init o w in Tells (IsTrue (declares_object name v.0.names)) s v.1)
+  of_declares : (o : Option CType) (s : JudgementState) (w : UnitWalk) → Tells (IsFound o) s w.1 → (let v = object_of ds at name storage init o w in Tells (IsTrue (declares_object name v.0.names)) s v.1)
   of_declares None s w h =
       let mid = declare ds at name None w in
       tells_both s mid.1 (init_judged init mid.1) (λ y z. y) (tells_refused s w.1 mid.1.0 h) (judged_tells init mid.1)
@@ -111,10 +111,10 @@ module _ (ds : Definitions) (at : ℕ) (name : List ℕ) (storage : Option Stora
       (declaration_tells ds at name (object_declared ty (is_some init)) w.0.names (w.1.0, n) (object_sound ty (is_some (find name ds.objects)) w.0.names)))
       (filled_tells name ty init (u, r.1))
 
-  value_declares : (ty : CType) (w : Walk) → (let v = value_object ds at name storage init ty w in Tells (IsTrue (declares_object name v.0.names)) w.1 v.1)
+  value_declares : (ty : CType) (w : UnitWalk) → (let v = value_object ds at name storage init ty w in Tells (IsTrue (declares_object name v.0.names)) w.1 v.1)
   value_declares ty w = let r = object_type at ty w.1.1 in of_declares r.0 w.1 (w.0, (w.1.0, r.1)) (type_tells w.1.0 at ty w.1.1)
 
-array_declares : (ds : Definitions) (at : ℕ) (name : List ℕ) (storage : Option Storage) (init : Option Init) (element : CType) (w : Walk) → (let v = array_object ds at name storage init element w in Tells (IsTrue (declares_object name v.0.names)) w.1 v.1)
+array_declares : (ds : Definitions) (at : ℕ) (name : List ℕ) (storage : Option Storage) (init : Option Init) (element : CType) (w : UnitWalk) → (let v = array_object ds at name storage init element w in Tells (IsTrue (declares_object name v.0.names)) w.1 v.1)
 array_declares ds at name storage None element w = of_declares ds at name storage None None w.1 (w.0, (w.1.0, with_fault at BadType w.1.1)) (tells_fault w.1.0 at BadType w.1.1)
 array_declares ds at name storage (Some v) element w =
     let r = array_type at element (length_given element v) w.1.1 in
@@ -122,10 +122,10 @@ array_declares ds at name storage (Some v) element w =
 
 module _ (ds : Definitions) (e : Declaration) (storage : Option Storage) (init : Option Init) where
   -- where its type is none of a function
-  abbrev Declares : Option DeclaredType → Walk → Type 0
+  abbrev Declares : Option DeclaredType → UnitWalk → Type 0
   Declares o v = is_function_found o ≡ false → IsTrue (declares_object e.name v.0.names)
 
-  object_declares : (o : Option DeclaredType) (s : State) (w : Walk) → Tells (IsFound o) s w.1 → (let v = object_with ds e.at e.name storage init o w in Tells (Declares o v) s v.1)
+  object_declares : (o : Option DeclaredType) (s : JudgementState) (w : UnitWalk) → Tells (IsFound o) s w.1 → (let v = object_with ds e.at e.name storage init o w in Tells (Declares o v) s v.1)
   object_declares None s w h = faulty_object_tells ds e.at e.name init s w h
   object_declares (Some (d.Value ty)) s w h =
       let v = value_object ds e.at e.name storage init ty w in
@@ -140,5 +140,5 @@ module _ (ds : Definitions) (e : Declaration) (storage : Option Storage) (init :
       true_false : {X : Type 0} → true ≡ false → X
       true_false e = let clash : ⊥ = cc in absurd clash
 
-  pub external_declares : (t : UnitSoFar × Scope) → (let v = external ds (x.Object e storage init) t in Tells (is_function_found (type_of e t.1).0 ≡ false → IsTrue (declares_object e.name v.0.names)) t.1.1 v.1.1)
+  pub external_declares : (t : UnitSoFar × TagScope) → (let v = external ds (x.Object e storage init) t in Tells (is_function_found (type_of e t.1).0 ≡ false → IsTrue (declares_object e.name v.0.names)) t.1.1 v.1.1)
   external_declares t = let r = type_of e t.1 in object_declares r.0 t.1.1 (t.0, r.1.1) (declared_tells e.at e.ty t.1)

@@ -15,7 +15,7 @@ use Rattle.c_tree.specs.declared.declarations.FunctionEnd.TheVariants as f
 use Rattle.c_tree.specs.declared.declarations.External.{External}
 use Rattle.c_tree.specs.declared.declarations.External.TheVariants as x
 use Rattle.c_definitions.specs.declared.names.Definitions.{Definitions}
-use Rattle.c_definitions.specs.Definitions.{Names, is_function, typedef_seen, object_seen, function_seen, see}
+use Rattle.c_definitions.specs.Definitions.{NameSet, is_function, typedef_seen, object_seen, function_seen, see}
 use Rattle.c_definitions.specs.Definitions as defined
 use Rattle.c_declared_types.specs.declared.declared.DeclaredType.{DeclaredType}
 use Rattle.c_declared_types.specs.declared.declared.DeclaredType.TheVariants as d
@@ -36,16 +36,16 @@ use Rattle.c_checks.specs.declared.notes.Notes.{Notes}
 use Rattle.c_checks.specs.Checks.{each, both}
 use Rattle.c_checks.specs.Scopes.{with_name, meaning_of}
 use Rattle.c_judgements.specs.Leaves.{named_type, tag_named, enum_tagged, enum_type, struct_numbered, struct_tagged, struct_at, struct_type, leaf, no_type}
-use Rattle.c_judgements.specs.Types.{State, there, pointer, array, type_named}
+use Rattle.c_judgements.specs.Types.{JudgementState, there, pointer, array, type_named}
 use Rattle.c_expressions.specs.Expressions.{derive, length_held}
-use Rattle.c_tag_bodies.specs.Bodies.{Scope, bodies, declared_type}
+use Rattle.c_tag_bodies.specs.Bodies.{TagScope, bodies, declared_type}
 use Rattle.c_tag_bodies.specs.Enums.{constant_meaning}
 use Rattle.c_initialisers.specs.Initialisers.{length_given}
 use Rattle.c_unit_names.specs.declared.names.NameDeclaration.{NameDeclaration}
 use Rattle.c_unit_names.specs.declared.names.UnitNames.{UnitNames}
 use Rattle.c_unit_names.specs.UnitNames.{object_name, function_name, value_name, first_meaning, meaning_before, first_by, follows, known_by, faulty_by, declaration}
 use Rattle.c_declarations.specs.declared.walk.UnitSoFar.{UnitSoFar}
-use Rattle.c_declarations.specs.Walk.{Walk, in_notes, with_notes, main_checked, declare, with_object}
+use Rattle.c_declarations.specs.Walk.{UnitWalk, in_notes, with_notes, main_checked, declare, with_object}
 use Rattle.c_declarations.specs.Objects.{no_object, object_type, array_type, object_declared, init_judged, init_filled, object_of}
 use Rattle.c_declarations.specs.Functions.{function_type, function_declared, function_of, function_with_type, optional_refused}
 use Rattle.c_found_unit_laws.specs.Externals.{typedef_of, typedef_declared, prototype, object_with, with_main_in, with_definition, type_of_function, definition, function_with, end_judged, function_typed, type_of, external}
@@ -75,10 +75,10 @@ is_function_found None = false
 is_function_found (Some ty) = is_function_type ty
 
 -- those in scope are among these names
-abbrev pub AreKnown : Names → Env → Type 0
+abbrev pub AreKnown : NameSet → Env → Type 0
 AreKnown ns env = (q : List ℕ) → IsTrue (is_function_name (meaning_of env q)) → IsTrue (is_some (find q ns))
 
-pub more_known : (ns : Names) (name : List ℕ) (v : NameMeaning) (env : Env) → (IsTrue (is_function_name (Some v)) → IsTrue (is_some (find name ns))) → AreKnown ns env → AreKnown ns (with_name name v env)
+pub more_known : (ns : NameSet) (name : List ℕ) (v : NameMeaning) (env : Env) → (IsTrue (is_function_name (Some v)) → IsTrue (is_some (find name ns))) → AreKnown ns env → AreKnown ns (with_name name v env)
 more_known ns name v env own h q g = choose (bytes_eq q name) refl
   where
     choose : (b : Bool) → bytes_eq q name ≡ b → IsTrue (is_some (find q ns))
@@ -87,15 +87,15 @@ more_known ns name v env own h q g = choose (bytes_eq q name) refl
         subst (λ n. IsTrue (is_some (find n ns))) (sym same) (own (sym (ap is_function_name (ap (meaning_of (with_name name v env)) same ∙ own_meaning name v env)) ∙ g))
     choose false e = h q (sym (ap is_function_name (other_meaning q name v env e)) ∙ g)
 
-constant_known : (ns : Names) (name : List ℕ) (value : Option ℕ) (env : Env) → AreKnown ns env → AreKnown ns (with_name name (constant_meaning value) env)
+constant_known : (ns : NameSet) (name : List ℕ) (value : Option ℕ) (env : Env) → AreKnown ns env → AreKnown ns (with_name name (constant_meaning value) env)
 constant_known ns name None env h = more_known ns name m.Faulty env (λ k. no_true k) h
 constant_known ns name (Some word) env h = more_known ns name (m.Constant word) env (λ k. no_true k) h
 
-enters_known : (ns : Names) {a b : Env} → Enters a b → AreKnown ns a → AreKnown ns b
+enters_known : (ns : NameSet) {a b : Env} → Enters a b → AreKnown ns a → AreKnown ns b
 enters_known ns Same h = h
 enters_known ns (More {mid = mid} name value g free word) h = constant_known ns name value mid (enters_known ns g h)
 
-same_known : (ns : Names) {a b : Env} → b ≡ a → AreKnown ns a → AreKnown ns b
+same_known : (ns : NameSet) {a b : Env} → b ≡ a → AreKnown ns a → AreKnown ns b
 same_known ns e h = subst (AreKnown ns) (sym e) h
 
 -- ---- the type of a declaration
@@ -168,7 +168,7 @@ array_found at None o n h = no_true h
 array_found at (Some count) None n h = no_true h
 array_found at (Some count) (Some ty) n h = there_found at (array_of n.structs ty count) n (no_array n.structs ty count) h
 
-derived_found : (ns : Names) (at : ℕ) (node : t.TypeNode) (env : Env) (n : Notes) → AreKnown ns env → (let l = leaf env at node n in IsTrue (is_function_found (derive at node l.0 (env, l.1)).0)) → IsTrue (is_function ns node)
+derived_found : (ns : NameSet) (at : ℕ) (node : t.TypeNode) (env : Env) (n : Notes) → AreKnown ns env → (let l = leaf env at node n in IsTrue (is_function_found (derive at node l.0 (env, l.1)).0)) → IsTrue (is_function ns node)
 unfolding leaf derive is_function
 derived_found ns at (t.Basic words) env n known h = no_true h
 derived_found ns at (t.Named name) env n known h = known name (named_found at (meaning_of env name) n h)
@@ -182,14 +182,14 @@ derived_found ns at (t.Array' _ (k.more_of-TypeNode y k.end_of-TypeNode) size) e
     let r = derive at y l.0 count.1 in array_found at count.0 r.0 r.1.1 h
 derived_found ns at (t.Takes' _ (k.more_of-TypeNode y k.end_of-TypeNode) _ list) env n known h = refl
 
-bodies_known : (ns : Names) (at : ℕ) (ty : t.TypeNode) (s : Scope) → AreKnown ns s.1.0 → AreKnown ns (bodies ty s).1.0
+bodies_known : (ns : NameSet) (at : ℕ) (ty : t.TypeNode) (s : TagScope) → AreKnown ns s.1.0 → AreKnown ns (bodies ty s).1.0
 bodies_known ns at ty s h = enters_known ns (subst (λ (env : Env). Enters s.1.0 env) (behind_leaves at ty (bodies ty s)) (declared_enters at ty s)) h
 
-pub type_known : (ns : Names) (at : ℕ) (ty : t.TypeNode) (s : Scope) → AreKnown ns s.1.0 → AreKnown ns (declared_type at ty s).1.1.0
+pub type_known : (ns : NameSet) (at : ℕ) (ty : t.TypeNode) (s : TagScope) → AreKnown ns s.1.0 → AreKnown ns (declared_type at ty s).1.1.0
 type_known ns at ty s h = enters_known ns (declared_enters at ty s) h
 
 -- a type of a function is spelled as one
-pub type_found : (ns : Names) (at : ℕ) (ty : t.TypeNode) (s : Scope) → AreKnown ns s.1.0 → IsTrue (is_function_found (declared_type at ty s).0) → IsTrue (is_function ns ty)
+pub type_found : (ns : NameSet) (at : ℕ) (ty : t.TypeNode) (s : TagScope) → AreKnown ns s.1.0 → IsTrue (is_function_found (declared_type at ty s).0) → IsTrue (is_function ns ty)
 type_found ns at ty s known h = let u = bodies ty s in derived_found ns at ty u.1.0 u.1.1 (bodies_known ns at ty s known) h
 
 -- ---- the names in scope behind a declaration
@@ -214,7 +214,7 @@ first_known ds name new u h = choose new.is_typedef new.ty h
     choose false (d.Unsized ty) h = h
     choose false (d.Function ty tys) h = function (is_some (find name ds.functions)) ty tys h
 
-module _ (ns : Names) (ds : Definitions) (at : ℕ) (name : List ℕ) where
+module _ (ns : NameSet) (ds : Definitions) (at : ℕ) (name : List ℕ) where
   faulty_known : (o : Option NameMeaning) (env : Env) → AreKnown ns env → AreKnown ns (faulty_by (meaning_before o) name env)
   faulty_known None env h = more_known ns name m.Faulty env (λ k. no_true k) h
   faulty_known (Some m.Faulty) env h = h
@@ -229,7 +229,7 @@ module _ (ns : Names) (ds : Definitions) (at : ℕ) (name : List ℕ) where
   abbrev IsKnown : NameDeclaration → Type 0
   IsKnown new = IsTrue (is_typedef_of_function new) → IsTrue (is_some (find name ns))
 
-  first_by_known : (o : Option NameMeaning) (new : NameDeclaration) (u : UnitNames) (s : State) → IsKnown new → AreKnown ns s.0 → AreKnown ns (first_by (meaning_before o) ds at name new u s).1.0
+  first_by_known : (o : Option NameMeaning) (new : NameDeclaration) (u : UnitNames) (s : JudgementState) → IsKnown new → AreKnown ns s.0 → AreKnown ns (first_by (meaning_before o) ds at name new u s).1.0
   first_by_known None new u s own h = more_known ns name (first_meaning ds name new u).0 s.0 (λ k. own (first_known ds name new u k)) h
   first_by_known (Some m.Faulty) new u s own h = h
   first_by_known (Some (m.Undefined number)) new u s own h = h
@@ -239,51 +239,51 @@ module _ (ns : Names) (ds : Definitions) (at : ℕ) (name : List ℕ) where
   first_by_known (Some (m.Function callee of tys)) new u s own h = h
   first_by_known (Some (m.Typedef ty)) new u s own h = h
 
-  known_by_known : (o : Option (Option Bool)) (new : NameDeclaration) (u : UnitNames) (s : State) → IsKnown new → AreKnown ns s.0 → AreKnown ns (known_by o ds at name new u s).1.0
+  known_by_known : (o : Option (Option Bool)) (new : NameDeclaration) (u : UnitNames) (s : JudgementState) → IsKnown new → AreKnown ns s.0 → AreKnown ns (known_by o ds at name new u s).1.0
   known_by_known None new u s own h = first_by_known (meaning_of s.0 name) new u s own h
   known_by_known (Some None) new u s own h = h
   known_by_known (Some (Some has_value)) new u s own h = h
 
-  declaration_known : (o : Option NameDeclaration) (u : UnitNames) (s : State) → IfSome o IsKnown → AreKnown ns s.0 → AreKnown ns (declaration ds at name o u s).1.0
+  declaration_known : (o : Option NameDeclaration) (u : UnitNames) (s : JudgementState) → IfSome o IsKnown → AreKnown ns s.0 → AreKnown ns (declaration ds at name o u s).1.0
   declaration_known None u s own h = faulty_known (meaning_of s.0 name) s.0 h
   declaration_known (Some new) u s own h = known_by_known (follows (find name u.declared) new) new u s own h
 
 -- ---- initialisers leave the names
 
-judged_leaves : (init : Option i.Init) (s : State) → (init_judged init s).0 ≡ s.0
+judged_leaves : (init : Option i.Init) (s : JudgementState) → (init_judged init s).0 ≡ s.0
 judged_leaves None s = refl
 judged_leaves (Some v) s = judge_init_leaves v s
 
-refused_leaves : (init : Option i.Init) (s : State) → (optional_refused init s).0 ≡ s.0
+refused_leaves : (init : Option i.Init) (s : JudgementState) → (optional_refused init s).0 ≡ s.0
 refused_leaves None s = refl
 refused_leaves (Some v) s = judge_init_leaves v s
 
-filled_leaves : (name : List ℕ) (ty : CType) (init : Option i.Init) (w : Walk) → (init_filled name ty init w).1.0 ≡ w.1.0
+filled_leaves : (name : List ℕ) (ty : CType) (init : Option i.Init) (w : UnitWalk) → (init_filled name ty init w).1.0 ≡ w.1.0
 filled_leaves name ty None w = refl
 filled_leaves name ty (Some v) w = object_cells_leave ty v w.1
 
 -- ---- each declaration
 
-module _ (ns : Names) (ds : Definitions) (at : ℕ) (name : List ℕ) where
+module _ (ns : NameSet) (ds : Definitions) (at : ℕ) (name : List ℕ) where
   not_known : {X : Type 0} → IsTrue false → X
   not_known h = no_true h
 
-  of_known : (storage : Option Storage) (init : Option i.Init) (o : Option CType) (w : Walk) → AreKnown ns w.1.0 → AreKnown ns (object_of ds at name storage init o w).1.0
+  of_known : (storage : Option Storage) (init : Option i.Init) (o : Option CType) (w : UnitWalk) → AreKnown ns w.1.0 → AreKnown ns (object_of ds at name storage init o w).1.0
   of_known storage init None w h = same_known ns (judged_leaves init (declare ds at name None w).1) (declaration_known ns ds at name None w.0.names w.1 tt h)
   of_known storage init (Some ty) w h =
       let v = declare ds at name (Some (object_declared ty (is_some init))) (with_notes (main_checked storage at name w.1.1) w) in
       same_known ns (filled_leaves name ty init (with_object name ty v))
       (declaration_known ns ds at name (Some (object_declared ty (is_some init))) w.0.names (w.1.0, main_checked storage at name w.1.1) not_known h)
 
-  function_known : (storage : Option Storage) (has_body : Bool) (o : Option DeclaredType) (w : Walk) → AreKnown ns w.1.0 → AreKnown ns (function_of ds at name storage has_body o w).1.0
+  function_known : (storage : Option Storage) (has_body : Bool) (o : Option DeclaredType) (w : UnitWalk) → AreKnown ns w.1.0 → AreKnown ns (function_of ds at name storage has_body o w).1.0
   function_known storage has_body None w h = declaration_known ns ds at name None w.0.names w.1 tt h
   function_known storage has_body (Some ty) w h =
       declaration_known ns ds at name (Some (function_declared has_body ty)) w.0.names (w.1.0, main_checked storage at name w.1.1) not_known h
 
-  prototype_known : (storage : Option Storage) (ty : DeclaredType) (w : Walk) → AreKnown ns w.1.0 → AreKnown ns (prototype ds at name storage ty w).1.0
+  prototype_known : (storage : Option Storage) (ty : DeclaredType) (w : UnitWalk) → AreKnown ns w.1.0 → AreKnown ns (prototype ds at name storage ty w).1.0
   prototype_known storage ty w h = let r = in_notes w (function_type at ty w.1.1) in function_known storage false r.0 r.1 h
 
-  object_known : (storage : Option Storage) (init : Option i.Init) (o : Option DeclaredType) (w : Walk) → AreKnown ns w.1.0 → AreKnown ns (object_with ds at name storage init o w).1.0
+  object_known : (storage : Option Storage) (init : Option i.Init) (o : Option DeclaredType) (w : UnitWalk) → AreKnown ns w.1.0 → AreKnown ns (object_with ds at name storage init o w).1.0
   object_known storage init None w h = same_known ns (judged_leaves init (declare ds at name None w).1) (declaration_known ns ds at name None w.0.names w.1 tt h)
   object_known storage init (Some (d.Value ty)) w h = let r = in_notes w (object_type at ty w.1.1) in of_known storage init r.0 r.1 h
   object_known storage None (Some (d.Unsized element)) w h = let r = in_notes w (no_object at w.1.1) in of_known storage None r.0 r.1 h
@@ -302,42 +302,42 @@ module _ (ns : Names) (ds : Definitions) (at : ℕ) (name : List ℕ) where
       choose true = own
       choose false = tt
 
-  typedef_known : (o : Option DeclaredType) (w : Walk) → (IsTrue (is_function_found o) → IsTrue (is_some (find name ns))) → AreKnown ns w.1.0 → AreKnown ns (typedef_declared ds at name o w).1.0
+  typedef_known : (o : Option DeclaredType) (w : UnitWalk) → (IsTrue (is_function_found o) → IsTrue (is_some (find name ns))) → AreKnown ns w.1.0 → AreKnown ns (typedef_declared ds at name o w).1.0
   typedef_known o w own h =
       let r = each o (type_named at) w.1.1 in
       declaration_known ns ds at name (option_map typedef_of r.0) w.0.names (w.1.0, r.1) (given_known o w.1.1 own) h
 
-module _ (ns : Names) (ds : Definitions) (e : Declaration) (storage : Option Storage) where
-  ended_known : (end : FunctionEnd) (s : State) → AreKnown ns s.0 → AreKnown ns (end_judged e end s).0
+module _ (ns : NameSet) (ds : Definitions) (e : Declaration) (storage : Option Storage) where
+  ended_known : (end : FunctionEnd) (s : JudgementState) → AreKnown ns s.0 → AreKnown ns (end_judged e end s).0
   ended_known f.Nothing s h = h
   ended_known (f.Init init) s h = same_known ns (judge_init_leaves init s) h
   ended_known (f.Body list) s h = same_known ns (function_env e None list s) h
 
-  definition_known : (list : List Stmt) (ty : DeclaredType) (w : Walk) → AreKnown ns w.1.0 → AreKnown ns (definition ds e storage list ty w).1.0
+  definition_known : (list : List Stmt) (ty : DeclaredType) (w : UnitWalk) → AreKnown ns w.1.0 → AreKnown ns (definition ds e storage list ty w).1.0
   definition_known list ty w h =
       let r = with_definition e.at e.ty (with_main_in e.name (in_notes w (function_type e.at ty w.1.1))) in
       let v = function_with_type ds e.at e.name storage true r in
       same_known ns (function_env e (type_of_function r.0) list v.1) (function_known ns ds e.at e.name storage true r.0 r.1 h)
 
-  with_known : (end : FunctionEnd) (ty : DeclaredType) (w : Walk) → AreKnown ns w.1.0 → AreKnown ns (function_with ds e storage end ty w).1.0
+  with_known : (end : FunctionEnd) (ty : DeclaredType) (w : UnitWalk) → AreKnown ns w.1.0 → AreKnown ns (function_with ds e storage end ty w).1.0
   with_known f.Nothing ty w h = prototype_known ns ds e.at e.name storage ty w h
   with_known (f.Init init) ty w h = same_known ns (judge_init_leaves init (prototype ds e.at e.name storage ty w).1) (prototype_known ns ds e.at e.name storage ty w h)
   with_known (f.Body list) ty w h = definition_known list ty w h
 
-  typed_known : (end : FunctionEnd) (o : Option DeclaredType) (w : Walk) → AreKnown ns w.1.0 → AreKnown ns (function_typed ds e storage end o w).1.0
+  typed_known : (end : FunctionEnd) (o : Option DeclaredType) (w : UnitWalk) → AreKnown ns w.1.0 → AreKnown ns (function_typed ds e storage end o w).1.0
   typed_known end None w h = ended_known end (declare ds e.at e.name None w).1 (declaration_known ns ds e.at e.name None w.0.names w.1 tt h)
   typed_known end (Some ty) w h = with_known end ty w h
 
 -- ---- the names that definitions know
 
-found_in : (name : List ℕ) (ns : Names) → IsTrue (is_some (find name (defined.with_name name ns)))
+found_in : (name : List ℕ) (ns : NameSet) → IsTrue (is_some (find name (defined.with_name name ns)))
 found_in name ns = choose (is_some (find name ns)) refl
   where
     choose : (b : Bool) → is_some (find name ns) ≡ b → IsTrue (is_some (find name (if b then ns else record { name = name; value = tt {0} } ∷ ns)))
     choose true e = e
     choose false e = ap (λ (b : Bool). is_some (if b then Some (length ns, tt {0}) else find name ns)) ((bytes_eq-Decides name name).1 refl)
 
-more_in : (q name : List ℕ) (ns : Names) → IsTrue (is_some (find q ns)) → IsTrue (is_some (find q (defined.with_name name ns)))
+more_in : (q name : List ℕ) (ns : NameSet) → IsTrue (is_some (find q ns)) → IsTrue (is_some (find q (defined.with_name name ns)))
 more_in q name ns h = choose (is_some (find name ns))
   where
     either : (b : Bool) → IsTrue (is_some (if b then Some (length ns, tt {0}) else find q ns))
@@ -362,13 +362,13 @@ function_types_same e (f.Init init) d = refl
 function_types_same e (f.Body list) d = refl
 
 module _ (ds : Definitions) where
-  typedef_seen_known : (e : Declaration) (d : Definitions) (s : UnitSoFar × Scope) → AreKnown d.function_types s.1.1.0 → AreKnown (typedef_seen e d).function_types (external ds (x.Typedef e) s).1.1.0
+  typedef_seen_known : (e : Declaration) (d : Definitions) (s : UnitSoFar × TagScope) → AreKnown d.function_types s.1.1.0 → AreKnown (typedef_seen e d).function_types (external ds (x.Typedef e) s).1.1.0
   typedef_seen_known e d s h = choose (is_function d.function_types e.ty) refl
     where
-      r : Option DeclaredType × Scope
+      r : Option DeclaredType × TagScope
       r = type_of e s.1
 
-      after : Walk
+      after : UnitWalk
       after = typedef_declared ds e.at e.name r.0 (s.0, r.1.1)
 
       choose : (b : Bool) → is_function d.function_types e.ty ≡ b → AreKnown (if b then defined.with_function_type e.name d else d).function_types after.1.0
@@ -378,7 +378,7 @@ module _ (ds : Definitions) where
       choose false g =
           typedef_known d.function_types ds e.at e.name r.0 (s.0, r.1.1) (λ k. no_true (sym g ∙ type_found d.function_types e.at e.ty s.1 h k)) (type_known d.function_types e.at e.ty s.1 h)
 
-  pub external_known : (e : External) (d : Definitions) (s : UnitSoFar × Scope) → AreKnown d.function_types s.1.1.0 → AreKnown (see e d).function_types (external ds e s).1.1.0
+  pub external_known : (e : External) (d : Definitions) (s : UnitSoFar × TagScope) → AreKnown d.function_types s.1.1.0 → AreKnown (see e d).function_types (external ds e s).1.1.0
   external_known (x.Typedef e) d s h = typedef_seen_known e d s h
   external_known (x.Object e storage init) d s h =
       let r = type_of e s.1 in

@@ -12,7 +12,7 @@ use Rattle.c_tree.specs.declared.declarations.External.{External}
 use Rattle.c_tree.specs.declared.declarations.External.TheVariants as x
 use Rattle.c_tree.specs.declared.declarations.TranslationUnit.{TranslationUnit}
 use Rattle.c_definitions.specs.declared.names.Definitions.{Definitions}
-use Rattle.c_definitions.specs.Definitions.{Names, is_function, is_definition, typedef_seen, object_seen, function_seen, see, defined_behind, definitions, nothing_defined, with_function_type, with_object}
+use Rattle.c_definitions.specs.Definitions.{NameSet, is_function, is_definition, typedef_seen, object_seen, function_seen, see, defined_behind, definitions, nothing_defined, with_function_type, with_object}
 use Rattle.c_definitions.specs.Definitions as defined
 use Rattle.c_declared_types.specs.declared.declared.DeclaredType.TheVariants as d
 use Rattle.c_typed_tree.specs.declared.types.CType.{CType}
@@ -21,8 +21,8 @@ use Rattle.c_typed_tree.specs.declared.expressions.Callee.TheVariants as c
 use Rattle.c_checks.specs.declared.env.Env.{Env}
 use Rattle.c_checks.specs.declared.meanings.NameMeaning.TheVariants as m
 use Rattle.c_checks.specs.Scopes.{meaning_of}
-use Rattle.c_judgements.specs.Types.{State}
-use Rattle.c_tag_bodies.specs.Bodies.{Scope}
+use Rattle.c_judgements.specs.Types.{JudgementState}
+use Rattle.c_tag_bodies.specs.Bodies.{TagScope}
 use Rattle.c_unit_names.specs.declared.names.NameDeclaration.{NameDeclaration}
 use Rattle.c_unit_names.specs.declared.names.UnitNames.{UnitNames}
 use Rattle.c_declarations.specs.declared.walk.UnitSoFar.{UnitSoFar}
@@ -52,7 +52,7 @@ abbrev AllObjects : Definitions → List External → UnitNames → Type 0
 AllObjects d [] names = Unit {0}
 AllObjects d (e ∷ es) names = HoldsObject d e names × AllObjects (see e d) es names
 
-tells_pair : {X Y : Type 0} (s v : State) → Tells X s v → Tells Y s v → Tells (X × Y) s v
+tells_pair : {X Y : Type 0} (s v : JudgementState) → Tells X s v → Tells Y s v → Tells (X × Y) s v
 tells_pair s v h g = record { before = h.before; stays = h.stays; found = λ t k. (h.found t k, g.found t k) }
 
 module _ (ds : Definitions) where
@@ -60,7 +60,7 @@ module _ (ds : Definitions) where
   not_found true c h e = no_true (sym e ∙ h refl)
   not_found false c h e = refl
 
-  external_holds : (d : Definitions) (e : External) (t : UnitSoFar × Scope) → AreKnown d.function_types t.1.1.0 → (let v = external ds e t in Tells (HoldsObject d e v.0.names) t.1.1 v.1.1)
+  external_holds : (d : Definitions) (e : External) (t : UnitSoFar × TagScope) → AreKnown d.function_types t.1.1.0 → (let v = external ds e t in Tells (HoldsObject d e v.0.names) t.1.1 v.1.1)
   external_holds d (x.Typedef e) t h = let v = external ds (x.Typedef e) t in tells_as t.1.1 v.1.1 (λ y. tt) (external_tells ds (x.Typedef e) t)
   external_holds d (x.Object e storage init) t h =
       let v = external ds (x.Object e storage init) t in
@@ -74,7 +74,7 @@ module _ (ds : Definitions) where
   holds_later d (x.Function e storage end) steps h = tt
   holds_later d (x.Tags storage ty) steps h = tt
 
-  externals_hold : (d : Definitions) (es : List External) (t : UnitSoFar × Scope) → AreKnown d.function_types t.1.1.0 → (let v = externals ds es t in Tells (t.1.1.0.outside ≡ 0 → AllObjects d es v.0.names) t.1.1 v.1.1)
+  externals_hold : (d : Definitions) (es : List External) (t : UnitSoFar × TagScope) → AreKnown d.function_types t.1.1.0 → (let v = externals ds es t in Tells (t.1.1.0.outside ≡ 0 → AllObjects d es v.0.names) t.1.1 v.1.1)
   externals_hold d [] t h = tells_none t.1.1 (λ file. tt)
   externals_hold d (e ∷ es) t h =
       let u = external ds e t in
@@ -86,10 +86,10 @@ module _ (ds : Definitions) where
 
 -- ---- what is defined
 
-abbrev HasObjects : Names → UnitNames → Type 0
+abbrev HasObjects : NameSet → UnitNames → Type 0
 HasObjects ns names = (q : List ℕ) → IsTrue (is_some (find q ns)) → IsTrue (declares_object q names)
 
-defined_here : (q name : List ℕ) (ns : Names) (names : UnitNames) → IsTrue (declares_object name names) → (IsTrue (is_some (find q ns)) → IsTrue (declares_object q names)) → IsTrue (is_some (find q (defined.with_name name ns))) → IsTrue (declares_object q names)
+defined_here : (q name : List ℕ) (ns : NameSet) (names : UnitNames) → IsTrue (declares_object name names) → (IsTrue (is_some (find q ns)) → IsTrue (declares_object q names)) → IsTrue (is_some (find q (defined.with_name name ns))) → IsTrue (declares_object q names)
 defined_here q name ns names h g = either (is_some (find name ns))
   where
     own : (b : Bool) → bytes_eq q name ≡ b → IsTrue (is_some (if b then Some (length ns, tt {0}) else find q ns)) → IsTrue (declares_object q names)
@@ -131,7 +131,7 @@ all_objects [] d names h g = g
 all_objects (e ∷ es) d names h g = all_objects es (see e d) names h.1 (seen_holds e d names h.0 g)
 
 -- each name once
-name_distinct : (name : List ℕ) (ns : Names) → AreDistinct ns → AreDistinct (defined.with_name name ns)
+name_distinct : (name : List ℕ) (ns : NameSet) → AreDistinct ns → AreDistinct (defined.with_name name ns)
 name_distinct name ns h = choose (is_some (find name ns)) refl
   where
     choose : (b : Bool) → is_some (find name ns) ≡ b → AreDistinct (if b then ns else record { name = name; value = tt {0} } ∷ ns)
@@ -191,7 +191,7 @@ all_builtins =
 
 -- ---- at the end
 
-abbrev Ended : TranslationUnit → UnitSoFar × Scope
+abbrev Ended : TranslationUnit → UnitSoFar × TagScope
 Ended unit = externals (definitions unit.externals) unit.externals (start (definitions unit.externals))
 
 all_hold : (unit : TranslationUnit) → (whole_unit unit).1.1.1.faults ≡ [] → AllObjects nothing_defined unit.externals (Ended unit).0.names

@@ -1,7 +1,7 @@
 //! Assignments (C99 6.5.16).
 
 ghost use Rattle.c_operators.specs.Assigned as spec;
-ghost use Rattle.c_type_rules.specs.Rulings.{Gives};
+ghost use Rattle.c_type_rules.specs.Rulings.{RuleGives};
 
 use crate::null::is_null_for;
 use c_place_rules::assignments::{compound, set};
@@ -17,7 +17,7 @@ fn set_to(
     a: TypedExpression,
     b: TypedExpression,
 ) -> Result<TypedExpression, Refusal>
-    ensures { Gives (spec.set_to at a b) result }
+    ensures { RuleGives (spec.set_to at a b) result }
 {
     let null = is_null_for(&a.ty, &b);
     set(alloc, at, a, b, null)
@@ -32,7 +32,7 @@ fn with_value(
     a: TypedExpression,
     b: TypedExpression,
 ) -> Result<TypedExpression, Refusal>
-    ensures { Gives (spec.with_value structs.now at op a b) result }
+    ensures { RuleGives (spec.with_value structs.now at op a b) result }
 {
     match op {
         AssignOp::Set => set_to(alloc, at, a, b),
@@ -58,7 +58,7 @@ pub fn assign(
     a: TypedExpression,
     b: TypedExpression,
 ) -> Result<TypedExpression, Refusal>
-    ensures { Gives (spec.assign structs.now at op a b) result }
+    ensures { RuleGives (spec.assign structs.now at op a b) result }
 {
     let value = decay(alloc, b)?;
     with_value(alloc, structs, at, op, a, value)

@@ -1,7 +1,7 @@
 //! Operators between operands, elements and choices (C99 6.5.2.1, 6.5.5 to 6.5.15).
 
 ghost use Rattle.c_operators.specs.Binary as spec;
-ghost use Rattle.c_type_rules.specs.Rulings.{Gives};
+ghost use Rattle.c_type_rules.specs.Rulings.{RuleGives};
 
 use crate::null::is_null_for;
 use c_place_rules::places::index;
@@ -20,7 +20,7 @@ fn equal(
     a: TypedExpression,
     b: TypedExpression,
 ) -> Result<TypedExpression, Refusal>
-    ensures { Gives (spec.equal at op a b) result }
+    ensures { RuleGives (spec.equal at op a b) result }
 {
     let null_left = is_null_for(&b.ty, &a);
     let null_right = is_null_for(&a.ty, &b);
@@ -36,7 +36,7 @@ fn between(
     a: TypedExpression,
     b: TypedExpression,
 ) -> Result<TypedExpression, Refusal>
-    ensures { Gives (spec.between structs.now at op a b) result }
+    ensures { RuleGives (spec.between structs.now at op a b) result }
 {
     match op {
         BinaryOp::LogicalOr => logical(alloc, at, BinaryOp::LogicalOr, a, b),
@@ -69,7 +69,7 @@ pub fn binary(
     a: TypedExpression,
     b: TypedExpression,
 ) -> Result<TypedExpression, Refusal>
-    ensures { Gives (spec.binary structs.now at op a b) result }
+    ensures { RuleGives (spec.binary structs.now at op a b) result }
 {
     let left = decay(alloc, a)?;
     let right = decay(alloc, b)?;
@@ -84,7 +84,7 @@ pub fn subscript(
     a: TypedExpression,
     b: TypedExpression,
 ) -> Result<TypedExpression, Refusal>
-    ensures { Gives (spec.subscript structs.now at a b) result }
+    ensures { RuleGives (spec.subscript structs.now at a b) result }
 {
     let left = decay(alloc, a)?;
     let right = decay(alloc, b)?;
@@ -93,7 +93,7 @@ pub fn subscript(
 
 /// A condition.
 fn condition_tree(alloc: Global, c: TypedExpression) -> Result<Box<TExpr>, Refusal>
-    ensures { Gives (spec.condition_tree c) result }
+    ensures { RuleGives (spec.condition_tree c) result }
 {
     let value = decay(alloc, c)?;
     condition(value)
@@ -107,7 +107,7 @@ fn between_arms(
     a: TypedExpression,
     b: TypedExpression,
 ) -> Result<TypedExpression, Refusal>
-    ensures { Gives (spec.between_arms at condition a b) result }
+    ensures { RuleGives (spec.between_arms at condition a b) result }
 {
     let holds = decay(alloc, a)?;
     let fails = decay(alloc, b)?;
@@ -124,7 +124,7 @@ pub fn conditional(
     a: TypedExpression,
     b: TypedExpression,
 ) -> Result<TypedExpression, Refusal>
-    ensures { Gives (spec.conditional at c a b) result }
+    ensures { RuleGives (spec.conditional at c a b) result }
 {
     match condition_tree(alloc, c) {
         Ok(condition) => between_arms(alloc, at, condition, a, b),

@@ -1,7 +1,7 @@
 //! Casts and sizes of types (C99 6.5.3.4, 6.5.4).
 
 ghost use Rattle.c_operators.specs.Casts as spec;
-ghost use Rattle.c_type_rules.specs.Rulings.{Gives};
+ghost use Rattle.c_type_rules.specs.Rulings.{RuleGives};
 
 use crate::null::is_null_for;
 use c_declared_types::DeclaredType;
@@ -18,7 +18,7 @@ fn cast_value(
     to: CType,
     a: TypedExpression,
 ) -> Result<TypedExpression, Refusal>
-    ensures { Gives (spec.cast_value at to a) result }
+    ensures { RuleGives (spec.cast_value at to a) result }
 {
     let value = decay(alloc, a)?;
     let null = is_null_for(&to, &value);
@@ -32,7 +32,7 @@ pub fn cast_to(
     to: DeclaredType,
     a: TypedExpression,
 ) -> Result<TypedExpression, Refusal>
-    ensures { Gives (spec.cast_to at to a) result }
+    ensures { RuleGives (spec.cast_to at to a) result }
 {
     match to {
         DeclaredType::Value(ty) => cast_value(alloc, at, ty, a),
@@ -48,7 +48,7 @@ pub fn size_of_type(
     at: u32,
     of: &DeclaredType,
 ) -> Result<TypedExpression, Refusal>
-    ensures { Gives (spec.size_of_type structs.now at of.now) result }
+    ensures { RuleGives (spec.size_of_type structs.now at of.now) result }
 {
     match of {
         DeclaredType::Value(ty) => size(alloc, structs, at, ty),

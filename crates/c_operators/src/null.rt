@@ -2,7 +2,7 @@
 
 ghost use Rattle.std.specs.Prelude.{◌≡◌};
 ghost use Rattle.c_operators.specs.Null as spec;
-ghost use Rattle.c_type_rules.specs.Rulings.{Gives};
+ghost use Rattle.c_type_rules.specs.Rulings.{RuleGives};
 
 use c_constants::{is_null_constant, is_null_void};
 use c_tree::Box;
@@ -33,7 +33,7 @@ pub(crate) fn is_null_for(to: &CType, a: &TypedExpression) -> bool
 
 /// A value where one of a type is wanted: an argument, an initialiser, the operand of `return`.
 pub fn take_value(alloc: Global, to: &CType, a: TypedExpression) -> Result<Box<TExpr>, Refusal>
-    ensures { Gives (spec.take_value to.now a) result }
+    ensures { RuleGives (spec.take_value to.now a) result }
 {
     let value = decay(alloc, a)?;
     let null = is_null_for(to, &value);

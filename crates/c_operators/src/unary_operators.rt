@@ -1,7 +1,7 @@
 //! Operators in front of an operand (C99 6.5.3).
 
 ghost use Rattle.c_operators.specs.Unary as spec;
-ghost use Rattle.c_type_rules.specs.Rulings.{Gives};
+ghost use Rattle.c_type_rules.specs.Rulings.{RuleGives};
 
 use c_place_rules::places::{address, dereference, step_before};
 use c_tree::UnaryOp;
@@ -18,7 +18,7 @@ fn led_to(
     at: u32,
     a: TypedExpression,
 ) -> Result<TypedExpression, Refusal>
-    ensures { Gives (spec.led_to structs.now at a) result }
+    ensures { RuleGives (spec.led_to structs.now at a) result }
 {
     let value = decay(alloc, a)?;
     dereference(alloc, structs, at, value)
@@ -30,14 +30,14 @@ fn prefix_arithmetic(
     op: UnaryOp,
     a: TypedExpression,
 ) -> Result<TypedExpression, Refusal>
-    ensures { Gives (spec.prefix_arithmetic at op a) result }
+    ensures { RuleGives (spec.prefix_arithmetic at op a) result }
 {
     let value = decay(alloc, a)?;
     unary_arithmetic(alloc, at, op, value)
 }
 
 fn logical_not(alloc: Global, at: u32, a: TypedExpression) -> Result<TypedExpression, Refusal>
-    ensures { Gives (spec.logical_not at a) result }
+    ensures { RuleGives (spec.logical_not at a) result }
 {
     let value = decay(alloc, a)?;
     negation(alloc, at, value)
@@ -51,7 +51,7 @@ pub fn unary(
     op: UnaryOp,
     a: TypedExpression,
 ) -> Result<TypedExpression, Refusal>
-    ensures { Gives (spec.unary structs.now at op a) result }
+    ensures { RuleGives (spec.unary structs.now at op a) result }
 {
     match op {
         UnaryOp::Increment => step_before(alloc, structs, at, UnaryOp::Increment, a),

@@ -2,7 +2,7 @@
 
 ghost use Rattle.std.specs.Prelude.{◌≡◌, IfOk};
 ghost use Rattle.c_place_rules.specs.Assignments as spec;
-ghost use Rattle.c_type_rules.specs.Rulings.{Gives};
+ghost use Rattle.c_type_rules.specs.Rulings.{RuleGives};
 
 use crate::places::is_assignable;
 use c_arithmetic::integer_type::IntegerType;
@@ -47,7 +47,7 @@ pub fn set(
     b: TypedExpression,
     null: bool,
 ) -> Result<TypedExpression, Refusal>
-    ensures { Gives (spec.set at a b null) result }
+    ensures { RuleGives (spec.set at a b null) result }
 {
     if is_assignable(&a) {
         return match value_for_type(alloc, &a.ty, b, null) {
@@ -111,7 +111,7 @@ fn moved_place(
     a: TypedExpression,
     b: TypedExpression,
 ) -> Result<TypedExpression, Refusal>
-    ensures { Gives (spec.moved_place structs.now at op a b) result }
+    ensures { RuleGives (spec.moved_place structs.now at op a b) result }
 {
     if moves(op) {
         if points_to_object(structs, &a.ty) {
@@ -131,7 +131,7 @@ pub fn compound(
     a: TypedExpression,
     b: TypedExpression,
 ) -> Result<TypedExpression, Refusal>
-    ensures { Gives (spec.compound structs.now at op a b) result }
+    ensures { RuleGives (spec.compound structs.now at op a b) result }
 {
     if is_assignable(&a) {
         return match integer_of(&b.ty) {

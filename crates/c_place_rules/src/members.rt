@@ -3,7 +3,7 @@
 ghost use Rattle.std.specs.Prelude.{◌≡◌, IfOk};
 ghost use Rattle.c_typed_tree.specs.declared.expressions.TExpr as x;
 ghost use Rattle.c_place_rules.specs.Members as spec;
-ghost use Rattle.c_type_rules.specs.Rulings.{Gives};
+ghost use Rattle.c_type_rules.specs.Rulings.{RuleGives};
 
 use crate::places::{is_somewhere, led_to};
 use c_arithmetic::integer_type::IntegerType;
@@ -59,7 +59,7 @@ fn field_found(
     a: TypedExpression,
     found: Option<FoundMember>,
 ) -> Result<TypedExpression, Refusal>
-    ensures { Gives (spec.field_found at a found) result }
+    ensures { RuleGives (spec.field_found at a found) result }
 {
     match found {
         None => Err(refuse(at, Kind::NoMember)),
@@ -92,7 +92,7 @@ pub fn field(
     a: TypedExpression,
     found: Option<FoundMember>,
 ) -> Result<TypedExpression, Refusal>
-    ensures { Gives (spec.field at a found) result }
+    ensures { RuleGives (spec.field at a found) result }
 {
     if is_struct_place(&a) {
         return field_found(alloc, at, a, found);
@@ -125,7 +125,7 @@ fn arrow_found(
     a: TypedExpression,
     found: Option<FoundMember>,
 ) -> Result<TypedExpression, Refusal>
-    ensures { Gives (spec.arrow_found at a found) result }
+    ensures { RuleGives (spec.arrow_found at a found) result }
 {
     match found {
         None => Err(refuse(at, Kind::NoMember)),
@@ -144,7 +144,7 @@ pub fn arrow(
     a: TypedExpression,
     found: Option<FoundMember>,
 ) -> Result<TypedExpression, Refusal>
-    ensures { Gives (spec.arrow structs.now at a found) result }
+    ensures { RuleGives (spec.arrow structs.now at a found) result }
 {
     if points_to_struct(structs, &a.ty) {
         return arrow_found(alloc, at, a, found);
@@ -178,7 +178,7 @@ pub fn size(
     at: u32,
     ty: &CType,
 ) -> Result<TypedExpression, Refusal>
-    ensures { Gives (spec.size structs.now at ty.now) result }
+    ensures { RuleGives (spec.size structs.now at ty.now) result }
 {
     if is_object(structs, ty) {
         return Ok(number(alloc, at, IntegerType::UnsignedLong, size_of(structs, ty))?);

@@ -2,7 +2,7 @@
 
 ghost use Rattle.std.specs.Prelude.{◌≡◌, IfOk};
 ghost use Rattle.c_place_rules.specs.Places as spec;
-ghost use Rattle.c_type_rules.specs.Rulings.{Gives};
+ghost use Rattle.c_type_rules.specs.Rulings.{RuleGives};
 
 use c_tree::{Box, StepOp, UnaryOp};
 use c_type_faults::Kind;
@@ -74,7 +74,7 @@ pub fn dereference(
     at: u32,
     a: TypedExpression,
 ) -> Result<TypedExpression, Refusal>
-    ensures { Gives (spec.dereference structs.now at a) result }
+    ensures { RuleGives (spec.dereference structs.now at a) result }
 {
     match object_of(alloc, structs, &a.ty)? {
         None => Err(refuse(at, Kind::BadOperand)),
@@ -105,7 +105,7 @@ fn element_by_index(
     is_index: bool,
     object: Option<CType>,
 ) -> Result<TypedExpression, Refusal>
-    ensures { Gives (spec.element_by_index at a b is_index object) result }
+    ensures { RuleGives (spec.element_by_index at a b is_index object) result }
 {
     match object {
         None => Err(refuse(at, Kind::BadOperand)),
@@ -126,7 +126,7 @@ pub fn index(
     a: TypedExpression,
     b: TypedExpression,
 ) -> Result<TypedExpression, Refusal>
-    ensures { Gives (spec.index structs.now at a b) result }
+    ensures { RuleGives (spec.index structs.now at a b) result }
 {
     if points_to_object(structs, &a.ty) {
         let is_index = is_integer(&b.ty);
@@ -151,7 +151,7 @@ pub(crate) fn is_somewhere(place: PlaceKind) -> bool
 
 /// `&`.
 pub fn address(alloc: Global, at: u32, a: TypedExpression) -> Result<TypedExpression, Refusal>
-    ensures { Gives (spec.address at a) result }
+    ensures { RuleGives (spec.address at a) result }
 {
     if is_somewhere(a.place) {
         let ty = CType::Pointer(Box::new(alloc, a.ty)?);
@@ -184,7 +184,7 @@ pub fn step_before(
     op: UnaryOp,
     a: TypedExpression,
 ) -> Result<TypedExpression, Refusal>
-    ensures { Gives (spec.step_before structs.now at op a) result }
+    ensures { RuleGives (spec.step_before structs.now at op a) result }
 {
     if is_assignable(&a) {
         if is_steppable(structs, &a) {
@@ -217,7 +217,7 @@ pub fn step_behind(
     op: StepOp,
     a: TypedExpression,
 ) -> Result<TypedExpression, Refusal>
-    ensures { Gives (spec.step_behind structs.now at op a) result }
+    ensures { RuleGives (spec.step_behind structs.now at op a) result }
 {
     if is_assignable(&a) {
         if is_steppable(structs, &a) {

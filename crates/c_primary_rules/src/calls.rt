@@ -2,7 +2,7 @@
 
 ghost use Rattle.std.specs.Prelude.{◌≡◌, IfOk};
 ghost use Rattle.c_primary_rules.specs.Calls as spec;
-ghost use Rattle.c_type_rules.specs.Rulings.{Gives};
+ghost use Rattle.c_type_rules.specs.Rulings.{RuleGives};
 
 use c_tree::{Box, Seq};
 use c_type_faults::Kind;
@@ -17,7 +17,7 @@ pub fn count_arguments(
     parameters: &[CType],
     arguments: Seq<TypedExpression>,
 ) -> Result<Seq<TypedExpression>, Refusal>
-    ensures { Gives (spec.count_arguments at parameters.now arguments) result }
+    ensures { RuleGives (spec.count_arguments at parameters.now arguments) result }
 {
     if arguments.len() == parameters.len() {
         return Ok(arguments);

@@ -3,7 +3,7 @@
 ghost use Rattle.std.specs.Prelude.{◌≡◌, IfOk};
 ghost use Rattle.c_typed_tree.specs.declared.expressions.TExpr as x;
 ghost use Rattle.c_primary_rules.specs.Primary as spec;
-ghost use Rattle.c_type_rules.specs.Rulings.{Gives};
+ghost use Rattle.c_type_rules.specs.Rulings.{RuleGives};
 
 use c_arithmetic::integer_type::IntegerType;
 use c_literals::{character, integer};
@@ -17,7 +17,7 @@ use std::alloc::{AllocError, Global};
 
 /// An integer constant, by its spelling.
 pub fn integer_constant(alloc: Global, at: u32, spelling: &[u8]) -> Result<TypedExpression, Refusal>
-    ensures { Gives (spec.integer_constant at spelling.now) result }
+    ensures { RuleGives (spec.integer_constant at spelling.now) result }
 {
     match integer(spelling) {
         None => Err(refuse(at, Kind::BadLiteral)),
@@ -31,7 +31,7 @@ pub fn character_constant(
     at: u32,
     spelling: &[u8],
 ) -> Result<TypedExpression, Refusal>
-    ensures { Gives (spec.character_constant at spelling.now) result }
+    ensures { RuleGives (spec.character_constant at spelling.now) result }
 {
     match character(spelling) {
         None => Err(refuse(at, Kind::BadLiteral)),

@@ -2,7 +2,7 @@
 
 ghost use Rattle.std.specs.Prelude.{◌≡◌, IfOk};
 ghost use Rattle.c_primary_rules.specs.Switches as spec;
-ghost use Rattle.c_type_rules.specs.Rulings.{Gives};
+ghost use Rattle.c_type_rules.specs.Rulings.{RuleGives};
 
 use c_arithmetic::integer_type::IntegerType;
 use c_tree::Box;
@@ -30,7 +30,7 @@ fn in_type(alloc: Global, ty: IntegerType, a: TypedExpression) -> Result<SwitchV
 
 /// The operand of a `switch`.
 pub fn switch_operand(alloc: Global, a: TypedExpression) -> Result<SwitchValue, Refusal>
-    ensures { Gives (spec.switch_operand a) result }
+    ensures { RuleGives (spec.switch_operand a) result }
 {
     match integer_of(&a.ty) {
         None => Err(refuse(a.at, Kind::BadOperand)),

@@ -13,7 +13,7 @@ use Rattle.c_mean.specs.Behaviour.{CBehaviour, output_of}
 use Rattle.c_semantics.specs.Runs.{CallState}
 use Rattle.c_semantics.specs.Executes.{StatementFlow, Goes, Breaks, Continues, Returns, level, enter_function, leave_function}
 use Rattle.c_semantics.specs.Behaves.{world_of, status_of, ended_by, ending_of, run_of, main_of, run, rooms_of, behaviour_of, behave_c}
-use Rattle.c_semantics.specs.Laws.{EndingsStay, OutputsGrow, PeaksRise, OneEnding, TurnsAreOne}
+use Rattle.c_semantics.specs.Laws.{EndingsStay, OutputsGrow, UnitPeaksRise, UnitHasOneEnding, TurnsAreOne}
 use Rattle.c_semantics.proofs.Grown.{Starts, starts_same, Later, Reaches, more_turns, Grows}
 use Rattle.c_semantics.proofs.Trees.{body_grown, level_grown}
 
@@ -84,7 +84,7 @@ peak_of k (Trap w code) e' g = subst (λ x. w.meter.peak ≤ ending_peak x) (sym
 peak_of k (Undefined w at) e' g = subst (λ x. w.meter.peak ≤ ending_peak x) (sym g) (omega arith)
 peak_of k (More w) e' g = g.peak
 
-pub peaks_rise : PeaksRise
+pub peaks_rise : UnitPeaksRise
 peaks_rise unit rooms input n k = peak_of k (run unit rooms input n) (run unit rooms input (n + k)) (run_grows unit rooms input n k)
 
 ending_stays : (k : ℕ) (e e' : Ending) → EndGrows k e e' → ((output : List ℕ) → behaviour_of e ≢ b.More output) → behaviour_of e' ≡ behaviour_of e
@@ -113,7 +113,7 @@ pub outputs_grow : OutputsGrow
 outputs_grow unit input n k h =
     output_grows k (run unit (rooms_of unit) input n) (run unit (rooms_of unit) input (n + k)) (run_grows unit (rooms_of unit) input n k) h
 
-pub one_ending : OneEnding
+pub one_ending : UnitHasOneEnding
 one_ending unit input n m h g =
     let a : behave_c unit input (n + m) ≡ behave_c unit input n = endings_stay unit input n m h in
     let c : behave_c unit input (m + n) ≡ behave_c unit input m = endings_stay unit input m n g in

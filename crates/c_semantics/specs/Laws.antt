@@ -20,14 +20,14 @@ OutputsGrow =
     (rest : List ℕ) × (output_of (behave_c unit input (n + k)) ≡ output_of (behave_c unit input n) ++ rest)
 
 -- the peak only rises with more turns, for every list of rooms
-abbrev pub PeaksRise : Type 0
-PeaksRise =
+abbrev pub UnitPeaksRise : Type 0
+UnitPeaksRise =
     (unit : TypedUnit) (rooms : Rooms) (input : List ℕ) (n k : ℕ) →
     ending_peak (run unit rooms input n) ≤ ending_peak (run unit rooms input (n + k))
 
 -- within two numbers of turns a run does not end in two ways
-abbrev pub OneEnding : Type 0
-OneEnding =
+abbrev pub UnitHasOneEnding : Type 0
+UnitHasOneEnding =
     (unit : TypedUnit) (input : List ℕ) (n m : ℕ) →
     ((output : List ℕ) → behave_c unit input n ≢ b.More output) →
     ((output : List ℕ) → behave_c unit input m ≢ b.More output) → behave_c unit input n ≡ behave_c unit input m

@@ -8,15 +8,15 @@ use Rattle.mem_model.specs.Ending.{Done, Trap, Undefined, More, Evaluation, Give
 use Rattle.c_semantics.specs.Reasons.{Reason, ReadsUnwritten, UsesNoValue}
 
 -- the values of the locals that are no objects of memory, by number
-abbrev pub Registers : Type 0
-Registers = ℕ → Value
+abbrev pub LocalRegisters : Type 0
+LocalRegisters = ℕ → Value
 
-abbrev pub with_register : Registers → (number : ℕ) → Value → Registers
+abbrev pub with_register : LocalRegisters → (number : ℕ) → Value → LocalRegisters
 with_register r number v = λ k. if k == number then v else r k
 
 -- the registers of the call, and the world
 pub record CallState : Type 0 where
-  pub registers : Registers
+  pub registers : LocalRegisters
   pub world : World
 
 abbrev pub in_world : CallState → World → CallState
@@ -25,7 +25,7 @@ in_world s w = record { registers = s.registers; world = w }
 abbrev pub with_outer : CallState → Outer → CallState
 with_outer s o = in_world s (record { outer = o; meter = s.world.meter })
 
-abbrev pub with_registers : CallState → Registers → CallState
+abbrev pub with_registers : CallState → LocalRegisters → CallState
 with_registers s r = record { registers = r; world = s.world }
 
 abbrev pub Run : Type 0 → Type 0

@@ -2,13 +2,13 @@
 
 ghost use Rattle.c_typed_tree.specs.Expressions.{Expr};
 ghost use Rattle.c_typed_tree.specs.Statements.{Stmt};
-ghost use Rattle.c_semantics.specs.Laws.{EndingsStay, OutputsGrow, PeaksRise, OneEnding, TurnsAreOne};
+ghost use Rattle.c_semantics.specs.Laws.{EndingsStay, OutputsGrow, UnitPeaksRise, UnitHasOneEnding, TurnsAreOne};
 ghost use Rattle.c_semantics.specs.Refines.{ExprRefines, ExprWithin, StmtRefines, StmtWithin, UnitsRefine};
 
 /// An ending stays with more turns, so a run has one at most.
 pub fn endings_stay()
     ensures more { EndingsStay }
-    ensures one { OneEnding }
+    ensures one { UnitHasOneEnding }
     ensures turns { TurnsAreOne }
 {}
 
@@ -19,7 +19,7 @@ pub fn outputs_grow()
 
 /// The greatest sum of rooms only rises with more turns.
 pub fn peaks_rise()
-    ensures { PeaksRise }
+    ensures { UnitPeaksRise }
 {}
 
 /// Every tree refines itself, and what refines a refinement of a tree refines that tree.

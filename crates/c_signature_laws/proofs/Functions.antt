@@ -16,7 +16,7 @@ use Rattle.c_typed_tree.specs.Lawful.{type_of_local}
 use Rattle.c_checks.specs.Checks.{walk}
 use Rattle.c_checks.specs.Notes.{with_fault}
 use Rattle.c_checks.specs.Scopes.{enter, stands_here}
-use Rattle.c_judgements.specs.Types.{State}
+use Rattle.c_judgements.specs.Types.{JudgementState}
 use Rattle.c_judgement_laws.specs.Covers.{IsLawfulContext}
 use Rattle.c_type_laws.proofs.Truth.{no_true, front, back}
 use Rattle.c_statement_rules.specs.declared.locals.NewLocal.{NewLocal}
@@ -110,7 +110,7 @@ made_type d of true first later numbers (Some list) g h = record {
   parameters = first_types first later numbers g ∙ h refl;
 }
 
-pub function_has_type : (d : Declaration) (of : FunctionType) (list : List Stmt) (s : State) → IfSome (function d (Some of) list s).0 (HasItsType d of)
+pub function_has_type : (d : Declaration) (of : FunctionType) (list : List Stmt) (s : JudgementState) → IfSome (function d (Some of) list s).0 (HasItsType d of)
 function_has_type d of list s =
     let start : BodyState = ([], (enter s.0, s.1)) in
     let p = typed_parameters (parameters_of d.ty) of.parameters true start in

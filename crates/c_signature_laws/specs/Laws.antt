@@ -5,7 +5,7 @@ use Rattle.c_tree.specs.declared.statements.Stmt.{Stmt}
 use Rattle.c_typed_tree.specs.declared.units.TypedFn.{TypedFn}
 use Rattle.c_typed_tree.specs.View.{type_view}
 use Rattle.c_typed_tree.specs.Lawful.{signature_of}
-use Rattle.c_judgements.specs.Types.{State}
+use Rattle.c_judgements.specs.Types.{JudgementState}
 use Rattle.c_statements.specs.declared.functions.FunctionType.{FunctionType}
 use Rattle.c_statements.specs.Functions.{function}
 
@@ -16,5 +16,5 @@ pub record HasItsType (d : Declaration) (of : FunctionType) (f : TypedFn) : Type
 
 abbrev pub FunctionsHaveTheirTypes : Type 0
 FunctionsHaveTheirTypes =
-    (d : Declaration) (of : FunctionType) (list : List Stmt) (s : State) →
+    (d : Declaration) (of : FunctionType) (list : List Stmt) (s : JudgementState) →
     IfSome (function d (Some of) list s).0 (HasItsType d of)

@@ -19,7 +19,7 @@ use Rattle.c_typed_tree.specs.TypingStatements.{is_typed_stmt}
 use Rattle.c_typed_tree.specs.Lawful.{type_of_local, context_of, is_object_type, is_result, is_block, IsTypedFn}
 use Rattle.c_checks.specs.Checks.{walk}
 use Rattle.c_checks.specs.Scopes.{enter}
-use Rattle.c_judgements.specs.Types.{State}
+use Rattle.c_judgements.specs.Types.{JudgementState}
 use Rattle.c_statement_rules.specs.Jumps.{no_jumps}
 use Rattle.c_statement_rules.specs.Locals.{BodyState, with_addressed}
 use Rattle.c_statements.specs.Statements.{statement}
@@ -78,18 +78,18 @@ parameters_scalar first later numbers g h =
 
 -- ---- a body
 
-abbrev Start : State → BodyState
+abbrev Start : JudgementState → BodyState
 Start s = ([], (enter s.0, s.1))
 
 -- its parameters
-abbrev Entered : Declaration → Option FunctionType → State → Bool × BodyState
+abbrev Entered : Declaration → Option FunctionType → JudgementState → Bool × BodyState
 Entered d of s = declared_parameters of (own.parameters_of d.ty) (Start s)
 
 -- its statements
-abbrev Ended : Declaration → Option FunctionType → List Stmt → State → Option (List TStmt) × BodyState
+abbrev Ended : Declaration → Option FunctionType → List Stmt → JudgementState → Option (List TStmt) × BodyState
 Ended d of list s = walk (statement (result_of of) no_jumps) list (Some []) (Entered d of s).1
 
-module _ (c : Context) (lawful : IsLawfulContext c) (d : Declaration) (of : Option FunctionType) (list : List Stmt) (s : State) where
+module _ (c : Context) (lawful : IsLawfulContext c) (d : Declaration) (of : Option FunctionType) (list : List Stmt) (s : JudgementState) where
   -- what statements know of the function
   abbrev HasResult : Type 0
   HasResult = IfSome (result_of of) (λ ty. IsTrue (is_fit c.structs (type_view ty)))
@@ -115,7 +115,7 @@ module _ (c : Context) (lawful : IsLawfulContext c) (d : Declaration) (of : Opti
 -- ---- a function
 
 -- the function that is made of a body without a fault
-abbrev Made : Declaration → FunctionType → List Stmt → State → List TStmt → TypedFn
+abbrev Made : Declaration → FunctionType → List Stmt → JudgementState → List TStmt → TypedFn
 Made d of list s found = record {
   name = d.name;
   result = of.result;
@@ -124,7 +124,7 @@ Made d of list s found = record {
   body = t.Block found;
 }
 
-made_typed : (u : TypedUnit) (d : Declaration) (of : FunctionType) (list : List Stmt) (s : State) (found : List TStmt) → (Ended d (Some of) list s).0 ≡ Some found → DeclaresItsLocals (Made d of list s found)
+made_typed : (u : TypedUnit) (d : Declaration) (of : FunctionType) (list : List Stmt) (s : JudgementState) (found : List TStmt) → (Ended d (Some of) list s).0 ≡ Some found → DeclaresItsLocals (Made d of list s found)
     → IsGiven u d (Some of) s (function d (Some of) list s).1 (Made d of list s found) → IsTypedFn u (Made d of list s found)
 made_typed u d of list s found e declares given =
     let c = context_of u (Made d of list s found) in
@@ -153,7 +153,7 @@ made_typed u d of list s found e declares given =
       declares = declares.declares;
     }
 
-typed_where : (u : TypedUnit) (d : Declaration) (of : Option FunctionType) (list : List Stmt) (s : State) (sound : Bool) (o : Option (List TStmt)) → (Ended d of list s).0 ≡ o
+typed_where : (u : TypedUnit) (d : Declaration) (of : Option FunctionType) (list : List Stmt) (s : JudgementState) (sound : Bool) (o : Option (List TStmt)) → (Ended d of list s).0 ≡ o
     → IfSome (typed_function d.name (result_of of) sound (length (Entered d of s).1.0) (with_addressed (Ended d of list s).1.1.1.addressed (Ended d of list s).1.0) o) DeclaresItsLocals
     → IfSome (typed_function d.name (result_of of) sound (length (Entered d of s).1.0) (with_addressed (Ended d of list s).1.1.1.addressed (Ended d of list s).1.0) o)
     (λ f. IsGiven u d of s (function d of list s).1 f → IsTypedFn u f)
@@ -162,7 +162,7 @@ typed_where u d (Some of) list s false o e h = tt
 typed_where u d (Some of) list s true None e h = tt
 typed_where u d (Some of) list s true (Some found) e h = made_typed u d of list s found e h
 
-pub function_typed : (u : TypedUnit) (d : Declaration) (of : Option FunctionType) (list : List Stmt) (s : State) → IfSome (function d of list s).0 (λ f. IsGiven u d of s (function d of list s).1 f → IsTypedFn u f)
+pub function_typed : (u : TypedUnit) (d : Declaration) (of : Option FunctionType) (list : List Stmt) (s : JudgementState) → IfSome (function d of list s).0 (λ f. IsGiven u d of s (function d of list s).1 f → IsTypedFn u f)
 function_typed u d of list s = typed_where u d of list s (Entered d of s).0 (Ended d of list s).0 refl (function_says d of list s)
 
 -- ---- what a body leaves
@@ -177,7 +177,7 @@ none_in_memory : (c : Context) (ns : List ℕ) → AreInMemory (record { structs
 none_in_memory c [] = tt
 none_in_memory c (n ∷ ns) = (refl, none_in_memory c ns)
 
-pub function_leaves : (c : Context) → IsLawfulContext c → (d : Declaration) (of : Option FunctionType) (list : List Stmt) (s : State) → Leaves c s (function d of list s).1
+pub function_leaves : (c : Context) → IsLawfulContext c → (d : Declaration) (of : Option FunctionType) (list : List Stmt) (s : JudgementState) → Leaves c s (function d of list s).1
 function_leaves c lawful d of list s =
     let v = (Ended d of list s).1 in
     let moves = body_moves c lawful d of list s in

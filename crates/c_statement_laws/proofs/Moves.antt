@@ -8,7 +8,7 @@ use Rattle.c_checks.specs.declared.env.Env.{Env}
 use Rattle.c_checks.specs.declared.notes.Notes.{Notes}
 use Rattle.c_checks.specs.Checks.{each, both, walk, append_part, note_fault}
 use Rattle.c_checks.specs.Scopes.{leave}
-use Rattle.c_judgements.specs.Types.{State}
+use Rattle.c_judgements.specs.Types.{JudgementState}
 use Rattle.c_statement_rules.specs.Locals.{BodyState}
 use Rattle.c_statements.specs.Statements.{in_scope, behind_scope}
 use Rattle.c_judgement_laws.specs.Covers.{HasNames, Knows, Takes}
@@ -116,7 +116,7 @@ module _ (c : Context) (known : Type 0) where
   -- ---- expressions and types
 
   -- a walk that leaves the names as they were
-  pub moves_walked : {A : Type 0} (P : Type 0 → A → Type 0) (w : BodyState) (r : Option A × State) → Walks c (HasScope c w.1) P w.1 r → Moves c known (IfSome r.0 (P (Takes c r.1.1))) w (w.0, r.1)
+  pub moves_walked : {A : Type 0} (P : Type 0 → A → Type 0) (w : BodyState) (r : Option A × JudgementState) → Walks c (HasScope c w.1) P w.1 r → Moves c known (IfSome r.0 (P (Takes c r.1.1))) w (w.0, r.1)
   moves_walked P w r h = record {
     grows = grows_itself w.0;
     later = record { first = h.notes.first; knows = h.notes.knows; takes = h.notes.takes };

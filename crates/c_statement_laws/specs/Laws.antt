@@ -10,7 +10,7 @@ use Rattle.c_typed_tree.specs.declared.units.TypedUnit.{TypedUnit}
 use Rattle.c_typed_tree.specs.View.{type_view}
 use Rattle.c_typed_tree.specs.Typing.{Context, is_scalar}
 use Rattle.c_typed_tree.specs.Lawful.{context_of, is_object_type, is_result, is_identifier, IsTypedFn}
-use Rattle.c_judgements.specs.Types.{State}
+use Rattle.c_judgements.specs.Types.{JudgementState}
 use Rattle.c_judgement_laws.specs.Covers.{Knows, HaveTexts, IsLawfulContext}
 use Rattle.c_expression_laws.specs.Laws.{HasScope}
 use Rattle.c_statements.specs.declared.functions.FunctionType.{FunctionType}
@@ -22,7 +22,8 @@ is_parameter ds ty = is_object_type ds (type_view ty) && is_scalar (type_view ty
 
 -- what is known of the unit in which a function stands: its structs are lawful, it has the names that are in scope
 -- before the body, and the structs and texts that were noted behind it
-pub record IsGiven (u : TypedUnit) (d : Declaration) (of : Option FunctionType) (s later : State) (f : TypedFn) :
+pub record IsGiven (u : TypedUnit) (d : Declaration) (of : Option FunctionType) (s later : JudgementState)
+    (f : TypedFn) :
     Type 0 where
   pub structs : IsLawfulContext (context_of u f)
   pub scope : HasScope (context_of u f) s
@@ -36,11 +37,11 @@ pub record IsGiven (u : TypedUnit) (d : Declaration) (of : Option FunctionType) 
 -- a function that is found is well typed
 abbrev pub FunctionIsTyped : Type 0
 FunctionIsTyped =
-    (u : TypedUnit) (d : Declaration) (of : Option FunctionType) (list : List Stmt) (s : State) →
+    (u : TypedUnit) (d : Declaration) (of : Option FunctionType) (list : List Stmt) (s : JudgementState) →
     IfSome (function d of list s).0 (λ f. IsGiven u d of s (function d of list s).1 f → IsTypedFn u f)
 
 -- what a body leaves: the names in scope as they were, and what a context has behind it, it had before
-pub record Leaves (c : Context) (s later : State) : Type 0 where
+pub record Leaves (c : Context) (s later : JudgementState) : Type 0 where
   pub env : later.0 ≡ s.0
   pub first : later.1.first_text ≡ s.1.first_text
   pub addressed : later.1.addressed ≡ []
@@ -49,5 +50,6 @@ pub record Leaves (c : Context) (s later : State) : Type 0 where
 
 abbrev pub FunctionLeaves : Type 0
 FunctionLeaves =
-    (c : Context) → IsLawfulContext c → (d : Declaration) (of : Option FunctionType) (list : List Stmt) (s : State) →
+    (c : Context) → IsLawfulContext c → (d : Declaration) (of : Option FunctionType) (list : List Stmt)
+    (s : JudgementState) →
     Leaves c s (function d of list s).1

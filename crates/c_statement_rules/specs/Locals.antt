@@ -19,16 +19,16 @@ use Rattle.c_checks.specs.declared.notes.Notes.{Notes}
 use Rattle.c_checks.specs.Checks.{Check, pure, and_then, each, fault, note_fault}
 use Rattle.c_checks.specs.Notes.{with_fault}
 use Rattle.c_checks.specs.Scopes.{with_name, stands_here}
-use Rattle.c_judgements.specs.Types.{State, within, parameter_type}
+use Rattle.c_judgements.specs.Types.{JudgementState, within, parameter_type}
 use Rattle.c_statement_rules.specs.declared.locals.NewLocal.{NewLocal}
 use Rattle.c_statement_rules.specs.Objects.{object_type}
 
 -- the locals of the function, the names in scope, and what was noted
 abbrev pub BodyState : Type 0
-BodyState = List Local × State
+BodyState = List Local × JudgementState
 
 -- a judgement that declares no local
-abbrev pub beside : {A : Type 0} → List Local → A × State → A × BodyState
+abbrev pub beside : {A : Type 0} → List Local → A × JudgementState → A × BodyState
 beside ls x = (x.0, (ls, x.1))
 
 -- a judgement that declares nothing

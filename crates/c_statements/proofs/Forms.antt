@@ -16,7 +16,7 @@ use Rattle.c_checks.specs.declared.env.Env.{Env}
 use Rattle.c_checks.specs.declared.notes.Notes.{Notes}
 use Rattle.c_checks.specs.Checks.{and_then, walk, Finds}
 use Rattle.c_checks.specs.Scopes.{enter, leave}
-use Rattle.c_judgements.specs.Types.{State}
+use Rattle.c_judgements.specs.Types.{JudgementState}
 use Rattle.c_statement_rules.specs.declared.jumps.Jumps.{Jumps}
 use Rattle.c_statement_rules.specs.Jumps.{no_jumps, in_switch}
 use Rattle.c_statement_rules.specs.Locals.{BodyState, beside, with_addressed}
@@ -33,7 +33,7 @@ block_done of j v list ys w new (Ok a) form same given =
     ap (λ z. statement of j z w) form ∙ (statement-Block of j list w ∙ (ap (λ l. statement_block of j l w) (sym same) ∙ given))
 block_done of j v list ys w new (Err e) form same given = tt
 
-pub switch_done : {E : Type 0} (of : Option CType) (j jumps : Jumps) (v : Stmt) (x : Expr) (list ys : List Section) (ls : List Local) (before behind : State) (o : Option SwitchValue) (new : BodyState) (r : Result (Option TStmt) E)
+pub switch_done : {E : Type 0} (of : Option CType) (j jumps : Jumps) (v : Stmt) (x : Expr) (list ys : List Section) (ls : List Local) (before behind : JudgementState) (o : Option SwitchValue) (new : BodyState) (r : Result (Option TStmt) E)
     → v ≡ s.Switch x list → ys ≡ list → jumps ≡ in_switch j → operand_of x before ≡ (o, behind) → Finds (switch_statement of jumps o ys (ls, behind)) r new → Finds (statement of j v (ls, before)) r new
 switch_done of j jumps v x list ys ls before behind o new (Ok a) form same inner operand given =
     ap (λ z. statement of j z (ls, before)) form ∙ (statement-Switch of j x list (ls, before)

@@ -15,7 +15,7 @@ use Rattle.c_checks.specs.declared.notes.Notes.{Notes}
 use Rattle.c_checks.specs.Checks.{and_then, walk}
 use Rattle.c_checks.specs.Notes.{with_taken}
 use Rattle.c_checks.specs.Scopes.{enter, leave}
-use Rattle.c_judgements.specs.Types.{State}
+use Rattle.c_judgements.specs.Types.{JudgementState}
 use Rattle.c_statement_rules.specs.declared.locals.NewLocal.{NewLocal}
 use Rattle.c_statement_rules.specs.Jumps.{no_jumps}
 use Rattle.c_statement_rules.specs.Locals.{BodyState, beside, parameter_named, parameter_declared, with_addressed}
@@ -76,7 +76,7 @@ abbrev pub without_addresses : Notes → Notes
 without_addresses n = with_taken [] n.texts n
 
 -- the locals whose address was taken are objects of memory
-abbrev pub function : Declaration → Option FunctionType → List Stmt → State → Option TypedFn × State
+abbrev pub function : Declaration → Option FunctionType → List Stmt → JudgementState → Option TypedFn × JudgementState
 function d of list s =
     and_then (declared_parameters of (parameters_of d.ty) ([], (enter s.0, s.1))) (λ sound u.
     and_then (walk (statement (result_of of) no_jumps) list (Some []) u) (λ found v. (

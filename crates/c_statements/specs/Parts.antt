@@ -22,7 +22,7 @@ use Rattle.c_primary_rules.specs.declared.switches.SwitchValue.{SwitchValue}
 use Rattle.c_checks.specs.declared.env.Env.{Env}
 use Rattle.c_checks.specs.Checks.{pure, and_then, each, both, walk}
 use Rattle.c_judgements.specs.Leaves.{leaf}
-use Rattle.c_judgements.specs.Types.{State, within}
+use Rattle.c_judgements.specs.Types.{JudgementState, within}
 use Rattle.c_expressions.specs.Expressions.{judge, derive}
 use Rattle.c_statement_rules.specs.declared.labels.Labels.{Labels}
 use Rattle.c_statement_rules.specs.declared.locals.NewLocal.{NewLocal}
@@ -33,31 +33,31 @@ use Rattle.c_statement_rules.specs.Forms.{there, first_value, first_locals}
 
 -- ---- expressions
 
-abbrev pub condition_of : Expr → State → Option TExpr × State
+abbrev pub condition_of : Expr → JudgementState → Option TExpr × JudgementState
 condition_of x s = and_then (judge x s) (λ a u. within u.0 (each a condition u.1))
 
-abbrev pub value_of : Expr → State → Option TExpr × State
+abbrev pub value_of : Expr → JudgementState → Option TExpr × JudgementState
 value_of x s = and_then (judge x s) (λ a. pure (option_map full_expression a))
 
-abbrev pub operand_of : Expr → State → Option SwitchValue × State
+abbrev pub operand_of : Expr → JudgementState → Option SwitchValue × JudgementState
 operand_of x s = and_then (judge x s) (λ a u. within u.0 (each a switch_operand u.1))
 
-abbrev pub optional_condition : Option Expr → State → Option (Option TExpr) × State
+abbrev pub optional_condition : Option Expr → JudgementState → Option (Option TExpr) × JudgementState
 optional_condition None s = (Some None, s)
 optional_condition (Some x) s = and_then (condition_of x s) (λ c. pure (there c))
 
-abbrev pub optional_value : Option Expr → State → Option (Option TExpr) × State
+abbrev pub optional_value : Option Expr → JudgementState → Option (Option TExpr) × JudgementState
 optional_value None s = (Some None, s)
 optional_value (Some x) s = and_then (value_of x s) (λ v. pure (there v))
 
 -- in a function of which the result has a type
-abbrev pub return_statement : Option CType → ℕ → Option Expr → State → Option TStmt × State
+abbrev pub return_statement : Option CType → ℕ → Option Expr → JudgementState → Option TStmt × JudgementState
 return_statement of at None s = within s.0 (each of (return_nothing at) s.1)
 return_statement of at (Some x) s = and_then (judge x s) (λ a u. within u.0 (both of a (return_value at) u.1))
 
 -- ---- locals. A specifier in a function has no body (6.7.2), and a name is in scope in its own initialiser (6.2.1)
 
-abbrev pub type_of : ℕ → TypeNode → State → Option DeclaredType × State
+abbrev pub type_of : ℕ → TypeNode → JudgementState → Option DeclaredType × JudgementState
 type_of at ty s = and_then (within s.0 (leaf s.0 at ty s.1)) (λ of. derive at ty of)
 
 abbrev pub initialiser_of : Option NewLocal → Option Expr → BodyState → Option TLocal × BodyState
@@ -77,10 +77,10 @@ first_of (g.Locals ds) s = and_then (walk local_of ds (Some []) s) (λ vs. pure 
 
 -- ---- labels, with those that stand before in the same `switch`
 
-abbrev pub with_env : {A : Type 0} → Env → A × LabelState → A × (Labels × State)
+abbrev pub with_env : {A : Type 0} → Env → A × LabelState → A × (Labels × JudgementState)
 with_env env x = (x.0, (x.1.0, (env, x.1.1)))
 
-abbrev pub label_of : Option IntegerType → Label → Labels × State → Option TLabel × (Labels × State)
+abbrev pub label_of : Option IntegerType → Label → Labels × JudgementState → Option TLabel × (Labels × JudgementState)
 label_of ty (l.Case at x) s =
     and_then (beside_labels s.0 (judge x s.1)) (λ a u. with_env u.1.0 (each a (case_label ty at) (u.0, u.1.1)))
 label_of ty (l.Default at) s = with_env s.1.0 (default_label at (s.0, s.1.1))

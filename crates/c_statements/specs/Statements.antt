@@ -11,7 +11,7 @@ use Rattle.c_typed_tree.specs.declared.statements.TStmt as t
 use Rattle.c_typed_tree.specs.declared.statements.TSection.{TSection}
 use Rattle.c_checks.specs.Checks.{pure, and_then, append_part}
 use Rattle.c_checks.specs.Scopes.{enter, leave}
-use Rattle.c_judgements.specs.Types.{State}
+use Rattle.c_judgements.specs.Types.{JudgementState}
 use Rattle.c_statement_rules.specs.declared.jumps.Jumps.{Jumps}
 use Rattle.c_statement_rules.specs.declared.labels.Labels.{Labels}
 use Rattle.c_statement_rules.specs.Jumps.{in_loop, in_switch, break_statement, continue_statement}
@@ -33,7 +33,7 @@ behind_scope w u = (u.0, (leave w.1.0.outside u.1.0, u.1.1))
 abbrev pub SwitchState : Type 0
 SwitchState = Labels × BodyState
 
-abbrev pub beside_locals : {A : Type 0} → SwitchState → A × (Labels × State) → A × SwitchState
+abbrev pub beside_locals : {A : Type 0} → SwitchState → A × (Labels × JudgementState) → A × SwitchState
 beside_locals w x = (x.0, (x.1.0, (w.1.0, x.1.1)))
 
 -- ---- statements, in a function of which the result has a type

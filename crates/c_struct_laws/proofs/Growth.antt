@@ -6,7 +6,7 @@ use Rattle.c_typed_tree.specs.declared.types.StructDef.{StructDef}
 use Rattle.c_typed_tree.specs.declared.types.Member.{Member}
 use Rattle.c_typed_tree.specs.Types.{PlainType, Void, Int, Pointer, Array, Struct}
 use Rattle.c_typed_tree.specs.View.{type_view}
-use Rattle.c_typed_tree.specs.Layout.{is_complete, is_object, size_of, align_of, aligned_up, LieFrom, end_from, greatest_align}
+use Rattle.c_typed_tree.specs.Layout.{is_complete, is_object, size_of, align_of, aligned_up, MembersLieFrom, end_from, greatest_align}
 use Rattle.c_typed_tree.specs.Typing.{is_type, depth_of, most_depth}
 use Rattle.c_typed_tree.specs.Lawful.{IsLawfulStruct, IsStruct, IsCompleteStruct, is_object_type, greatest_depth}
 use Rattle.c_type_laws.proofs.Truth.{no_true, front, back, also, three, along}
@@ -96,13 +96,13 @@ module _ (ds es : List StructDef) (g : Grow ds es) where
   types_stay (m ∷ ms) h =
       also (is_object_type es (type_view m.ty)) (list_all (λ (m : Member). is_object_type es (type_view m.ty)) ms) (object_type_stays (type_view m.ty) h.0) (types_stay ms h.1)
 
-  lie_stays : (end : ℕ) (ms : List Member) → AreMembers ms → LieFrom ds end ms → LieFrom es end ms
+  lie_stays : (end : ℕ) (ms : List Member) → AreMembers ms → MembersLieFrom ds end ms → MembersLieFrom es end ms
   lie_stays end [] h l = tt
   lie_stays end (m ∷ ms) h l =
       let own = type_view m.ty in
       let object = object_in own h.0 in (
         l.0 ∙ ap (λ a. aligned_up a end) (sym (same_align ds es g.known own object)),
-        subst (λ s. LieFrom es (m.offset + s) ms) (sym (known_size ds es g.known own object)) (lie_stays (m.offset + size_of ds own) ms h.1 l.1),
+        subst (λ s. MembersLieFrom es (m.offset + s) ms) (sym (known_size ds es g.known own object)) (lie_stays (m.offset + size_of ds own) ms h.1 l.1),
       )
 
   ends_stay : (end : ℕ) (ms : List Member) → AreMembers ms → end_from es end ms ≡ end_from ds end ms

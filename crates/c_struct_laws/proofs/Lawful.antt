@@ -8,7 +8,7 @@ use Rattle.c_typed_tree.specs.declared.types.StructDef.{StructDef}
 use Rattle.c_typed_tree.specs.declared.types.Member.{Member}
 use Rattle.c_typed_tree.specs.Types.{PlainType, Void, Int, Pointer, Array, Struct}
 use Rattle.c_typed_tree.specs.View.{type_view}
-use Rattle.c_typed_tree.specs.Layout.{is_object, size_of, align_of, struct_align, aligned_up, LieFrom, end_from, greatest_align}
+use Rattle.c_typed_tree.specs.Layout.{is_object, size_of, align_of, struct_align, aligned_up, MembersLieFrom, end_from, greatest_align}
 use Rattle.c_typed_tree.specs.Typing.{is_type, depth_of, struct_depth, most_depth}
 use Rattle.c_typed_tree.specs.Lawful.{IsLawfulStruct, is_object_type, greatest_depth}
 use Rattle.c_judgements.specs.Leaves.{incomplete}
@@ -64,12 +64,12 @@ module _ (ds es : List StructDef) (k : AreKnown ds es) where
       (along (λ d. nat_le d most_depth) (same_depth own (object_in f.ty h.0)) (back (is_object ds own) (is_deep_at_most ds most_depth f.ty) h.0)))
       (types_in (end_of ds end f) fs h.1 t.1)
 
-  lie_in : (end : ℕ) (fs : List Field) → AreMembers fs → LieFrom es end (members_from ds end fs)
+  lie_in : (end : ℕ) (fs : List Field) → AreMembers fs → MembersLieFrom es end (members_from ds end fs)
   lie_in end [] h = tt
   lie_in end (f ∷ fs) h =
       let own = type_view f.ty in (
         ap (λ a. aligned_up a end) (sym (same_align own (object_in f.ty h.0))),
-        subst (λ s. LieFrom es (place_of ds end f + s) (members_from ds (end_of ds end f) fs)) (sym (known_size ds es k own (object_in f.ty h.0))) (lie_in (end_of ds end f) fs h.1),
+        subst (λ s. MembersLieFrom es (place_of ds end f + s) (members_from ds (end_of ds end f) fs)) (sym (known_size ds es k own (object_in f.ty h.0))) (lie_in (end_of ds end f) fs h.1),
       )
 
   ends_in : (end : ℕ) (fs : List Field) → AreMembers fs → end_from es end (members_from ds end fs) ≡ end_behind ds end fs

@@ -2,14 +2,14 @@
 use Rattle.std.proofs.Common.{◌≡◌, ℕ, ◌+◌, max, Bool, true, false, cond, List, [], ◌∷◌, Option, Some, None, refl, sym, ap, subst, nat_le}
 use Rattle.data_object.specs.declared.TheConstants.{MOST_DATA}
 use Rattle.c_typed_tree.specs.declared.types.StructDef.{StructDef}
-use Rattle.c_typed_tree.specs.Layout.{LieFrom, IsLaidOut, end_from, greatest_align, aligned_up}
+use Rattle.c_typed_tree.specs.Layout.{MembersLieFrom, IsLaidOut, end_from, greatest_align, aligned_up}
 use Rattle.c_typed_tree.specs.Lawful.{greatest_depth}
 use Rattle.c_typed_tree.specs.Typing.{depth_of}
 use Rattle.c_typed_tree.specs.View.{type_view}
 use Rattle.c_struct_layout.specs.declared.fields.Field.{Field}
 use Rattle.c_struct_layout.specs.StructLayout.{end_of, members_from, end_behind, deepest, struct_with, struct_of}
 
-lies : (ds : List StructDef) (end : ℕ) (fs : List Field) → LieFrom ds end (members_from ds end fs)
+lies : (ds : List StructDef) (end : ℕ) (fs : List Field) → MembersLieFrom ds end (members_from ds end fs)
 lies ds end [] = tt
 lies ds end (f ∷ fs) = (refl, lies ds (end_of ds end f) fs)
 

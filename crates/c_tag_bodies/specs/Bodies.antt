@@ -6,7 +6,7 @@ use Rattle.c_tree.specs.declared.expressions.Expr.TheBlock as k
 use Rattle.c_declared_types.specs.declared.declared.DeclaredType.{DeclaredType}
 use Rattle.c_checks.specs.Checks.{and_then}
 use Rattle.c_judgements.specs.Leaves.{leaf}
-use Rattle.c_judgements.specs.Types.{State, within}
+use Rattle.c_judgements.specs.Types.{JudgementState, within}
 use Rattle.c_expressions.specs.Expressions.{derive}
 use Rattle.c_tag_bodies.specs.declared.members.Members.{Members}
 use Rattle.c_tag_bodies.specs.Enums.{behind, constant_row}
@@ -14,34 +14,34 @@ use Rattle.c_tag_bodies.specs.Members.{no_members, member_declared}
 use Rattle.c_tag_bodies.specs.Structs.{DefinedTags, with_body, enum_begun, struct_begun, struct_ended}
 
 -- the tags that have a body, the names in scope, and what was noted
-abbrev pub Scope : Type 0
-Scope = DefinedTags × State
+abbrev pub TagScope : Type 0
+TagScope = DefinedTags × JudgementState
 
-abbrev pub beside : {A : Type 0} → DefinedTags → A × State → A × Scope
+abbrev pub beside : {A : Type 0} → DefinedTags → A × JudgementState → A × TagScope
 beside ts x = (x.0, (ts, x.1))
 
 -- ---- the parts of a body, with what stands between them
 
-abbrev pub enum_entered : ℕ → (tag : Option (List ℕ)) → Scope → State
+abbrev pub enum_entered : ℕ → (tag : Option (List ℕ)) → TagScope → JudgementState
 enum_entered at tag s = (s.1.0, enum_begun s.0 at tag s.1.1)
 
-abbrev pub struct_entered : ℕ → (tag : Option (List ℕ)) → Scope → Option ℕ × Scope
+abbrev pub struct_entered : ℕ → (tag : Option (List ℕ)) → TagScope → Option ℕ × TagScope
 struct_entered at tag s = beside (with_body tag s.0) (within s.1.0 (struct_begun s.0 at tag s.1.1))
 
-abbrev pub struct_left : ℕ → (tag : Option (List ℕ)) → (number : Option ℕ) → Members × Scope → Scope
+abbrev pub struct_left : ℕ → (tag : Option (List ℕ)) → (number : Option ℕ) → Members × TagScope → TagScope
 struct_left at tag number w = (w.1.0, (w.1.1.0, struct_ended at tag number w.0 w.1.1.1))
 
 -- the type of what is declared, behind the bodies of its specifier
-abbrev pub type_behind : ℕ → t.TypeNode → Scope → Option DeclaredType × Scope
+abbrev pub type_behind : ℕ → t.TypeNode → TagScope → Option DeclaredType × TagScope
 type_behind at ty s = beside s.0 (and_then (within s.1.0 (leaf s.1.0 at ty s.1.1)) (λ of. derive at ty of))
 
-abbrev pub member_entered : ℕ → List ℕ → Members → Option DeclaredType × Scope → Members × Scope
+abbrev pub member_entered : ℕ → List ℕ → Members → Option DeclaredType × TagScope → Members × TagScope
 member_entered at name m r = beside r.1.0 (within r.1.1.0 (member_declared at name m r.0 r.1.1.1))
 
 -- ---- whatever declarator stands around the specifier
 
 unfoldable mutual
-  pub bodies : t.TypeNode → Scope → Scope
+  pub bodies : t.TypeNode → TagScope → TagScope
   bodies (t.Basic words) s = s
   bodies (t.Named name) s = s
   bodies (t.Enum' at tag constants) s = constants_held at tag constants s
@@ -50,21 +50,21 @@ unfoldable mutual
   bodies (t.Array' _ (k.more_of-TypeNode x k.end_of-TypeNode) length) s = bodies x s
   bodies (t.Takes' _ (k.more_of-TypeNode x k.end_of-TypeNode) _ parameters) s = bodies x s
 
-  pub constants_held : ℕ → (tag : Option (List ℕ)) → k.Held-TypeNode-Enum-2 → Scope → Scope
+  pub constants_held : ℕ → (tag : Option (List ℕ)) → k.Held-TypeNode-Enum-2 → TagScope → TagScope
   constants_held at tag k.TypeNode-Enum-2-None' s = s
   constants_held at tag (k.TypeNode-Enum-2-Some' _ constants) s =
       (with_body tag s.0, constant_row constants None (enum_entered at tag s))
 
-  pub members_held : ℕ → (tag : Option (List ℕ)) → k.Held-TypeNode-Struct-2 → Scope → Scope
+  pub members_held : ℕ → (tag : Option (List ℕ)) → k.Held-TypeNode-Struct-2 → TagScope → TagScope
   members_held at tag k.TypeNode-Struct-2-None' s = s
   members_held at tag (k.TypeNode-Struct-2-Some' _ members) s =
       behind (struct_entered at tag s) (λ number u. struct_left at tag number (member_row members (no_members, u)))
 
-  pub member_row : {m : _} → k.Row_of-Declaration m → Members × Scope → Members × Scope
+  pub member_row : {m : _} → k.Row_of-Declaration m → Members × TagScope → Members × TagScope
   member_row k.end_of-Declaration w = w
   member_row (k.more_of-Declaration at name ty rest) w =
       member_row rest (member_entered at name w.0 (type_behind at ty (bodies ty w.1)))
 
 -- the type of a declaration at file scope or of a member
-abbrev pub declared_type : ℕ → t.TypeNode → Scope → Option DeclaredType × Scope
+abbrev pub declared_type : ℕ → t.TypeNode → TagScope → Option DeclaredType × TagScope
 declared_type at ty s = type_behind at ty (bodies ty s)

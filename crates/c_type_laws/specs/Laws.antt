@@ -105,8 +105,8 @@ abbrev pub TakenIsTyped : Type 0
 TakenIsTyped = (c : Context) (to : CType) (a : TypedExpression) → IsTrue (is_fit c.structs (type_view to)) →
     IsTypedIn c a → IfOk (take_value to a) (IsOfType c (type_view to))
 
-abbrev pub ConditionIsTyped : Type 0
-ConditionIsTyped = (c : Context) (a : TypedExpression) → IsTypedIn c a → IfOk (condition_tree a) (IsTested c)
+abbrev pub ConditionTreeIsTyped : Type 0
+ConditionTreeIsTyped = (c : Context) (a : TypedExpression) → IsTypedIn c a → IfOk (condition_tree a) (IsTested c)
 
 abbrev pub SwitchedIsTyped : Type 0
 SwitchedIsTyped = (c : Context) (a : TypedExpression) → IsTypedIn c a → IfOk (switch_operand a) (IsSwitched c)

@@ -1,6 +1,6 @@
 //! The laws of rules, each the contract of a function that does nothing.
 
-ghost use Rattle.c_type_laws.specs.Laws.{UnaryIsTyped, BinaryIsTyped, AssignmentIsTyped, ChoiceIsTyped, StepIsTyped, CommaIsTyped, ElementIsTyped, FieldIsTyped, ArrowIsTyped, CastIsTyped, SizeIsTyped, SizeOfNameIsTyped, TakenIsTyped, ConditionIsTyped, SwitchedIsTyped, DecayedIsTyped, IntegerIsTyped, CharacterIsTyped, EnumeratorIsTyped, LocalIsTyped, ObjectIsTyped, CallIsTyped, LabelIsWord, GivenIsWord, NextIsWord};
+ghost use Rattle.c_type_laws.specs.Laws.{UnaryIsTyped, BinaryIsTyped, AssignmentIsTyped, ChoiceIsTyped, StepIsTyped, CommaIsTyped, ElementIsTyped, FieldIsTyped, ArrowIsTyped, CastIsTyped, SizeIsTyped, SizeOfNameIsTyped, TakenIsTyped, ConditionTreeIsTyped, SwitchedIsTyped, DecayedIsTyped, IntegerIsTyped, CharacterIsTyped, EnumeratorIsTyped, LocalIsTyped, ObjectIsTyped, CallIsTyped, LabelIsWord, GivenIsWord, NextIsWord};
 
 /// What an operator gives of operands that are well typed is well typed: it has its type, its operands were converted
 /// as its rule asks, and where it is a place, so is its tree.
@@ -26,7 +26,7 @@ pub fn conversions_give_typed_values()
     ensures sizes { SizeIsTyped }
     ensures names { SizeOfNameIsTyped }
     ensures values { TakenIsTyped }
-    ensures conditions { ConditionIsTyped }
+    ensures conditions { ConditionTreeIsTyped }
     ensures switches { SwitchedIsTyped }
     ensures decay { DecayedIsTyped }
 {}

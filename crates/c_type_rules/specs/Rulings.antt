@@ -15,7 +15,7 @@ abbrev pub refusal : ℕ → Kind → Refusal
 refusal at kind = r.Refused (record { at = at; kind = kind })
 
 -- what code answers for a rule, unless memory is short
-abbrev pub Gives : {A : Type 0} → Ruling A → Result A Refusal → Type 0
-Gives m (Ok a) = m ≡ Ok a
-Gives m (Err (r.Refused f)) = m ≡ Err f
-Gives m (Err r.NoMemory) = Unit {0}
+abbrev pub RuleGives : {A : Type 0} → Ruling A → Result A Refusal → Type 0
+RuleGives m (Ok a) = m ≡ Ok a
+RuleGives m (Err (r.Refused f)) = m ≡ Err f
+RuleGives m (Err r.NoMemory) = Unit {0}

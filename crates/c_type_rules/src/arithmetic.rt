@@ -2,7 +2,7 @@
 
 ghost use Rattle.std.specs.Prelude.{◌≡◌, IfOk};
 ghost use Rattle.c_type_rules.specs.Arithmetic as spec;
-ghost use Rattle.c_type_rules.specs.Rulings.{Gives};
+ghost use Rattle.c_type_rules.specs.Rulings.{RuleGives};
 ghost use Rattle.c_type_rules.specs.Values as values;
 
 use crate::refusal::{Refusal, refuse};
@@ -35,7 +35,7 @@ pub fn unary_arithmetic(
     op: UnaryOp,
     a: TypedExpression,
 ) -> Result<TypedExpression, Refusal>
-    ensures { Gives (spec.unary_arithmetic at op a) result }
+    ensures { RuleGives (spec.unary_arithmetic at op a) result }
 {
     match integer_of(&a.ty) {
         None => Err(refuse(at, Kind::BadOperand)),
@@ -70,7 +70,7 @@ pub fn arithmetic(
     a: TypedExpression,
     b: TypedExpression,
 ) -> Result<TypedExpression, Refusal>
-    ensures { Gives (spec.arithmetic at op a b) result }
+    ensures { RuleGives (spec.arithmetic at op a b) result }
 {
     match integer_of(&a.ty) {
         None => Err(refuse(at, Kind::BadOperand)),
@@ -107,7 +107,7 @@ pub fn shift(
     a: TypedExpression,
     b: TypedExpression,
 ) -> Result<TypedExpression, Refusal>
-    ensures { Gives (spec.shift at op a b) result }
+    ensures { RuleGives (spec.shift at op a b) result }
 {
     match integer_of(&a.ty) {
         None => Err(refuse(at, Kind::BadOperand)),
@@ -126,7 +126,7 @@ pub fn sum(
     a: TypedExpression,
     b: TypedExpression,
 ) -> Result<TypedExpression, Refusal>
-    ensures { Gives (spec.sum structs.now at a b) result }
+    ensures { RuleGives (spec.sum structs.now at a b) result }
 {
     if points_to_object(structs, &a.ty) {
         if is_integer(&b.ty) {
@@ -151,7 +151,7 @@ pub fn difference(
     a: TypedExpression,
     b: TypedExpression,
 ) -> Result<TypedExpression, Refusal>
-    ensures { Gives (spec.difference structs.now at a b) result }
+    ensures { RuleGives (spec.difference structs.now at a b) result }
 {
     if points_to_object(structs, &a.ty) {
         if is_integer(&b.ty) {

@@ -2,7 +2,7 @@
 
 ghost use Rattle.std.specs.Prelude.{◌≡◌};
 ghost use Rattle.c_type_rules.specs.Comparisons as spec;
-ghost use Rattle.c_type_rules.specs.Rulings.{Gives};
+ghost use Rattle.c_type_rules.specs.Rulings.{RuleGives};
 
 use crate::refusal::{Refusal, refuse};
 use crate::trees::{binary, binary_in, unary};
@@ -17,7 +17,7 @@ use std::alloc::Global;
 
 /// A condition. It stands as it is.
 pub fn condition(a: TypedExpression) -> Result<Box<TExpr>, Refusal>
-    ensures { Gives (spec.condition a) result }
+    ensures { RuleGives (spec.condition a) result }
 {
     if is_scalar(&a.ty) {
         return Ok(a.tree);
@@ -27,7 +27,7 @@ pub fn condition(a: TypedExpression) -> Result<Box<TExpr>, Refusal>
 
 /// `!`.
 pub fn negation(alloc: Global, at: u32, a: TypedExpression) -> Result<TypedExpression, Refusal>
-    ensures { Gives (spec.negation at a) result }
+    ensures { RuleGives (spec.negation at a) result }
 {
     if is_scalar(&a.ty) {
         let ty = integer_type(IntegerType::Int);
@@ -44,7 +44,7 @@ pub fn logical(
     a: TypedExpression,
     b: TypedExpression,
 ) -> Result<TypedExpression, Refusal>
-    ensures { Gives (spec.logical at op a b) result }
+    ensures { RuleGives (spec.logical at op a b) result }
 {
     if is_scalar(&a.ty) {
         if is_scalar(&b.ty) {
@@ -70,7 +70,7 @@ fn ordered_pointers(
     a: TypedExpression,
     b: TypedExpression,
 ) -> Result<TypedExpression, Refusal>
-    ensures { Gives (spec.ordered_pointers at op a b) result }
+    ensures { RuleGives (spec.ordered_pointers at op a b) result }
 {
     if are_pointers_of_one_type(&a, &b) {
         let ty = integer_type(IntegerType::Int);
@@ -87,7 +87,7 @@ pub fn comparison(
     a: TypedExpression,
     b: TypedExpression,
 ) -> Result<TypedExpression, Refusal>
-    ensures { Gives (spec.comparison at op a b) result }
+    ensures { RuleGives (spec.comparison at op a b) result }
 {
     match integer_of(&a.ty) {
         None => ordered_pointers(alloc, at, op, a, b),

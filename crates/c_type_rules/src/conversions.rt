@@ -4,7 +4,7 @@
 
 ghost use Rattle.std.specs.Prelude.{◌≡◌, IfOk};
 ghost use Rattle.c_type_rules.specs.Conversions as spec;
-ghost use Rattle.c_type_rules.specs.Rulings.{Gives};
+ghost use Rattle.c_type_rules.specs.Rulings.{RuleGives};
 
 use crate::refusal::{Refusal, refuse};
 use crate::trees::{binary_in, convert, convert_tree};
@@ -46,7 +46,7 @@ pub fn decay(alloc: Global, a: TypedExpression) -> Result<TypedExpression, Alloc
 }
 
 fn as_integer(alloc: Global, to: &CType, v: TypedExpression) -> Result<Box<TExpr>, Refusal>
-    ensures { Gives (spec.as_integer to.now v) result }
+    ensures { RuleGives (spec.as_integer to.now v) result }
 {
     if is_integer(&v.ty) {
         return Ok(convert(alloc, to, v.tree)?);
@@ -72,7 +72,7 @@ fn as_pointer(
     v: TypedExpression,
     null: bool,
 ) -> Result<Box<TExpr>, Refusal>
-    ensures { Gives (spec.as_pointer to.now v null) result }
+    ensures { RuleGives (spec.as_pointer to.now v null) result }
 {
     if is_taken_as_pointer(to, &v, null) {
         return Ok(convert(alloc, to, v.tree)?);
@@ -87,7 +87,7 @@ pub fn value_for_type(
     v: TypedExpression,
     null: bool,
 ) -> Result<Box<TExpr>, Refusal>
-    ensures { Gives (spec.value_for_type to.now v null) result }
+    ensures { RuleGives (spec.value_for_type to.now v null) result }
 {
     if is_same(to, &v.ty) {
         return Ok(v.tree);
@@ -137,7 +137,7 @@ pub fn cast(
     a: TypedExpression,
     null: bool,
 ) -> Result<TypedExpression, Refusal>
-    ensures { Gives (spec.cast at to a null) result }
+    ensures { RuleGives (spec.cast at to a null) result }
 {
     if is_castable(&to, &a, null) {
         return Ok(cast_tree(alloc, at, to, a.tree)?);
@@ -225,7 +225,7 @@ fn equal_pointers(
     b: TypedExpression,
     met: Option<CType>,
 ) -> Result<TypedExpression, Refusal>
-    ensures { Gives (spec.equal_pointers at op a b met) result }
+    ensures { RuleGives (spec.equal_pointers at op a b met) result }
 {
     match met {
         None => Err(refuse(at, Kind::BadOperand)),
@@ -246,7 +246,7 @@ pub fn equality(
     null_left: bool,
     null_right: bool,
 ) -> Result<TypedExpression, Refusal>
-    ensures { Gives (spec.equality at op a b null_left null_right) result }
+    ensures { RuleGives (spec.equality at op a b null_left null_right) result }
 {
     match integer_of(&a.ty) {
         None => {
@@ -301,7 +301,7 @@ fn choice_met(
     b: TypedExpression,
     met: Option<CType>,
 ) -> Result<TypedExpression, Refusal>
-    ensures { Gives (spec.choice_met at condition a b met) result }
+    ensures { RuleGives (spec.choice_met at condition a b met) result }
 {
     match met {
         None => Err(refuse(at, Kind::BadOperand)),
@@ -319,7 +319,7 @@ fn choice_apart(
     null_left: bool,
     null_right: bool,
 ) -> Result<TypedExpression, Refusal>
-    ensures { Gives (spec.choice_apart at condition a b null_left null_right) result }
+    ensures { RuleGives (spec.choice_apart at condition a b null_left null_right) result }
 {
     if is_same(&a.ty, &b.ty) {
         let ty = a.ty.copy(alloc)?;
@@ -339,7 +339,7 @@ pub fn choice(
     null_left: bool,
     null_right: bool,
 ) -> Result<TypedExpression, Refusal>
-    ensures { Gives (spec.choice at condition a b null_left null_right) result }
+    ensures { RuleGives (spec.choice at condition a b null_left null_right) result }
 {
     match integer_of(&a.ty) {
         None => choice_apart(alloc, at, condition, a, b, null_left, null_right),

@@ -140,7 +140,7 @@ abbrev pub unit_nodes : TypedUnit → ℕ
 unit_nodes u = sum_by function_nodes u.functions
 
 -- a lawful unit is a well typed one that numbers of 32 bits can name and a pass can count
-pub record IsLawful (u : TypedUnit) : Type 0 where
+pub record IsLawfulUnit (u : TypedUnit) : Type 0 where
   pub typed : IsTypedUnit u
   pub structs : length u.structs < 2 ^ 32
   pub functions : length u.functions < 2 ^ 32

@@ -60,10 +60,10 @@ aligned_up zero place = place
 aligned_up (suc a) place = (place + a) / suc a * suc a
 
 -- the members lie in order from an end on, each at the next multiple of its alignment
-abbrev pub LieFrom : List StructDef → (end : ℕ) → List Member → Type 0
-LieFrom ds end [] = Unit {0}
-LieFrom ds end (m ∷ ms) =
-    (m.offset ≡ aligned_up (align_of ds (type_view m.ty)) end) × LieFrom ds (m.offset + size_of ds (type_view m.ty)) ms
+abbrev pub MembersLieFrom : List StructDef → (end : ℕ) → List Member → Type 0
+MembersLieFrom ds end [] = Unit {0}
+MembersLieFrom ds end (m ∷ ms) =
+    (m.offset ≡ aligned_up (align_of ds (type_view m.ty)) end) × MembersLieFrom ds (m.offset + size_of ds (type_view m.ty)) ms
 
 -- the end of the last member
 abbrev pub end_from : List StructDef → (end : ℕ) → List Member → ℕ
@@ -77,7 +77,7 @@ greatest_align ds (m ∷ ms) = max (align_of ds (type_view m.ty)) (greatest_alig
 
 -- a complete struct has the size and the alignment that its members give it
 pub record IsLaidOut (ds : List StructDef) (d : StructDef) : Type 0 where
-  pub members : LieFrom ds 0 d.members
+  pub members : MembersLieFrom ds 0 d.members
   pub align : d.align ≡ greatest_align ds d.members
   pub size : d.size ≡ aligned_up d.align (end_from ds 0 d.members)
 

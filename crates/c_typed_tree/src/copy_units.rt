@@ -1,7 +1,7 @@
 //! Equal units.
 
 ghost use Rattle.std.specs.Prelude.{◌≡◌, IfOk};
-ghost use Rattle.c_typed_tree.specs.Lawful.{IsLawful};
+ghost use Rattle.c_typed_tree.specs.Lawful.{IsLawfulUnit};
 
 use crate::copy_statements::copy_stmt;
 use crate::{Local, Member, StructDef, TypedFn, TypedUnit};
@@ -137,7 +137,7 @@ fn copy_functions(alloc: Global, list: &Seq<TypedFn>) -> Result<Seq<TypedFn>, Al
 #[tactic(auto, using(crate::proofs::Copies::still_lawful))]
 pub fn copy_unit(alloc: Global, unit: &TypedUnit) -> Result<TypedUnit, AllocError>
     ensures equal { IfOk result (λ r. r ≡ unit.now) }
-    ensures lawful { IfOk result (λ r. IsLawful unit.now → IsLawful r) }
+    ensures lawful { IfOk result (λ r. IsLawfulUnit unit.now → IsLawfulUnit r) }
 {
     let structs = copy_structs(alloc, &unit.structs)?;
     let globals = copy_objects(alloc, &unit.globals)?;

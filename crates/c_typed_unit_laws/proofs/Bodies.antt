@@ -11,12 +11,12 @@ use Rattle.c_typed_tree.specs.declared.units.TypedUnit.{TypedUnit}
 use Rattle.c_typed_tree.specs.Lawful.{is_identifier, IsTypedFn}
 use Rattle.c_checks.specs.declared.env.Env.{Env}
 use Rattle.c_checks.specs.declared.notes.Notes.{Notes}
-use Rattle.c_judgements.specs.Types.{State}
+use Rattle.c_judgements.specs.Types.{JudgementState}
 use Rattle.c_statements.specs.declared.functions.FunctionType.{FunctionType}
 use Rattle.c_statements.specs.Functions.{function}
 use Rattle.c_declarations.specs.declared.walk.UnitFunction.{UnitFunction}
 use Rattle.c_declarations.specs.declared.walk.UnitSoFar.{UnitSoFar}
-use Rattle.c_declarations.specs.Walk.{Walk, with_names, object_at, add_numbered, next_object, add_object, fill_numbered, function_at, add_function}
+use Rattle.c_declarations.specs.Walk.{UnitWalk, with_names, object_at, add_numbered, next_object, add_object, fill_numbered, function_at, add_function}
 use Rattle.c_declarations.specs.Functions.{main_seen, function_declared}
 use Rattle.data_object.specs.declared.DataCell.{DataCell}
 use Rattle.c_judgement_laws.specs.Covers.{HasNames, HaveTexts, IsLawfulContext}
@@ -61,7 +61,7 @@ cells_typed : (typed : TypedUnit) (o : Option ℕ) (cells : List DataCell) (u : 
 cells_typed typed None cells u h = h
 cells_typed typed (Some number) cells u h = h
 
-module _ (ds : Definitions) (es : List External) (typed : TypedUnit) (end : State) (lawful : IsLawfulContext (context_with typed [])) (names : (locals : List Local) → HasNames (context_with typed locals) end.0)
+module _ (ds : Definitions) (es : List External) (typed : TypedUnit) (end : JudgementState) (lawful : IsLawfulContext (context_with typed [])) (names : (locals : List Local) → HasNames (context_with typed locals) end.0)
     (texts : (locals : List Local) → HaveTexts (context_with typed locals) end.1.first_text end.1.texts) where
   -- a body behind the declaration of its name
   body_typed : (e : Declaration) (of : FunctionType) (list : List Stmt) (f : TypedFn) (later : Env) (n : Notes) → IsGivenType n.structs (declared_as of) → (function e (Some of) list (later, n)).0 ≡ Some f → IsWellDeclared (later, n)
@@ -84,7 +84,7 @@ module _ (ds : Definitions) (es : List External) (typed : TypedUnit) (end : Stat
         count = count;
       })
 
-  pub steps_bodies : {w v : Walk} → WalkSteps ds es w v → IsWellDeclared w.1 → LeadsToEnd typed.structs end v.1 → AreTypedIn typed w.0.functions → AreTypedIn typed v.0.functions
+  pub steps_bodies : {w v : UnitWalk} → WalkSteps ds es w v → IsWellDeclared w.1 → LeadsToEnd typed.structs end v.1 → AreTypedIn typed w.0.functions → AreTypedIn typed v.0.functions
   steps_bodies Stays well h g = g
   steps_bodies (Follows one two) well h g = steps_bodies two ((steps_go ds one).declared well) h (steps_bodies one well (walk_before ds typed.structs end two h) g)
   steps_bodies (AddsConstant name word e k) well h g = g

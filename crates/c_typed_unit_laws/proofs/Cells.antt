@@ -19,12 +19,12 @@ use Rattle.c_checks.specs.declared.notes.Notes.{Notes}
 use Rattle.c_checks.specs.declared.meanings.NameMeaning.{NameMeaning}
 use Rattle.c_checks.specs.declared.meanings.NameMeaning.TheVariants as m
 use Rattle.c_checks.specs.Scopes.{meaning_of}
-use Rattle.c_judgements.specs.Types.{State}
+use Rattle.c_judgements.specs.Types.{JudgementState}
 use Rattle.c_globals.specs.declared.objects.UnitObject.{UnitObject}
 use Rattle.c_globals.specs.Globals.{with_cells, replace_cells, set_cells}
 use Rattle.c_initialisers.specs.Initialisers.{object_cells}
 use Rattle.c_declarations.specs.declared.walk.UnitSoFar.{UnitSoFar}
-use Rattle.c_declarations.specs.Walk.{Walk, with_names, object_by, object_at, add_numbered, next_object, add_object, fill_numbered, function_at, add_function}
+use Rattle.c_declarations.specs.Walk.{UnitWalk, with_names, object_by, object_at, add_numbered, next_object, add_object, fill_numbered, function_at, add_function}
 use Rattle.c_declarations.specs.Functions.{main_seen}
 use Rattle.c_declarations.specs.Objects.{object_declared}
 use Rattle.c_type_laws.specs.Typed.{may_be_memory}
@@ -33,7 +33,7 @@ use Rattle.c_judgement_laws.specs.Covers.{AreInMemory, HasNames, Knows, HaveText
 use Rattle.c_unit_object_laws.specs.CExpressionLaws.{HasScope}
 use Rattle.c_unit_object_laws.specs.CNoteLaws.{StandsFirst}
 use Rattle.c_unit_object_laws.proofs.Initialisers.{cells_steps}
-use Rattle.c_initial_value_laws.specs.Cells.{AreCells}
+use Rattle.c_initial_value_laws.specs.Cells.{AreInitialCells}
 use Rattle.c_initialiser_laws.specs.Laws.{HoldsBytes}
 use Rattle.c_initialiser_laws.proofs.Walks.{object_lawful}
 use Rattle.c_unit_object_laws.specs.Growth.{Grow}
@@ -44,11 +44,11 @@ use Rattle.c_object_count_laws.specs.Steps.{declared_as}
 use Rattle.c_global_laws.specs.Laws.{IsLawfulIn, AreLawfulIn}
 use Rattle.c_unit_object_laws.specs.Walks.{IsInitialiserIn, IsObjectType, WalkSteps, Stays, Follows, AddsConstant, AddsNotes, DeclaresType, DeclaresFunction, DefinesFunction, DeclaresObject, InitialisesObject}
 use Rattle.c_unit_object_laws.proofs.Texts.{stands_then}
-use Rattle.c_unit_object_laws.specs.Meanings.{Keeps, AgreesWith, HasTypes}
+use Rattle.c_unit_object_laws.specs.Meanings.{Keeps, MeaningAgrees, HasTypes}
 use Rattle.c_unit_object_laws.proofs.Names.{none_some, some_same, keeps_then, steps_mean}
 use Rattle.c_unit_object_laws.proofs.CUnitMeaningLawsTypes.{declared_types, steps_types}
 use Rattle.c_unit_object_laws.proofs.Functions.{agrees_here}
-use Rattle.c_unit_object_laws.specs.Meant.{GoesTo, IsOfType, HasObjects}
+use Rattle.c_unit_object_laws.specs.Meant.{GoesTo, ObjectIsOfType, HasObjects}
 use Rattle.c_unit_object_laws.proofs.Goes.{goes_steps, declared, object_plain, steps_go}
 use Rattle.c_unit_object_laws.proofs.Types.{object_stays}
 use Rattle.c_unit_object_laws.proofs.Objects.{declared_object, steps_objects}
@@ -57,13 +57,13 @@ use Rattle.c_typed_unit_laws.proofs.Contexts.{context_with, names_before, first_
 -- ---- what is known of the rest of a walk
 
 -- names keep their meanings to the end, structs grow to those of the unit, and texts stay first
-pub record LeadsToEnd (structs : List StructDef) (end s : State) : Type 0 where
+pub record LeadsToEnd (structs : List StructDef) (end s : JudgementState) : Type 0 where
   pub keeps : Keeps s.0 end.0
   pub grow : Grow s.1.structs structs
   pub texts : StandsFirst s.1.texts end.1.texts
   pub first : end.1.first_text ≡ s.1.first_text
 
-pub end_before : (structs : List StructDef) (end s u : State) → Keeps s.0 u.0 → GoesTo s u → LeadsToEnd structs end u → LeadsToEnd structs end s
+pub end_before : (structs : List StructDef) (end s u : JudgementState) → Keeps s.0 u.0 → GoesTo s u → LeadsToEnd structs end u → LeadsToEnd structs end s
 end_before structs end s u keeps goes h = record {
   keeps = keeps_then s.0 u.0 end.0 keeps h.keeps;
   grow = grow_then s.1.structs u.1.structs structs goes.grow h.grow;
@@ -71,21 +71,21 @@ end_before structs end s u keeps goes h = record {
   first = h.first ∙ goes.first;
 }
 
-pub walk_before : (ds : Definitions) {es : List External} (structs : List StructDef) (end : State) {w v : Walk} → WalkSteps ds es w v → LeadsToEnd structs end v.1 → LeadsToEnd structs end w.1
+pub walk_before : (ds : Definitions) {es : List External} (structs : List StructDef) (end : JudgementState) {w v : UnitWalk} → WalkSteps ds es w v → LeadsToEnd structs end v.1 → LeadsToEnd structs end w.1
 walk_before ds structs end {w = w} {v = v} steps h = end_before structs end w.1 v.1 (steps_mean ds steps) (steps_go ds steps) h
 
 -- what a context has at the end it has before
-pub texts_before : (x : Context) (end s : State) → LeadsToEnd x.structs end s → HaveTexts x end.1.first_text end.1.texts → HaveTexts x s.1.first_text s.1.texts
+pub texts_before : (x : Context) (end s : JudgementState) → LeadsToEnd x.structs end s → HaveTexts x end.1.first_text end.1.texts → HaveTexts x s.1.first_text s.1.texts
 texts_before x end s h texts =
     subst (λ n. HaveTexts x n s.1.texts) h.first (first_texts x end.1.first_text s.1.texts h.texts.more (subst (λ ts. HaveTexts x end.1.first_text ts) h.texts.same texts))
 
-pub scope_before : (x : Context) (end s : State) → LeadsToEnd x.structs end s → HasNames x end.0 → IsWellDeclared s → HasScope x s
+pub scope_before : (x : Context) (end s : JudgementState) → LeadsToEnd x.structs end s → HasNames x end.0 → IsWellDeclared s → HasScope x s
 scope_before x end s h names declared = record {
   names = names_before x s.0 end.0 h.keeps names;
   typedefs = typedefs_grow (of_structs s.1.structs) x h.grow s.0.names declared.typedefs;
 }
 
-pub known_before : (x : Context) (end s : State) → LeadsToEnd x.structs end s → IsWellDeclared s → Knows x s.1
+pub known_before : (x : Context) (end s : JudgementState) → LeadsToEnd x.structs end s → IsWellDeclared s → Knows x s.1
 known_before x end s h declared = noted_known x s.1 declared.noted h.grow
 
 -- ---- lists of objects
@@ -94,7 +94,7 @@ more_lawful : (structs : List StructDef) (all : List DataObject) (os : List Unit
 more_lawful structs all [] o h g = (g, tt)
 more_lawful structs all (x ∷ os) o h g = (h.0, more_lawful structs all os o h.1 g)
 
-set_lawful : (structs : List StructDef) (all : List DataObject) (os : List UnitObject) (n : ℕ) (o : UnitObject) (cells : List DataCell) → slice_get os n ≡ Some o → AreCells all (size_of structs (type_view o.ty)) cells → AreLawfulIn structs all os → AreLawfulIn structs all (slice_set os n (with_cells cells o))
+set_lawful : (structs : List StructDef) (all : List DataObject) (os : List UnitObject) (n : ℕ) (o : UnitObject) (cells : List DataCell) → slice_get os n ≡ Some o → AreInitialCells all (size_of structs (type_view o.ty)) cells → AreLawfulIn structs all os → AreLawfulIn structs all (slice_set os n (with_cells cells o))
 set_lawful structs all [] n o cells e g h = none_some e
 set_lawful structs all (x ∷ os) zero o cells e g h = (record { type = own.type; object = own.object; cells = g }, h.1)
   where
@@ -102,14 +102,14 @@ set_lawful structs all (x ∷ os) zero o cells e g h = (record { type = own.type
     own = subst (IsLawfulIn structs all) (some_same e) h.0
 set_lawful structs all (x ∷ os) (suc n) o cells e g h = (h.0, set_lawful structs all os n o cells e g h.1)
 
-cells_lawful : (structs : List StructDef) (all : List DataObject) (os : List UnitObject) (n : ℕ) (ty : CType) (cells : List DataCell) → IsOfType (slice_get os n) ty → AreCells all (size_of structs (type_view ty)) cells → AreLawfulIn structs all os → AreLawfulIn structs all (set_cells n cells os)
+cells_lawful : (structs : List StructDef) (all : List DataObject) (os : List UnitObject) (n : ℕ) (ty : CType) (cells : List DataCell) → ObjectIsOfType (slice_get os n) ty → AreInitialCells all (size_of structs (type_view ty)) cells → AreLawfulIn structs all os → AreLawfulIn structs all (set_cells n cells os)
 cells_lawful structs all os n ty cells of g h = by (slice_get os n) refl of
   where
-    by : (o : Option UnitObject) → slice_get os n ≡ o → IsOfType o ty → AreLawfulIn structs all (replace_cells n cells o os)
+    by : (o : Option UnitObject) → slice_get os n ≡ o → ObjectIsOfType o ty → AreLawfulIn structs all (replace_cells n cells o os)
     by None e of = absurd of
-    by (Some o) e of = set_lawful structs all os n o cells e (subst (λ v. AreCells all (size_of structs v) cells) (sym of) g) h
+    by (Some o) e of = set_lawful structs all os n o cells e (subst (λ v. AreInitialCells all (size_of structs v) cells) (sym of) g) h
 
-no_cells : (all : List DataObject) (n : ℕ) → AreCells all n []
+no_cells : (all : List DataObject) (n : ℕ) → AreInitialCells all n []
 no_cells all n = record { within = least n; lawful = λ at c e. none_some e }
   where
     least : (n : ℕ) → 0 ≤ n
@@ -130,13 +130,13 @@ added_lawful structs all (Some number) name ty u new h = next (number == length 
     next false = h
 
 -- the object that the name means gets the cells
-filled_lawful : (structs : List StructDef) (all : List DataObject) (ty : CType) (cells : List DataCell) (u : UnitSoFar) (o : Option NameMeaning) → ((k : ℕ) (of : CType) → o ≡ Some (m.Object k of) → IsOfType (slice_get u.objects k) of) → AgreesWith (d.Value ty) o
-    → AreCells all (size_of structs (type_view ty)) cells → AreLawfulIn structs all u.objects → AreLawfulIn structs all (fill_numbered (object_by o) cells u).objects
+filled_lawful : (structs : List StructDef) (all : List DataObject) (ty : CType) (cells : List DataCell) (u : UnitSoFar) (o : Option NameMeaning) → ((k : ℕ) (of : CType) → o ≡ Some (m.Object k of) → ObjectIsOfType (slice_get u.objects k) of) → MeaningAgrees (d.Value ty) o
+    → AreInitialCells all (size_of structs (type_view ty)) cells → AreLawfulIn structs all u.objects → AreLawfulIn structs all (fill_numbered (object_by o) cells u).objects
 filled_lawful structs all ty cells u None f agrees g h = h
 filled_lawful structs all ty cells u (Some m.Faulty) f agrees g h = h
 filled_lawful structs all ty cells u (Some (m.Undefined number)) f agrees g h = h
 filled_lawful structs all ty cells u (Some (m.Local number of)) f agrees g h = h
-filled_lawful structs all ty cells u (Some (m.Object k of)) f agrees g h = cells_lawful structs all u.objects k of cells (f k of refl) (subst (λ v. AreCells all (size_of structs v) cells) agrees g) h
+filled_lawful structs all ty cells u (Some (m.Object k of)) f agrees g h = cells_lawful structs all u.objects k of cells (f k of refl) (subst (λ v. AreInitialCells all (size_of structs v) cells) agrees g) h
 filled_lawful structs all ty cells u (Some (m.Constant word)) f agrees g h = h
 filled_lawful structs all ty cells u (Some (m.Function callee of tys)) f agrees g h = h
 filled_lawful structs all ty cells u (Some (m.Typedef of)) f agrees g h = h
@@ -151,14 +151,14 @@ no_locals : (x : Context) (numbers : List ℕ) → x.locals ≡ [] → AreInMemo
 no_locals x [] e = tt
 no_locals x (n ∷ numbers) e = (subst (λ ls. IsTrue (may_be_memory (slice_get ls n))) (sym e) refl, no_locals x numbers e)
 
-module _ (ds : Definitions) (es : List External) (typed : TypedUnit) (end : State) (lawful : IsLawfulContext (context_with typed [])) (names : HasNames (context_with typed []) end.0)
+module _ (ds : Definitions) (es : List External) (typed : TypedUnit) (end : JudgementState) (lawful : IsLawfulContext (context_with typed [])) (names : HasNames (context_with typed []) end.0)
     (texts : HaveTexts (context_with typed []) end.1.first_text end.1.texts) (bytes : (x : Init) → IsInitialiserIn x es → HoldsBytes x) where
   abbrev here : Context
   here = context_with typed []
 
   -- the cells that an initialiser gives
   given_cells : (ty : CType) (x : Init) (later : Env) (n : Notes) → IsInitialiserIn x es → IsObjectType n.structs ty → IsWellDeclared (later, n) → LeadsToEnd typed.structs end (later, (object_cells ty x (later, n)).1.1)
-      → IfSome (object_cells ty x (later, n)).0 (AreCells typed.globals (size_of typed.structs (type_view ty)))
+      → IfSome (object_cells ty x (later, n)).0 (AreInitialCells typed.globals (size_of typed.structs (type_view ty)))
   given_cells ty x later n listed object well h =
       let behind = (object_cells ty x (later, n)).1.1 in
       let goes = goes_steps later n behind (cells_steps ty x (later, n)) in
@@ -173,7 +173,7 @@ module _ (ds : Definitions) (es : List External) (typed : TypedUnit) (end : Stat
         takes = record { locals = no_locals here behind.addressed refl; objects = texts_before here end (later, behind) h texts };
       })
 
-  pub steps_cells : {w v : Walk} → WalkSteps ds es w v → IsWellDeclared w.1 → HasTypes w.0.names w.1.0 → HasObjects w.0 w.1.0 → LeadsToEnd typed.structs end v.1 → AreLawfulIn typed.structs typed.globals w.0.objects → AreLawfulIn typed.structs typed.globals v.0.objects
+  pub steps_cells : {w v : UnitWalk} → WalkSteps ds es w v → IsWellDeclared w.1 → HasTypes w.0.names w.1.0 → HasObjects w.0 w.1.0 → LeadsToEnd typed.structs end v.1 → AreLawfulIn typed.structs typed.globals w.0.objects → AreLawfulIn typed.structs typed.globals v.0.objects
   steps_cells Stays well types os h g = g
   steps_cells (Follows one two) well types os h g =
       steps_cells two ((steps_go ds one).declared well) (steps_types ds one types) (steps_objects ds one os) h (steps_cells one well types os (walk_before ds typed.structs end two h) g)
@@ -193,4 +193,4 @@ module _ (ds : Definitions) (es : List External) (typed : TypedUnit) (end : Stat
       let added = added_lawful typed.structs typed.globals (object_at later name) name ty (with_names names u) (new_lawful n.structs typed.structs typed.globals name ty grow k) g in
       let objects = declared_object ds name ty true u r os in
       filled_lawful typed.structs typed.globals ty cells (add_object later name ty (with_names names u)) (meaning_of later name) (λ j of e. objects.objects name j of e) (agrees_here ds name (object_declared ty true) r (declared_types ds name (object_declared ty true) r types))
-      (subst (λ (o : Option (List DataCell)). IfSome o (AreCells typed.globals (size_of typed.structs (type_view ty)))) made (given_cells ty x later n listed k there h)) added
+      (subst (λ (o : Option (List DataCell)). IfSome o (AreInitialCells typed.globals (size_of typed.structs (type_view ty)))) made (given_cells ty x later n listed k there h)) added

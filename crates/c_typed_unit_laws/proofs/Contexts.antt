@@ -24,20 +24,20 @@ use Rattle.c_checks.specs.declared.meanings.NameMeaning.TheVariants as m
 use Rattle.c_checks.specs.Scopes.{meaning_of}
 use Rattle.c_globals.specs.declared.objects.UnitObject.{UnitObject}
 use Rattle.c_globals.specs.Globals.{text_at, globals}
-use Rattle.c_tag_bodies.specs.Bodies.{Scope}
+use Rattle.c_tag_bodies.specs.Bodies.{TagScope}
 use Rattle.c_declarations.specs.declared.walk.UnitFunction.{UnitFunction}
 use Rattle.c_declarations.specs.declared.walk.UnitSoFar.{UnitSoFar}
 use Rattle.c_type_laws.proofs.Truth.{front, back, also}
-use Rattle.c_judgement_laws.specs.Covers.{IsMeaningIn, IsNameIn, HasNames, HasText, HaveTexts}
+use Rattle.c_judgement_laws.specs.Covers.{IsMeaningIn, IsNameIn, HasNames, IsTextObject, HaveTexts}
 use Rattle.c_judgement_laws.proofs.Structs.{object_depth, object_fits}
 use Rattle.c_unit_object_laws.specs.Notes.{of_structs}
-use Rattle.c_global_laws.specs.Laws.{HasTextObject, AreTexts}
+use Rattle.c_global_laws.specs.Laws.{HasTextObject, AreNotedTexts}
 use Rattle.c_global_laws.proofs.Places.{all_there}
 use Rattle.c_unit_object_laws.specs.Meanings.{Keeps, IsNamed, AreNamed, HasNamedFunctions}
 use Rattle.c_unit_object_laws.proofs.Names.{none_some, some_same}
-use Rattle.c_unit_object_laws.specs.Meant.{IsOwnType, IsMeant, AreMeant, IsOfType, HasObjects}
+use Rattle.c_unit_object_laws.specs.Meant.{IsOwnType, IsMeant, AreMeant, ObjectIsOfType, HasObjects}
 use Rattle.c_unit_object_laws.proofs.Types.{result_fits, result_plain, parameters_fit}
-use Rattle.c_typed_unit_laws.specs.Made.{IsMadeOf}
+use Rattle.c_typed_unit_laws.specs.Made.{TypedIsMadeOf}
 
 -- what the numbers in a unit name, with these locals
 abbrev pub context_with : TypedUnit → List Local → Context
@@ -78,14 +78,14 @@ named_at env (x ∷ gs) (suc k) g h e = named_at env gs k g h.1 e
 -- ---- objects
 
 -- the object that a name means has its size
-object_named : (structs : List StructDef) (os : List UnitObject) (texts : List (List ℕ)) (k : ℕ) (ty : CType) → IsTrue (is_object_type structs (type_view ty)) → IsOfType (slice_get os k) ty
+object_named : (structs : List StructDef) (os : List UnitObject) (texts : List (List ℕ)) (k : ℕ) (ty : CType) → IsTrue (is_object_type structs (type_view ty)) → ObjectIsOfType (slice_get os k) ty
     → IsTrue (has_global_type structs (slice_get (globals structs os texts) k) (type_view ty))
 object_named structs os texts k ty lawful of = by (slice_get os k) refl of
   where
     object : IsTrue (is_object structs (type_view ty))
     object = back (is_type structs (type_view ty)) (is_object structs (type_view ty)) (front (is_type structs (type_view ty) && is_object structs (type_view ty)) (nat_le (depth_of structs (type_view ty)) most_depth) lawful)
 
-    by : (o : Option UnitObject) → slice_get os k ≡ o → IsOfType o ty → IsTrue (has_global_type structs (slice_get (globals structs os texts) k) (type_view ty))
+    by : (o : Option UnitObject) → slice_get os k ≡ o → ObjectIsOfType o ty → IsTrue (has_global_type structs (slice_get (globals structs os texts) k) (type_view ty))
     by None e h = absurd h
     by (Some o) e h =
         let at = (all_there structs os texts).objects k o e in
@@ -109,7 +109,7 @@ same_result e = (first e, second e)
     second : {k n : ℕ} {of also : CType} {tys others : List CType} → m.Function (c.Function k) of tys ≡ m.Function (c.Function n) also others → tys ≡ others
     second e = cc
 
-module _ (s : UnitSoFar × Scope) (typed : TypedUnit) (made : IsMadeOf s typed) (locals : List Local) where
+module _ (s : UnitSoFar × TagScope) (typed : TypedUnit) (made : TypedIsMadeOf s typed) (locals : List Local) where
   abbrev here : Context
   here = context_with typed locals
 
@@ -186,7 +186,7 @@ text_object structs n o some small size =
     once n = omega arith
 
 -- a list of texts whose objects are there by their numbers
-have_texts : (x : Context) (number : ℕ) (texts : List (List ℕ)) → AreTexts texts → ((k : ℕ) (text : List ℕ) → slice_get texts k ≡ Some text → HasTextObject x.globals (number + k) text) → HaveTexts x number texts
+have_texts : (x : Context) (number : ℕ) (texts : List (List ℕ)) → AreNotedTexts texts → ((k : ℕ) (text : List ℕ) → slice_get texts k ≡ Some text → HasTextObject x.globals (number + k) text) → HaveTexts x number texts
 have_texts x number [] h f = tt
 have_texts x number (text ∷ texts) h f = (own, have_texts x (1 + number) texts h.1 (λ k t e. subst (λ n. HasTextObject x.globals n t) (one_more number k) (f (suc k) t e)))
   where
@@ -196,13 +196,13 @@ have_texts x number (text ∷ texts) h f = (own, have_texts x (1 + number) texts
     none_more : (n : ℕ) → n + 0 ≡ n
     none_more n = omega arith
 
-    own : HasText x number (length text)
+    own : IsTextObject x number (length text)
     own =
         let at = f zero text refl in
         subst (λ o. IsTrue (has_global_type x.structs o (type_view (text_type (length text))))) (sym (ap (slice_get x.globals) (sym (none_more number)) ∙ at.there))
         (text_object x.structs (length text) (text_at at.end text) (le-leb 1 (length text) h.0.some) (le-leb (length text) MOST_DATA h.0.small) refl)
 
-pub texts_there : (s : UnitSoFar × Scope) (typed : TypedUnit) → IsMadeOf s typed → (locals : List Local) → AreTexts s.1.1.1.texts → HaveTexts (context_with typed locals) (length s.0.objects) s.1.1.1.texts
+pub texts_there : (s : UnitSoFar × TagScope) (typed : TypedUnit) → TypedIsMadeOf s typed → (locals : List Local) → AreNotedTexts s.1.1.1.texts → HaveTexts (context_with typed locals) (length s.0.objects) s.1.1.1.texts
 texts_there s typed made locals h =
     have_texts (context_with typed locals) (length s.0.objects) s.1.1.1.texts h
     (λ k text e. subst (λ gs. HasTextObject gs (length s.0.objects + k) text) (sym made.globals) ((all_there s.1.1.1.structs s.0.objects s.1.1.1.texts).strings k text e))

@@ -16,12 +16,12 @@ use Rattle.c_checks.specs.declared.env.Env.{Env}
 use Rattle.c_checks.specs.declared.meanings.NameMeaning.{NameMeaning}
 use Rattle.c_checks.specs.declared.meanings.NameMeaning.TheVariants as m
 use Rattle.c_checks.specs.Scopes.{meaning_of}
-use Rattle.c_tag_bodies.specs.Bodies.{Scope}
+use Rattle.c_tag_bodies.specs.Bodies.{TagScope}
 use Rattle.c_declarations.specs.declared.walk.UnitSoFar.{UnitSoFar}
 use Rattle.c_type_laws.proofs.Truth.{also}
 use Rattle.c_unit_object_laws.specs.Meanings.{IsStart, IsNamed, HasNamedFunctions}
 use Rattle.c_unit_object_laws.proofs.Names.{none_some, some_same}
-use Rattle.c_typed_unit_laws.specs.Made.{IsMadeOf}
+use Rattle.c_typed_unit_laws.specs.Made.{TypedIsMadeOf}
 use Rattle.c_typed_unit_laws.proofs.Contexts.{kept_name, function_of}
 
 -- ---- lists of functions
@@ -107,7 +107,7 @@ same_function e = (first e, second e, third e)
     third : {k n : ℕ} {of also : CType} {tys others : List CType} → m.Function (c.Function k) of tys ≡ m.Function (c.Function n) also others → tys ≡ others
     third e = cc
 
-pub has_main : (s : UnitSoFar × Scope) (typed : TypedUnit) → IsMadeOf s typed → HasNamedFunctions s.0 s.1.1.0 → IsTrue s.0.has_main → ((k : ℕ) (f : TypedFn) → slice_get typed.functions k ≡ Some f → f.params ≤ length f.locals) → HasMain typed
+pub has_main : (s : UnitSoFar × TagScope) (typed : TypedUnit) → TypedIsMadeOf s typed → HasNamedFunctions s.0 s.1.1.0 → IsTrue s.0.has_main → ((k : ℕ) (f : TypedFn) → slice_get typed.functions k ≡ Some f → f.params ≤ length f.locals) → HasMain typed
 has_main s typed made fs main within =
     let means = start_means (meaning_of s.1.1.0 (codes "main")) (fs.main main) in
     let at = function_of s typed made [] fs (codes "main") means.k means.of means.tys means.is in

@@ -14,7 +14,7 @@ use Rattle.c_typed_tree.specs.declared.units.TypedUnit.{TypedUnit}
 use Rattle.c_typed_tree.specs.Lawful.{is_identifier, IsLawfulStruct, IsTypedFn, IsTypedUnit}
 use Rattle.c_checks.specs.declared.notes.Notes.{Notes}
 use Rattle.c_globals.specs.Globals.{globals}
-use Rattle.c_tag_bodies.specs.Bodies.{Scope}
+use Rattle.c_tag_bodies.specs.Bodies.{TagScope}
 use Rattle.c_declarations.specs.declared.walk.UnitFunction.{UnitFunction}
 use Rattle.c_declarations.specs.declared.walk.UnitSoFar.{UnitSoFar}
 use Rattle.c_unit_object_laws.specs.Externals.{externals}
@@ -28,7 +28,7 @@ use Rattle.c_unit_object_laws.proofs.CUnitStructLawsUnits.{unit_declared}
 use Rattle.c_object_count_laws.proofs.Units.{objects_counted}
 use Rattle.c_function_name_laws.proofs.Names.{unit_names}
 use Rattle.c_layout_laws.proofs.Truth.{all_at}
-use Rattle.c_global_laws.specs.Laws.{AreTexts, AreLawfulIn}
+use Rattle.c_global_laws.specs.Laws.{AreNotedTexts, AreLawfulIn}
 use Rattle.c_global_laws.proofs.Lawful.{all_lawful}
 use Rattle.c_unit_object_laws.specs.Walks.{WalkSteps}
 use Rattle.c_unit_object_laws.proofs.Texts.{stands_itself}
@@ -41,7 +41,7 @@ use Rattle.c_unit_object_laws.proofs.Goes.{steps_go}
 use Rattle.c_unit_object_laws.proofs.Meant.{start_meant, steps_meant}
 use Rattle.c_unit_object_laws.proofs.Objects.{start_objects, steps_objects}
 use Rattle.unit_counts.specs.Counts.{has_few_locals, CanBeCounted}
-use Rattle.c_typed_unit_laws.specs.Made.{IsMadeOf, HaveBytes, IsSpelled}
+use Rattle.c_typed_unit_laws.specs.Made.{TypedIsMadeOf, HaveBytes, IsSpelled}
 use Rattle.c_typed_unit_laws.proofs.Contexts.{context_with, names_there, texts_there}
 use Rattle.c_typed_unit_laws.proofs.Mains.{has_main}
 use Rattle.c_typed_unit_laws.proofs.Cells.{LeadsToEnd, steps_cells}
@@ -64,7 +64,7 @@ few_locals (x ∷ fs) zero f h e = ltb-true (length f.locals) (2 ^ 32) (subst (�
 few_locals (x ∷ fs) (suc k) f h e = few_locals fs k f (back (has_few_locals x) (list_all has_few_locals fs) h) e
 
 -- texts of bytes that have a size
-all_texts : (texts : List (List ℕ)) → HaveBytes texts → IsTrue (list_all is_sized texts) → AreTexts texts
+all_texts : (texts : List (List ℕ)) → HaveBytes texts → IsTrue (list_all is_sized texts) → AreNotedTexts texts
 all_texts [] h k = tt
 all_texts (text ∷ texts) h k =
     let own = front (is_sized text) (list_all is_sized texts) k in (
@@ -88,11 +88,11 @@ end_texts size false n = refl
 
 -- ---- whole units
 
-module _ (unit : TranslationUnit) (typed : TypedUnit) (clean : (whole_unit unit).1.1.1.faults ≡ []) (made : IsMadeOf (whole_unit unit) typed) (spelled : IsSpelled unit) (counted : CanBeCounted typed) where
+module _ (unit : TranslationUnit) (typed : TypedUnit) (clean : (whole_unit unit).1.1.1.faults ≡ []) (made : TypedIsMadeOf (whole_unit unit) typed) (spelled : IsSpelled unit) (counted : CanBeCounted typed) where
   abbrev ds : Definitions
   ds = definitions unit.externals
 
-  abbrev behind : UnitSoFar × Scope
+  abbrev behind : UnitSoFar × TagScope
   behind = externals ds unit.externals (start ds)
 
   walk : WalkSteps ds unit.externals ((start ds).0, (start ds).1.1) (behind.0, behind.1.1)
@@ -105,7 +105,7 @@ module _ (unit : TranslationUnit) (typed : TypedUnit) (clean : (whole_unit unit)
   same_texts = end_texts unit.length behind.0.has_main behind.1.1.1
 
   -- behind the last declaration
-  made_behind : IsMadeOf behind typed
+  made_behind : TypedIsMadeOf behind typed
   made_behind = record {
     structs = made.structs ∙ same_structs;
     globals = made.globals ∙ (ap (λ d. globals d behind.0.objects (whole_unit unit).1.1.1.texts) same_structs ∙ ap (λ t. globals behind.1.1.1.structs behind.0.objects t) same_texts);
@@ -132,7 +132,7 @@ module _ (unit : TranslationUnit) (typed : TypedUnit) (clean : (whole_unit unit)
   first_is : length behind.0.objects ≡ behind.1.1.1.first_text
   first_is = objects.count ∙ (objects_counted unit clean ∙ sym (steps_go ds walk).first)
 
-  texts_are : AreTexts behind.1.1.1.texts
+  texts_are : AreNotedTexts behind.1.1.1.texts
   texts_are = all_texts behind.1.1.1.texts (subst HaveBytes same_texts spelled.texts) ((steps_go ds walk).sized refl)
 
   texts : (locals : List Local) → HaveTexts (context_with typed locals) behind.1.1.1.first_text behind.1.1.1.texts

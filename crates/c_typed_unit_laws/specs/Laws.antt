@@ -6,9 +6,10 @@ use Rattle.c_typed_tree.specs.declared.units.TypedUnit.{TypedUnit}
 use Rattle.c_typed_tree.specs.Lawful.{IsTypedUnit}
 use Rattle.c_unit_object_laws.specs.Units.{whole_unit, faults_of}
 use Rattle.unit_counts.specs.Counts.{CanBeCounted}
-use Rattle.c_typed_unit_laws.specs.Made.{IsMadeOf, IsSpelled}
+use Rattle.c_typed_unit_laws.specs.Made.{TypedIsMadeOf, IsSpelled}
 
 abbrev pub MadeUnitsAreTyped : Type 0
 MadeUnitsAreTyped =
-    (unit : TranslationUnit) (typed : TypedUnit) → head (faults_of unit) ≡ None → IsMadeOf (whole_unit unit) typed →
+    (unit : TranslationUnit) (typed : TypedUnit) → head (faults_of unit) ≡ None →
+    TypedIsMadeOf (whole_unit unit) typed →
     IsSpelled unit → CanBeCounted typed → IsTypedUnit typed

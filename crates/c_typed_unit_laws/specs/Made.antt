@@ -6,7 +6,7 @@ use Rattle.c_typed_tree.specs.declared.units.TypedFn.{TypedFn}
 use Rattle.c_typed_tree.specs.declared.units.TypedUnit.{TypedUnit}
 use Rattle.c_typed_tree.specs.Lawful.{is_identifier}
 use Rattle.c_globals.specs.Globals.{globals}
-use Rattle.c_tag_bodies.specs.Bodies.{Scope}
+use Rattle.c_tag_bodies.specs.Bodies.{TagScope}
 use Rattle.c_declarations.specs.declared.walk.UnitFunction.{UnitFunction}
 use Rattle.c_declarations.specs.declared.walk.UnitSoFar.{UnitSoFar}
 use Rattle.c_unit_object_laws.specs.Units.{whole_unit}
@@ -20,7 +20,7 @@ pub record IsKeptAs (fs : List UnitFunction) (k : ℕ) (f : TypedFn) : Type 0 wh
   pub place : ℕ
   pub there : slice_get fs place ≡ Some (record { number = k; function = f })
 
-pub record IsMadeOf (s : UnitSoFar × Scope) (typed : TypedUnit) : Type 0 where
+pub record TypedIsMadeOf (s : UnitSoFar × TagScope) (typed : TypedUnit) : Type 0 where
   pub structs : typed.structs ≡ s.1.1.1.structs
   pub globals : typed.globals ≡ globals s.1.1.1.structs s.0.objects s.1.1.1.texts
   pub functions : (k : ℕ) (f : TypedFn) → slice_get typed.functions k ≡ Some f → IsKeptAs s.0.functions k f

@@ -5,8 +5,8 @@ use Rattle.c_tree.specs.declared.declarations.TranslationUnit.{TranslationUnit}
 use Rattle.c_type_faults.specs.Faults.{sorted, head}
 use Rattle.c_type_faults.proofs.First.{some}
 use Rattle.c_typed_tree.specs.declared.units.TypedUnit.{TypedUnit}
-use Rattle.c_typed_tree.specs.Lawful.{IsLawful}
-use Rattle.c_tag_bodies.specs.Bodies.{Scope}
+use Rattle.c_typed_tree.specs.Lawful.{IsLawfulUnit}
+use Rattle.c_tag_bodies.specs.Bodies.{TagScope}
 use Rattle.c_declarations.specs.declared.walk.UnitSoFar.{UnitSoFar}
 use Rattle.c_units.specs.Units.{whole_unit}
 use Rattle.unit_counts.specs.Counts.{CanBeCounted}
@@ -17,7 +17,7 @@ use Rattle.c_types.specs.Spellings.{HasSpellings}
 use Rattle.c_types.specs.Units.{unit_of, IsTyped}
 use Rattle.c_types.proofs.Made.{unit_made}
 
-pub typed_lawful : (unit : TranslationUnit) (typed : TypedUnit) → IsTyped unit typed → IsSpelled unit → CanBeCounted typed → IsLawful typed
+pub typed_lawful : (unit : TranslationUnit) (typed : TypedUnit) → IsTyped unit typed → IsSpelled unit → CanBeCounted typed → IsLawfulUnit typed
 typed_lawful unit typed is spelled counted = record {
   typed = unit_typed unit typed (some (whole_unit unit).1.1.1.faults is.0) (unit_made unit typed is.1) spelled counted;
   structs = counted.structs;
@@ -29,12 +29,12 @@ have_bytes : (texts : List (List ℕ)) → All AreBytes texts → HaveBytes text
 have_bytes [] all = tt
 have_bytes (text ∷ texts) all = (All-head AreBytes text texts all, have_bytes texts (All-tail AreBytes text texts all))
 
-spelled_lawful : (unit : TranslationUnit) (typed : TypedUnit) → IsTyped unit typed → CanBeCounted typed → All AreBytes (whole_unit unit).1.1.1.texts → HasSpellings unit → IsLawful typed
+spelled_lawful : (unit : TranslationUnit) (typed : TypedUnit) → IsTyped unit typed → CanBeCounted typed → All AreBytes (whole_unit unit).1.1.1.texts → HasSpellings unit → IsLawfulUnit typed
 spelled_lawful unit typed is counted texts has =
     typed_lawful unit typed is (record { names = has.names; initialisers = has.initialisers; texts = have_bytes (whole_unit unit).1.1.1.texts texts }) counted
 
 -- so it is of what is known behind the last declaration
-pub state_lawful : (unit : TranslationUnit) (s : UnitSoFar × Scope) (typed : TypedUnit) → s ≡ whole_unit unit → head (sorted s.1.1.1.faults) ≡ None → unit_of s ≡ Some typed → CanBeCounted typed → All AreBytes s.1.1.1.texts → HasSpellings unit → IsLawful typed
+pub state_lawful : (unit : TranslationUnit) (s : UnitSoFar × TagScope) (typed : TypedUnit) → s ≡ whole_unit unit → head (sorted s.1.1.1.faults) ≡ None → unit_of s ≡ Some typed → CanBeCounted typed → All AreBytes s.1.1.1.texts → HasSpellings unit → IsLawfulUnit typed
 state_lawful unit s typed same none made counted texts =
-    spelled_lawful unit typed (ap (λ (v : UnitSoFar × Scope). head (sorted v.1.1.1.faults)) (sym same) ∙ none, ap unit_of (sym same) ∙ made) counted
-    (subst (λ (v : UnitSoFar × Scope). All AreBytes v.1.1.1.texts) same texts)
+    spelled_lawful unit typed (ap (λ (v : UnitSoFar × TagScope). head (sorted v.1.1.1.faults)) (sym same) ∙ none, ap unit_of (sym same) ∙ made) counted
+    (subst (λ (v : UnitSoFar × TagScope). All AreBytes v.1.1.1.texts) same texts)

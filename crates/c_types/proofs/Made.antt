@@ -5,12 +5,12 @@ use Rattle.c_tree.specs.declared.declarations.TranslationUnit.{TranslationUnit}
 use Rattle.c_typed_tree.specs.declared.units.TypedFn.{TypedFn}
 use Rattle.c_typed_tree.specs.declared.units.TypedUnit.{TypedUnit}
 use Rattle.c_globals.specs.Globals.{globals}
-use Rattle.c_tag_bodies.specs.Bodies.{Scope}
+use Rattle.c_tag_bodies.specs.Bodies.{TagScope}
 use Rattle.c_declarations.specs.declared.walk.UnitFunction.{UnitFunction}
 use Rattle.c_declarations.specs.declared.walk.UnitSoFar.{UnitSoFar}
 use Rattle.c_units.specs.Units.{whole_unit}
 use Rattle.c_types.specs.Units.{with_trees, functions_in, append_functions, typed_from, typed_unit}
-use Rattle.c_typed_unit_laws.specs.Made.{IsKeptAs, IsMadeOf}
+use Rattle.c_typed_unit_laws.specs.Made.{IsKeptAs, TypedIsMadeOf}
 
 none_some : {A X : Type 0} {a : A} → None ≡ Some a → X
 none_some e = let clash : ⊥ = cc in absurd clash
@@ -84,9 +84,9 @@ replicate_length (suc n) = ap suc (replicate_length n)
 
 -- ---- the unit
 
-made_by : (s : UnitSoFar × Scope) (typed : TypedUnit) (o : Option (List TypedFn)) → append_functions (Some []) (functions_in s.0.names.functions s.0.functions) ≡ o → typed_from s.1.1.1.structs s.0.objects s.1.1.1.texts o ≡ Some typed → IsMadeOf s typed
+made_by : (s : UnitSoFar × TagScope) (typed : TypedUnit) (o : Option (List TypedFn)) → append_functions (Some []) (functions_in s.0.names.functions s.0.functions) ≡ o → typed_from s.1.1.1.structs s.0.objects s.1.1.1.texts o ≡ Some typed → TypedIsMadeOf s typed
 made_by s typed None same e = none_some e
-made_by s typed (Some list) same e = subst (IsMadeOf s) (some_same e) (record {
+made_by s typed (Some list) same e = subst (TypedIsMadeOf s) (some_same e) (record {
   structs = refl;
   globals = refl;
   functions = λ k f there. tree_from s.0.functions (replicate s.0.names.functions None) k f (at k f there) (λ kept. kept) (λ none. none_there s.0.names.functions k f none);
@@ -102,5 +102,5 @@ made_by s typed (Some list) same e = subst (IsMadeOf s) (some_same e) (record {
     at : (k : ℕ) (f : TypedFn) → slice_get list k ≡ Some f → slice_get (functions_in s.0.names.functions s.0.functions) k ≡ Some (Some f)
     at k f there = subst (λ ps. slice_get ps k ≡ Some (Some f)) (sym places) (mapped list k f there)
 
-pub unit_made : (unit : TranslationUnit) (typed : TypedUnit) → typed_unit unit ≡ Some typed → IsMadeOf (whole_unit unit) typed
+pub unit_made : (unit : TranslationUnit) (typed : TypedUnit) → typed_unit unit ≡ Some typed → TypedIsMadeOf (whole_unit unit) typed
 unit_made unit typed e = let s = whole_unit unit in made_by s typed (append_functions (Some []) (functions_in s.0.names.functions s.0.functions)) refl e

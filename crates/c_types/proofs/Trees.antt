@@ -7,7 +7,7 @@ use Rattle.c_tree.specs.declared.declarations.TranslationUnit.{TranslationUnit}
 use Rattle.c_type_faults.specs.Faults.{sorted, head}
 use Rattle.c_type_faults.proofs.First.{some}
 use Rattle.c_typed_tree.specs.declared.units.TypedFn.{TypedFn}
-use Rattle.c_tag_bodies.specs.Bodies.{Scope}
+use Rattle.c_tag_bodies.specs.Bodies.{TagScope}
 use Rattle.c_declarations.specs.declared.walk.UnitFunction.{UnitFunction}
 use Rattle.c_declarations.specs.declared.walk.UnitSoFar.{UnitSoFar}
 use Rattle.c_units.specs.Units.{whole_unit}
@@ -82,9 +82,9 @@ functions_there count fs h =
     (h k (subst (λ n. k < n) (trees_length fs places ∙ replicate_length count) less))))
 
 -- so it is of a unit without a fault
-pub unit_trees : (unit : TranslationUnit) (s : UnitSoFar × Scope) → s ≡ whole_unit unit → head (sorted s.1.1.1.faults) ≡ None → IsTrue (is_some (append_functions (Some []) (functions_in s.0.names.functions s.0.functions)))
+pub unit_trees : (unit : TranslationUnit) (s : UnitSoFar × TagScope) → s ≡ whole_unit unit → head (sorted s.1.1.1.faults) ≡ None → IsTrue (is_some (append_functions (Some []) (functions_in s.0.names.functions s.0.functions)))
 unit_trees unit s same none =
     functions_there s.0.names.functions s.0.functions (λ k less.
-    subst (λ (v : UnitSoFar × Scope). IsTrue (is_kept v.0.functions k)) (sym same)
-    (functions_kept unit (some (whole_unit unit).1.1.1.faults (ap (λ (v : UnitSoFar × Scope). head (sorted v.1.1.1.faults)) (sym same) ∙ none)) k
-    (subst (λ (v : UnitSoFar × Scope). k < v.0.names.functions) same less)))
+    subst (λ (v : UnitSoFar × TagScope). IsTrue (is_kept v.0.functions k)) (sym same)
+    (functions_kept unit (some (whole_unit unit).1.1.1.faults (ap (λ (v : UnitSoFar × TagScope). head (sorted v.1.1.1.faults)) (sym same) ∙ none)) k
+    (subst (λ (v : UnitSoFar × TagScope). k < v.0.names.functions) same less)))

@@ -1,4 +1,5 @@
--- What the tree of a text gives besides: identifiers as the names of functions, and literals of bytes (C99 6.4.2.1, 6.4.5).
+-- What the tree of a text gives besides: identifiers as the names of functions, and literals of bytes (C99 6.4.2.1,
+-- 6.4.5).
 use Rattle.std.specs.Prelude.{IsTrue, All}
 use Rattle.c_tree.specs.declared.declarations.Init.{Init}
 use Rattle.c_tree.specs.declared.declarations.TranslationUnit.{TranslationUnit}

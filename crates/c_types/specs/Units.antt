@@ -12,7 +12,7 @@ use Rattle.c_globals.specs.declared.objects.UnitObject.{UnitObject}
 use Rattle.c_globals.specs.Globals.{globals}
 use Rattle.c_declarations.specs.declared.walk.UnitFunction.{UnitFunction}
 use Rattle.c_declarations.specs.declared.walk.UnitSoFar.{UnitSoFar}
-use Rattle.c_tag_bodies.specs.Bodies.{Scope}
+use Rattle.c_tag_bodies.specs.Bodies.{TagScope}
 use Rattle.c_units.specs.Units.{whole_unit, faults_of}
 use Rattle.c_types.specs.declared.faults.TypeFault.{TypeFault}
 use Rattle.c_types.specs.declared.faults.TypeFault.TheVariants as f
@@ -44,7 +44,7 @@ abbrev pub unit_with :
 unit_with ds os texts count fs = typed_from ds os texts (append_functions (Some []) (functions_in count fs))
 
 -- what is known behind the last declaration
-abbrev pub unit_of : UnitSoFar × Scope → Option TypedUnit
+abbrev pub unit_of : UnitSoFar × TagScope → Option TypedUnit
 unit_of s = unit_with s.1.1.1.structs s.0.objects s.1.1.1.texts s.0.names.functions s.0.functions
 
 abbrev pub typed_unit : TranslationUnit → Option TypedUnit

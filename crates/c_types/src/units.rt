@@ -1,7 +1,7 @@
 //! Whole units.
 
 ghost use Rattle.std.specs.Prelude.{◌≡◌, IsTrue, is_some, IfOk, IfErr, IfSome, IfNone, Some, None, [], replicate, slice_set};
-ghost use Rattle.c_typed_tree.specs.Lawful.{IsLawful};
+ghost use Rattle.c_typed_tree.specs.Lawful.{IsLawfulUnit};
 ghost use Rattle.c_types.specs.Spellings.{HasSpellings};
 ghost use Rattle.c_types.specs.Units as spec;
 ghost use Rattle.unit_counts.specs.Counts.{CanBeCounted};
@@ -133,8 +133,8 @@ fn make_unit(
     }
 }
 
-/// The typed tree of a unit, which is lawful where the names of functions are identifiers and literals hold bytes: in the
-/// tree of a text they are.
+/// The typed tree of a unit, which is lawful where the names of functions are identifiers and literals hold bytes: in
+/// the tree of a text they are.
 ///
 /// # Errors
 ///
@@ -142,7 +142,7 @@ fn make_unit(
 /// the number of its kind; and [`TypeFault::NoMemory`].
 pub fn check(alloc: Global, unit: &TranslationUnit) -> Result<TypedUnit, TypeFault>
     ensures typed { IfOk result (spec.IsTyped unit.now) }
-    ensures lawful { IfOk result (λ typed. HasSpellings unit.now → IsLawful typed) }
+    ensures lawful { IfOk result (λ typed. HasSpellings unit.now → IsLawfulUnit typed) }
     ensures fault { IfErr result (spec.IsFaulty unit.now) }
 {
     let UnitState { so_far, notes, .. } = judge(alloc, unit)?;

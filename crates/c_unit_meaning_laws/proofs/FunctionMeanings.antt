@@ -14,12 +14,12 @@ use Rattle.c_checks.specs.Scopes.{with_name, meaning_of}
 use Rattle.c_unit_names.specs.declared.names.NameDeclaration.{NameDeclaration}
 use Rattle.c_unit_names.specs.declared.names.UnitNames.{UnitNames}
 use Rattle.c_unit_names.specs.UnitNames.{is_same_declared, may_follow, function_name, first_meaning, with_declared, with_value, value_name}
-use Rattle.c_declarations.specs.Walk.{Walk, with_names, add_object}
+use Rattle.c_declarations.specs.Walk.{UnitWalk, with_names, add_object}
 use Rattle.c_declarations.specs.Functions.{main_seen, function_declared}
 use Rattle.c_declarations.specs.Objects.{object_declared}
 use Rattle.c_units.specs.Externals.{typedef_of}
 use Rattle.c_type_laws.proofs.Truth.{no_true, front, back, also}
-use Rattle.c_unit_walk_laws.specs.Steps.{IsDeclared, First, Again, declared_as, is_function_type}
+use Rattle.c_unit_walk_laws.specs.Steps.{DeclaresName, First, Again, declared_as, is_function_type}
 use Rattle.c_unit_walk_laws.specs.Walks.{WalkSteps, Stays, Follows, AddsConstant, AddsNotes, DeclaresType, DeclaresFunction, DefinesFunction, DeclaresObject, InitialisesObject}
 use Rattle.c_unit_meaning_laws.proofs.Names.{by_name, own_meaning, other_meaning, same_declared, declared_by, kept_names, object_names, cells_names}
 use Rattle.c_unit_meaning_laws.proofs.Types.{same_kind}
@@ -95,11 +95,11 @@ again_kinds ds name new has_value u env old there may h q a e fn defined =
     (λ same is. h q old (ap (λ n. find n u.declared) same ∙ there) (old_function old.1 new may (subst (λ b. IsTrue (is_function b)) is fn)) defined)
     (λ differs found. h q a found fn defined) e
 
-pub declared_kinds : (ds : Definitions) (name : List ℕ) (new : NameDeclaration) {u names : UnitNames} {env later : Env} → IsDeclared ds name new u env names later → HasKinds ds u env → HasKinds ds names later
+pub declared_kinds : (ds : Definitions) (name : List ℕ) (new : NameDeclaration) {u names : UnitNames} {env later : Env} → DeclaresName ds name new u env names later → HasKinds ds u env → HasKinds ds names later
 declared_kinds ds name new (First {u = u} {env = env} e free) h = first_kinds ds name new u env h
 declared_kinds ds name new (Again {u = u} {env = env} old e may) h = again_kinds ds name new (old.1.has_value || new.has_value) u env old e may h
 
-pub steps_kinds : (ds : Definitions) {es : List External} {w v : Walk} → WalkSteps ds es w v → HasKinds ds w.0.names w.1.0 → HasKinds ds v.0.names v.1.0
+pub steps_kinds : (ds : Definitions) {es : List External} {w v : UnitWalk} → WalkSteps ds es w v → HasKinds ds w.0.names w.1.0 → HasKinds ds v.0.names v.1.0
 steps_kinds ds Stays h = h
 steps_kinds ds (Follows g k) h = steps_kinds ds k (steps_kinds ds g h)
 steps_kinds ds (AddsConstant {u = u} {env = env} name word e g) h = constant_kinds ds name word u.names env (free e) h

@@ -31,7 +31,7 @@ use Rattle.c_unit_names.specs.declared.names.UnitNames.{UnitNames}
 use Rattle.c_unit_names.specs.UnitNames.{object_name, function_name, value_name, first_meaning, with_declared, with_value}
 use Rattle.c_declarations.specs.declared.walk.UnitFunction.{UnitFunction}
 use Rattle.c_declarations.specs.declared.walk.UnitSoFar.{UnitSoFar}
-use Rattle.c_declarations.specs.Walk.{Walk, with_names, is_main, add_numbered, next_object, object_at, add_object, fill_numbered, function_by, function_at, add_function}
+use Rattle.c_declarations.specs.Walk.{UnitWalk, with_names, is_main, add_numbered, next_object, object_at, add_object, fill_numbered, function_by, function_at, add_function}
 use Rattle.c_declarations.specs.Functions.{main_seen, function_declared, is_start}
 use Rattle.c_declarations.specs.Objects.{object_declared}
 use Rattle.c_units.specs.Externals.{typedef_of, externals}
@@ -39,12 +39,12 @@ use Rattle.c_units.specs.Undefined.{undefined_noted}
 use Rattle.c_units.specs.Units.{no_names, builtin_declared, builtins, start, main_missed, whole_unit}
 use Rattle.c_type_laws.proofs.Truth.{no_true, front, back, either}
 use Rattle.c_type_laws.proofs.Types.{integer_is}
-use Rattle.c_unit_walk_laws.specs.Steps.{IsDeclared, First, Again, declared_as}
+use Rattle.c_unit_walk_laws.specs.Steps.{DeclaresName, First, Again, declared_as}
 use Rattle.c_signature_laws.specs.Laws.{HasItsType}
 use Rattle.c_signature_laws.proofs.Functions.{function_has_type}
 use Rattle.c_unit_walk_laws.specs.Walks.{WalkSteps, Stays, Follows, AddsConstant, AddsNotes, DeclaresType, DeclaresFunction, DefinesFunction, DeclaresObject, InitialisesObject}
 use Rattle.c_unit_walk_laws.proofs.Units.{unit_walk}
-use Rattle.c_unit_meaning_laws.specs.Meanings.{Keeps, AgreesWith, HasTypes, IsNamed, AreNamed, IsStart, HasNamedFunctions}
+use Rattle.c_unit_meaning_laws.specs.Meanings.{Keeps, MeaningAgrees, HasTypes, IsNamed, AreNamed, IsStart, HasNamedFunctions}
 use Rattle.c_unit_meaning_laws.proofs.Names.{none_some, own_meaning, other_meaning, meant_by, free_name, keeps_name, declared_by}
 use Rattle.c_unit_meaning_laws.proofs.Types.{declared_types, steps_types}
 use Rattle.c_unit_meaning_laws.proofs.FunctionMeanings.{is_function, means_function, HasKinds, declared_kinds, steps_kinds}
@@ -142,7 +142,7 @@ added name x env u names free new h = record {
     clash : (k : ℕ) → k ≡ u.names.functions → k < u.names.functions → ⊥
     clash k e less = no_less k (subst (λ n. k < n) (sym e) less)
 
-declared_named : (ds : Definitions) (name : List ℕ) (new : NameDeclaration) (u : UnitSoFar) {names : UnitNames} {env later : Env} → IsDeclared ds name new u.names env names later → HasNamedFunctions u env → HasNamedFunctions (with_names names u) later
+declared_named : (ds : Definitions) (name : List ℕ) (new : NameDeclaration) (u : UnitSoFar) {names : UnitNames} {env later : Env} → DeclaresName ds name new u.names env names later → HasNamedFunctions u env → HasNamedFunctions (with_names names u) later
 declared_named ds name new u (First {env = env} e free) h =
     let r = first_meaning ds name new u.names in
     added name r.0 env u (with_declared name new r.1) free (first_new ds name new u.names) h
@@ -171,7 +171,7 @@ own_found name new u = choose (bytes_eq name name) ((bytes_eq-Decides name name)
     choose false e = no_true e
 
 -- the meaning of a name agrees with the declaration at hand
-pub agrees_here : (ds : Definitions) (name : List ℕ) (new : NameDeclaration) {u names : UnitNames} {env later : Env} → IsDeclared ds name new u env names later → HasTypes names later → AgreesWith new.ty (meaning_of later name)
+pub agrees_here : (ds : Definitions) (name : List ℕ) (new : NameDeclaration) {u names : UnitNames} {env later : Env} → DeclaresName ds name new u env names later → HasTypes names later → MeaningAgrees new.ty (meaning_of later name)
 agrees_here ds name new (First {u = u} e free) h = h name _ (own_found name new (first_meaning ds name new u).1)
 agrees_here ds name new (Again {u = u} old e may) h = h name _ (own_found name (with_value (old.1.has_value || new.has_value) new) u)
 
@@ -180,7 +180,7 @@ module _ (ds : Definitions) (e : Declaration) (of : FunctionType) (f : TypedFn) 
   named_more [] g h k = (k, tt)
   named_more (x ∷ gs) g h k = (h.0, named_more gs g h.1 k)
 
-  kept_by : (o : Option NameMeaning) (u : UnitSoFar) → meaning_of later e.name ≡ o → AgreesWith (declared_as of) o → AreNamed later u.functions → AreNamed later (add_function (function_by o) f u).functions
+  kept_by : (o : Option NameMeaning) (u : UnitSoFar) → meaning_of later e.name ≡ o → MeaningAgrees (declared_as of) o → AreNamed later u.functions → AreNamed later (add_function (function_by o) f u).functions
   kept_by None u same agrees h = h
   kept_by (Some m.Faulty) u same agrees h = h
   kept_by (Some (m.Undefined number)) u same agrees h = h
@@ -198,7 +198,7 @@ module _ (ds : Definitions) (e : Declaration) (of : FunctionType) (f : TypedFn) 
   kept_by (Some (m.Typedef ty)) u same agrees h = h
 
   -- `main` is one of type `int (void)`
-  start_by : (o : Option NameMeaning) → AgreesWith (declared_as of) o → ((b : Builtin) (result : CType) (tys : List CType) → o ≡ Some (m.Function (c.Builtin b) result tys) → ⊥) → IsTrue (means_function o) → IsTrue (is_start (declared_as of)) → IsStart o
+  start_by : (o : Option NameMeaning) → MeaningAgrees (declared_as of) o → ((b : Builtin) (result : CType) (tys : List CType) → o ≡ Some (m.Function (c.Builtin b) result tys) → ⊥) → IsTrue (means_function o) → IsTrue (is_start (declared_as of)) → IsStart o
   start_by None agrees plain h starts = no_true h
   start_by (Some m.Faulty) agrees plain h starts = no_true h
   start_by (Some (m.Undefined number)) agrees plain h starts = no_true h
@@ -233,7 +233,7 @@ with_kept : (o : Option ℕ) (f : TypedFn) (u : UnitSoFar) (env : Env) → AreNa
 with_kept None f u env kept h = h
 with_kept (Some number) f u env kept h = record { below = h.below; one = h.one; kept = kept; apart = h.apart; main = h.main }
 
-pub steps_named : (ds : Definitions) {es : List External} {w v : Walk} → WalkSteps ds es w v → HasKinds ds w.0.names w.1.0 → HasTypes w.0.names w.1.0 → HasNamedFunctions w.0 w.1.0 → HasNamedFunctions v.0 v.1.0
+pub steps_named : (ds : Definitions) {es : List External} {w v : UnitWalk} → WalkSteps ds es w v → HasKinds ds w.0.names w.1.0 → HasTypes w.0.names w.1.0 → HasNamedFunctions w.0 w.1.0 → HasNamedFunctions v.0 v.1.0
 steps_named ds Stays fs types h = h
 steps_named ds (Follows g k) fs types h = steps_named ds k (steps_kinds ds g fs) (steps_types ds g types) (steps_named ds g fs types h)
 steps_named ds (AddsConstant {u = u} {env = env} name word e g) fs types h =
@@ -260,7 +260,7 @@ steps_named ds (DefinesFunction {u = u} {n = n} {names = names} {later = later} 
           (start_by ds e of f later type (meaning_of later e.name) agrees (λ b result tys same. clash_main e.name (one.apart e.name b result tys same) main) means (back (is_main e.name) (is_start (declared_as of)) both)));
     })
   where
-    kind_here : (new : NameDeclaration) {u names : UnitNames} {env later : Env} → IsDeclared ds e.name new u env names later → IsTrue (is_function new) → HasKinds ds names later → IsTrue (is_some (find e.name ds.functions)) → IsTrue (means_function (meaning_of later e.name))
+    kind_here : (new : NameDeclaration) {u names : UnitNames} {env later : Env} → DeclaresName ds e.name new u env names later → IsTrue (is_function new) → HasKinds ds names later → IsTrue (is_some (find e.name ds.functions)) → IsTrue (means_function (meaning_of later e.name))
     kind_here new (First {u = u} x free) fn h = h e.name _ (own_found e.name new (first_meaning ds e.name new u).1) fn
     kind_here new (Again {u = u} old x may) fn h = h e.name _ (own_found e.name (with_value (old.1.has_value || new.has_value) new) u) fn
 steps_named ds (DeclaresObject {u = u} {names = names} {later = later} name ty g k) fs types h =
@@ -282,9 +282,9 @@ builtin_there name b of tys r other h = record {
   none = λ q k result others. meant_by name x r.1 q (m.Function (c.Function k) result others) (λ same e. let clash : ⊥ = cc in clash) (λ differs e. h.none q k result others e);
   apart = λ q b result others. meant_by name x r.1 q (m.Function (c.Builtin b) result others) (λ same e. subst (λ n. IsFalse (is_main n)) (sym same) other) (λ differs e. h.apart q b result others e);
   types = λ q a. declared_by name new r.0 q a
-      (λ same e. subst (λ (z : NameDeclaration). AgreesWith z.ty (meaning_of (with_name name x r.1) q)) (sym e)
-      (subst (AgreesWith new.ty) (sym (ap (meaning_of (with_name name x r.1)) same ∙ own_meaning name x r.1)) (refl, refl)))
-      (λ differs e. subst (AgreesWith a.1.ty) (sym (other_meaning name x r.1 q differs)) (h.types q a e));
+      (λ same e. subst (λ (z : NameDeclaration). MeaningAgrees z.ty (meaning_of (with_name name x r.1) q)) (sym e)
+      (subst (MeaningAgrees new.ty) (sym (ap (meaning_of (with_name name x r.1)) same ∙ own_meaning name x r.1)) (refl, refl)))
+      (λ differs e. subst (MeaningAgrees a.1.ty) (sym (other_meaning name x r.1 q differs)) (h.types q a e));
   kinds = λ ds q a e fn defined. declared_by name new r.0 q a
       (λ same is. subst (λ o. IsTrue (means_function o)) (sym (ap (meaning_of (with_name name x r.1)) same ∙ own_meaning name x r.1)) refl)
       (λ differs found. subst (λ o. IsTrue (means_function o)) (sym (other_meaning name x r.1 q differs)) (h.kinds ds q a found fn defined)) e;

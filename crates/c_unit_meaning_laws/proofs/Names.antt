@@ -18,12 +18,12 @@ use Rattle.c_unit_names.specs.declared.names.NameDeclaration.{NameDeclaration}
 use Rattle.c_unit_names.specs.declared.names.UnitNames.{UnitNames}
 use Rattle.c_unit_names.specs.UnitNames.{object_name, function_name, value_name, first_meaning, with_declared}
 use Rattle.c_declarations.specs.declared.walk.UnitSoFar.{UnitSoFar}
-use Rattle.c_declarations.specs.Walk.{Walk, add_numbered, next_object, object_at, add_object, fill_numbered, keep_cells, function_at, add_function, keep_function}
+use Rattle.c_declarations.specs.Walk.{UnitWalk, add_numbered, next_object, object_at, add_object, fill_numbered, keep_cells, function_at, add_function, keep_function}
 use Rattle.c_declarations.specs.Functions.{function_declared}
 use Rattle.c_declarations.specs.Objects.{object_declared}
 use Rattle.c_units.specs.Externals.{typedef_of}
 use Rattle.c_type_laws.proofs.Truth.{no_true}
-use Rattle.c_unit_walk_laws.specs.Steps.{IsDeclared, First, Again, declared_as}
+use Rattle.c_unit_walk_laws.specs.Steps.{DeclaresName, First, Again, declared_as}
 use Rattle.c_unit_walk_laws.specs.Walks.{WalkSteps, Stays, Follows, AddsConstant, AddsNotes, DeclaresType, DeclaresFunction, DefinesFunction, DeclaresObject, InitialisesObject}
 use Rattle.c_unit_meaning_laws.specs.Meanings.{Keeps}
 
@@ -70,11 +70,11 @@ pub keeps_name : (name : List ℕ) (x : NameMeaning) (env : Env) → meaning_of 
 keeps_name name x env free q y e =
     by_name q name (λ same. none_some (sym (ap (meaning_of env) same ∙ free) ∙ e)) (λ differs. other_meaning name x env q differs ∙ e)
 
-declared_keeps : (ds : Definitions) (name : List ℕ) (new : NameDeclaration) {u names : UnitNames} {env later : Env} → IsDeclared ds name new u env names later → Keeps env later
+declared_keeps : (ds : Definitions) (name : List ℕ) (new : NameDeclaration) {u names : UnitNames} {env later : Env} → DeclaresName ds name new u env names later → Keeps env later
 declared_keeps ds name new (First {u = u} {env = env} e free) = keeps_name name (first_meaning ds name new u).0 env free
 declared_keeps ds name new (Again old e may) = λ q x h. h
 
-pub steps_mean : (ds : Definitions) {es : List External} {w v : Walk} → WalkSteps ds es w v → Keeps w.1.0 v.1.0
+pub steps_mean : (ds : Definitions) {es : List External} {w v : UnitWalk} → WalkSteps ds es w v → Keeps w.1.0 v.1.0
 steps_mean ds Stays = λ q x h. h
 steps_mean ds (Follows h g) = λ q x e. steps_mean ds g q x (steps_mean ds h q x e)
 steps_mean ds (AddsConstant {env = env} name word e g) = keeps_name name (m.Constant word) env (free_name name env e)

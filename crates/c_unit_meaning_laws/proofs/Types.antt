@@ -16,15 +16,15 @@ use Rattle.c_checks.specs.Scopes.{with_name, meaning_of}
 use Rattle.c_unit_names.specs.declared.names.NameDeclaration.{NameDeclaration}
 use Rattle.c_unit_names.specs.declared.names.UnitNames.{UnitNames}
 use Rattle.c_unit_names.specs.UnitNames.{are_same, is_same_declared, may_follow, object_name, function_name, value_name, first_meaning, with_declared, with_value}
-use Rattle.c_declarations.specs.Walk.{Walk, with_names, add_object}
+use Rattle.c_declarations.specs.Walk.{UnitWalk, with_names, add_object}
 use Rattle.c_declarations.specs.Functions.{main_seen, function_declared}
 use Rattle.c_declarations.specs.Objects.{object_declared}
 use Rattle.c_units.specs.Externals.{typedef_of}
 use Rattle.c_type_laws.proofs.Truth.{no_true, front, back}
 use Rattle.c_type_laws.proofs.Types.{same}
-use Rattle.c_unit_walk_laws.specs.Steps.{IsDeclared, First, Again, declared_as}
+use Rattle.c_unit_walk_laws.specs.Steps.{DeclaresName, First, Again, declared_as}
 use Rattle.c_unit_walk_laws.specs.Walks.{WalkSteps, Stays, Follows, AddsConstant, AddsNotes, DeclaresType, DeclaresFunction, DefinesFunction, DeclaresObject, InitialisesObject}
-use Rattle.c_unit_meaning_laws.specs.Meanings.{IsValueOf, IsFunctionLike, Agrees, AgreesWith, HasTypes}
+use Rattle.c_unit_meaning_laws.specs.Meanings.{IsDeclaredValue, IsFunctionLike, Agrees, MeaningAgrees, HasTypes}
 use Rattle.c_unit_meaning_laws.proofs.Names.{by_name, own_meaning, other_meaning, same_declared, declared_by, kept_names, object_names, cells_names}
 
 pub first_agrees : (ds : Definitions) (name : List ℕ) (new : NameDeclaration) (u : UnitNames) → Agrees new.ty (first_meaning ds name new u).0
@@ -56,7 +56,7 @@ views_same (x ∷ xs) [] h = no_true h
 views_same (x ∷ xs) (y ∷ ys) h =
     ap (λ v. v ∷ map type_view xs) (same (type_view x) (type_view y) (front (is_same x y) (are_same xs ys) h)) ∙ ap (λ vs. type_view y ∷ vs) (views_same xs ys (back (is_same x y) (are_same xs ys) h))
 
-value_again : (a b : DeclaredType) (ty : CType) → IsTrue (is_same_declared a b) → IsValueOf a ty → IsValueOf b ty
+value_again : (a b : DeclaredType) (ty : CType) → IsTrue (is_same_declared a b) → IsDeclaredValue a ty → IsDeclaredValue b ty
 value_again (d.Value a) (d.Value b) ty h g = sym (same (type_view a) (type_view b) h) ∙ g
 value_again (d.Value a) (d.Unsized b) ty h g = no_true h
 value_again (d.Value a) (d.Function b ys) ty h g = no_true h
@@ -71,7 +71,7 @@ function_again (d.Function a xs) (d.Unsized b) of tys h g = no_true h
 function_again (d.Function a xs) (d.Function b ys) of tys h g =
     (sym (same (type_view a) (type_view b) (front (is_same a b) (are_same xs ys) h)) ∙ g.0, sym (views_same xs ys (back (is_same a b) (are_same xs ys) h)) ∙ g.1)
 
-again_agrees : (a b : DeclaredType) (o : Option NameMeaning) → IsTrue (is_same_declared a b) → AgreesWith a o → AgreesWith b o
+again_agrees : (a b : DeclaredType) (o : Option NameMeaning) → IsTrue (is_same_declared a b) → MeaningAgrees a o → MeaningAgrees b o
 again_agrees a b None h g = tt
 again_agrees a b (Some m.Faulty) h g = tt
 again_agrees a b (Some (m.Undefined number)) h g = tt
@@ -90,29 +90,29 @@ same_kind old new h =
 
 constant_types : (name : List ℕ) (word : ℕ) (u : UnitNames) (env : Env) → HasTypes u env → HasTypes u (with_name name (m.Constant word) env)
 constant_types name word u env h q a e =
-    by_name q name (λ same. subst (AgreesWith a.1.ty) (sym (ap (meaning_of (with_name name (m.Constant word) env)) same ∙ own_meaning name (m.Constant word) env)) tt)
-    (λ differs. subst (AgreesWith a.1.ty) (sym (other_meaning name (m.Constant word) env q differs)) (h q a e))
+    by_name q name (λ same. subst (MeaningAgrees a.1.ty) (sym (ap (meaning_of (with_name name (m.Constant word) env)) same ∙ own_meaning name (m.Constant word) env)) tt)
+    (λ differs. subst (MeaningAgrees a.1.ty) (sym (other_meaning name (m.Constant word) env q differs)) (h q a e))
 
 first_types : (ds : Definitions) (name : List ℕ) (new : NameDeclaration) (u : UnitNames) (env : Env) → HasTypes u env → (let r = first_meaning ds name new u in HasTypes (with_declared name new r.1) (with_name name r.0 env))
 first_types ds name new u env h q a =
     let r = first_meaning ds name new u in
     declared_by name new r.1 q a
-    (λ same e. subst (λ (b : NameDeclaration). AgreesWith b.ty (meaning_of (with_name name r.0 env) q)) (sym e)
-    (subst (AgreesWith new.ty) (sym (ap (meaning_of (with_name name r.0 env)) same ∙ own_meaning name r.0 env)) (first_agrees ds name new u)))
-    (λ differs e. subst (AgreesWith a.1.ty) (sym (other_meaning name r.0 env q differs)) (h q a (sym (ap (find q) (same_declared ds name new u)) ∙ e)))
+    (λ same e. subst (λ (b : NameDeclaration). MeaningAgrees b.ty (meaning_of (with_name name r.0 env) q)) (sym e)
+    (subst (MeaningAgrees new.ty) (sym (ap (meaning_of (with_name name r.0 env)) same ∙ own_meaning name r.0 env)) (first_agrees ds name new u)))
+    (λ differs e. subst (MeaningAgrees a.1.ty) (sym (other_meaning name r.0 env q differs)) (h q a (sym (ap (find q) (same_declared ds name new u)) ∙ e)))
 
 again_types : (name : List ℕ) (new : NameDeclaration) (has_value : Bool) (u : UnitNames) (env : Env) (old : ℕ × NameDeclaration) → find name u.declared ≡ Some old → IsTrue (may_follow old.1 new) → HasTypes u env → HasTypes (with_declared name (with_value has_value new) u) env
 again_types name new has_value u env old e may h q a =
     declared_by name (with_value has_value new) u q a
-    (λ same g. subst (λ (b : NameDeclaration). AgreesWith b.ty (meaning_of env q)) (sym g)
-    (subst (λ n. AgreesWith new.ty (meaning_of env n)) (sym same) (again_agrees old.1.ty new.ty (meaning_of env name) (same_kind old.1 new may) (h name old e))))
+    (λ same g. subst (λ (b : NameDeclaration). MeaningAgrees b.ty (meaning_of env q)) (sym g)
+    (subst (λ n. MeaningAgrees new.ty (meaning_of env n)) (sym same) (again_agrees old.1.ty new.ty (meaning_of env name) (same_kind old.1 new may) (h name old e))))
     (λ differs g. h q a g)
 
-pub declared_types : (ds : Definitions) (name : List ℕ) (new : NameDeclaration) {u names : UnitNames} {env later : Env} → IsDeclared ds name new u env names later → HasTypes u env → HasTypes names later
+pub declared_types : (ds : Definitions) (name : List ℕ) (new : NameDeclaration) {u names : UnitNames} {env later : Env} → DeclaresName ds name new u env names later → HasTypes u env → HasTypes names later
 declared_types ds name new (First {u = u} {env = env} e free) h = first_types ds name new u env h
 declared_types ds name new (Again {u = u} {env = env} old e may) h = again_types name new (old.1.has_value || new.has_value) u env old e may h
 
-pub steps_types : (ds : Definitions) {es : List External} {w v : Walk} → WalkSteps ds es w v → HasTypes w.0.names w.1.0 → HasTypes v.0.names v.1.0
+pub steps_types : (ds : Definitions) {es : List External} {w v : UnitWalk} → WalkSteps ds es w v → HasTypes w.0.names w.1.0 → HasTypes v.0.names v.1.0
 steps_types ds Stays h = h
 steps_types ds (Follows g k) h = steps_types ds k (steps_types ds g h)
 steps_types ds (AddsConstant {u = u} {env = env} name word e g) h = constant_types name word u.names env h

@@ -4,17 +4,17 @@ use Rattle.c_tree.specs.declared.declarations.TranslationUnit.{TranslationUnit}
 use Rattle.c_tree.specs.declared.declarations.External.{External}
 use Rattle.c_definitions.specs.declared.names.Definitions.{Definitions}
 use Rattle.c_type_faults.specs.Faults.{head}
-use Rattle.c_declarations.specs.Walk.{Walk}
+use Rattle.c_declarations.specs.Walk.{UnitWalk}
 use Rattle.c_units.specs.Units.{whole_unit, faults_of}
 use Rattle.c_unit_walk_laws.specs.Walks.{WalkSteps}
 use Rattle.c_unit_meaning_laws.specs.Meanings.{Keeps, HasTypes, HasNamedFunctions}
 
 abbrev pub NamesKeepMeanings : Type 0
-NamesKeepMeanings = (ds : Definitions) (es : List External) (w v : Walk) → WalkSteps ds es w v → Keeps w.1.0 v.1.0
+NamesKeepMeanings = (ds : Definitions) (es : List External) (w v : UnitWalk) → WalkSteps ds es w v → Keeps w.1.0 v.1.0
 
 abbrev pub NamesHaveTypes : Type 0
 NamesHaveTypes =
-    (ds : Definitions) (es : List External) (w v : Walk) → WalkSteps ds es w v → HasTypes w.0.names w.1.0 →
+    (ds : Definitions) (es : List External) (w v : UnitWalk) → WalkSteps ds es w v → HasTypes w.0.names w.1.0 →
     HasTypes v.0.names v.1.0
 
 abbrev pub FunctionsAreNamed : Type 0

@@ -25,10 +25,10 @@ Keeps env later = (q : List ℕ) (x : NameMeaning) → meaning_of env q ≡ Some
 
 -- ---- a declaration of the type that the name has
 
-abbrev pub IsValueOf : DeclaredType → CType → Type 0
-IsValueOf (d.Value of) ty = type_view of ≡ type_view ty
-IsValueOf (d.Unsized element) ty = ⊥
-IsValueOf (d.Function of parameters) ty = ⊥
+abbrev pub IsDeclaredValue : DeclaredType → CType → Type 0
+IsDeclaredValue (d.Value of) ty = type_view of ≡ type_view ty
+IsDeclaredValue (d.Unsized element) ty = ⊥
+IsDeclaredValue (d.Function of parameters) ty = ⊥
 
 abbrev pub IsFunctionLike : DeclaredType → CType → List CType → Type 0
 IsFunctionLike (d.Value ty) of tys = ⊥
@@ -40,19 +40,19 @@ abbrev pub Agrees : DeclaredType → NameMeaning → Type 0
 Agrees ty m.Faulty = Unit {0}
 Agrees ty (m.Undefined number) = Unit {0}
 Agrees ty (m.Local number of) = Unit {0}
-Agrees ty (m.Object number of) = IsValueOf ty of
+Agrees ty (m.Object number of) = IsDeclaredValue ty of
 Agrees ty (m.Constant word) = Unit {0}
 Agrees ty (m.Function callee of tys) = IsFunctionLike ty of tys
 Agrees ty (m.Typedef of) = Unit {0}
 
-abbrev pub AgreesWith : DeclaredType → Option NameMeaning → Type 0
-AgreesWith ty None = Unit {0}
-AgreesWith ty (Some x) = Agrees ty x
+abbrev pub MeaningAgrees : DeclaredType → Option NameMeaning → Type 0
+MeaningAgrees ty None = Unit {0}
+MeaningAgrees ty (Some x) = Agrees ty x
 
 -- so it is of each name that was declared
 abbrev pub HasTypes : UnitNames → Env → Type 0
 HasTypes u env =
-    (q : List ℕ) (a : ℕ × NameDeclaration) → find q u.declared ≡ Some a → AgreesWith a.1.ty (meaning_of env q)
+    (q : List ℕ) (a : ℕ × NameDeclaration) → find q u.declared ≡ Some a → MeaningAgrees a.1.ty (meaning_of env q)
 
 -- ---- functions
 

@@ -16,7 +16,7 @@ use Rattle.c_checks.specs.declared.env.Env.{Env}
 use Rattle.c_checks.specs.declared.notes.Notes.{Notes}
 use Rattle.c_checks.specs.Notes.{with_fault}
 use Rattle.c_checks.specs.Scopes.{with_name, meaning_of}
-use Rattle.c_judgements.specs.Types.{State}
+use Rattle.c_judgements.specs.Types.{JudgementState}
 use Rattle.c_unit_names.specs.declared.names.NameDeclaration.{NameDeclaration}
 use Rattle.c_unit_names.specs.declared.names.UnitNames.{UnitNames}
 use Rattle.c_unit_names.specs.declared.names.PriorMeaning.{PriorMeaning}
@@ -100,19 +100,21 @@ meaning_before (Some (m.Constant word)) = g.Other
 meaning_before (Some (m.Function callee ty parameters)) = g.Other
 meaning_before (Some (m.Typedef ty)) = g.Other
 
-abbrev pub redeclare : ℕ → UnitNames → State → UnitNames × State
+abbrev pub redeclare : ℕ → UnitNames → JudgementState → UnitNames × JudgementState
 redeclare at u s = (u, (s.0, with_fault at Redeclared s.1))
 
-abbrev pub beside : UnitNames × Env → Notes → UnitNames × State
+abbrev pub beside : UnitNames × Env → Notes → UnitNames × JudgementState
 beside r n = (r.0, (r.1, n))
 
 -- behind a declaration with a fault nothing is judged; every other name that stands there is an enumeration constant
-abbrev pub first_by : PriorMeaning → Definitions → ℕ → List ℕ → NameDeclaration → UnitNames → State → UnitNames × State
+abbrev pub first_by : PriorMeaning → Definitions → ℕ → List ℕ → NameDeclaration → UnitNames → JudgementState →
+    UnitNames × JudgementState
 first_by g.Nothing ds at name new u s = beside (named_first ds name new u s.0) s.1
 first_by g.Faulty ds at name new u s = (u, s)
 first_by g.Other ds at name new u s = redeclare at u s
 
-abbrev pub first_declared : Definitions → ℕ → List ℕ → NameDeclaration → UnitNames → State → UnitNames × State
+abbrev pub first_declared : Definitions → ℕ → List ℕ → NameDeclaration → UnitNames → JudgementState →
+    UnitNames × JudgementState
 first_declared ds at name new u s = first_by (meaning_before (meaning_of s.0 name)) ds at name new u s
 
 -- whether a declaration may follow what was declared of the name, and whether it has a value then
@@ -125,12 +127,14 @@ abbrev pub with_value : Bool → NameDeclaration → NameDeclaration
 with_value has_value new = record { is_typedef = new.is_typedef; ty = new.ty; has_value = has_value }
 
 abbrev pub known_by :
-    Option (Option Bool) → Definitions → ℕ → List ℕ → NameDeclaration → UnitNames → State → UnitNames × State
+    Option (Option Bool) → Definitions → ℕ → List ℕ → NameDeclaration → UnitNames → JudgementState →
+    UnitNames × JudgementState
 known_by None ds at name new u s = first_declared ds at name new u s
 known_by (Some None) ds at name new u s = redeclare at u s
 known_by (Some (Some has_value)) ds at name new u s = (with_declared name (with_value has_value new) u, s)
 
-abbrev pub known_declared : Definitions → ℕ → List ℕ → NameDeclaration → UnitNames → State → UnitNames × State
+abbrev pub known_declared : Definitions → ℕ → List ℕ → NameDeclaration → UnitNames → JudgementState →
+    UnitNames × JudgementState
 known_declared ds at name new u s = known_by (follows (find name u.declared) new) ds at name new u s
 
 abbrev pub faulty_by : PriorMeaning → List ℕ → Env → Env
@@ -142,6 +146,7 @@ abbrev pub faulty_name : List ℕ → Env → Env
 faulty_name name env = faulty_by (meaning_before (meaning_of env name)) name env
 
 -- a declaration at file scope, or one that has a fault
-abbrev pub declaration : Definitions → ℕ → List ℕ → Option NameDeclaration → UnitNames → State → UnitNames × State
+abbrev pub declaration : Definitions → ℕ → List ℕ → Option NameDeclaration → UnitNames → JudgementState →
+    UnitNames × JudgementState
 declaration ds at name None u s = (u, (faulty_name name s.0, s.1))
 declaration ds at name (Some new) u s = known_declared ds at name new u s

@@ -9,34 +9,34 @@ use Rattle.c_checks.specs.declared.notes.Notes.{Notes}
 use Rattle.c_checks.specs.declared.meanings.NameMeaning.{NameMeaning}
 use Rattle.c_checks.specs.declared.meanings.NameMeaning.TheVariants as m
 use Rattle.c_checks.specs.Scopes.{with_name}
-use Rattle.c_judgements.specs.Types.{State}
+use Rattle.c_judgements.specs.Types.{JudgementState}
 use Rattle.c_statements.specs.declared.functions.FunctionType.{FunctionType}
 use Rattle.c_statements.specs.Functions.{function}
 use Rattle.c_initialisers.specs.Initialisers.{object_cells}
 use Rattle.c_unit_names.specs.declared.names.NameDeclaration.{NameDeclaration}
 use Rattle.c_unit_names.specs.declared.names.UnitNames.{UnitNames}
 use Rattle.c_unit_names.specs.UnitNames.{object_name, function_name, first_meaning}
-use Rattle.c_declarations.specs.Walk.{Walk}
+use Rattle.c_declarations.specs.Walk.{UnitWalk}
 use Rattle.c_declarations.specs.Functions.{function_declared}
 use Rattle.c_declarations.specs.Objects.{object_declared}
 use Rattle.c_unit_meaning_laws.specs.Externals.{typedef_of}
 use Rattle.c_expression_laws.specs.Types.{IsTypedefIn}
-use Rattle.c_note_laws.specs.Steps.{Steps}
+use Rattle.c_note_laws.specs.Steps.{NoteSteps}
 use Rattle.c_note_laws.proofs.Added.{steps_add}
 use Rattle.c_step_laws.proofs.Statements.{function_steps}
 use Rattle.c_step_laws.proofs.Initialisers.{cells_steps}
 use Rattle.c_struct_laws.proofs.Growth.{grow_itself, grow_then}
 use Rattle.c_body_laws.specs.Notes.{of_structs}
 use Rattle.c_body_laws.proofs.Notes.{typedefs_grow, steps_keep}
-use Rattle.c_unit_meaning_laws.specs.Steps.{IsDeclared, First, Again, declared_as}
+use Rattle.c_unit_meaning_laws.specs.Steps.{DeclaresName, First, Again, declared_as}
 use Rattle.c_unit_meaning_laws.specs.Walks.{WalkSteps, Stays, Follows, AddsConstant, AddsNotes, DeclaresType, DeclaresFunction, DefinesFunction, DeclaresObject, InitialisesObject}
 use Rattle.c_unit_meaning_laws.proofs.Texts.{stands_itself, stands_then}
 use Rattle.c_unit_object_laws.specs.Meant.{GoesTo}
 
-goes_itself : (s : State) → GoesTo s s
+goes_itself : (s : JudgementState) → GoesTo s s
 goes_itself s = record { grow = grow_itself s.1.structs; declared = λ h. h; texts = stands_itself s.1.texts; first = refl; sized = λ h. h }
 
-pub goes_then : (s u v : State) → GoesTo s u → GoesTo u v → GoesTo s v
+pub goes_then : (s u v : JudgementState) → GoesTo s u → GoesTo u v → GoesTo s v
 goes_then s u v h g = record {
   grow = grow_then s.1.structs u.1.structs v.1.structs h.grow g.grow;
   declared = λ k. g.declared (h.declared k);
@@ -46,7 +46,7 @@ goes_then s u v h g = record {
 }
 
 -- what steps note
-pub goes_steps : (env : Env) (n later : Notes) → Steps n later → GoesTo (env, n) (env, later)
+pub goes_steps : (env : Env) (n later : Notes) → NoteSteps n later → GoesTo (env, n) (env, later)
 goes_steps env n later steps =
     let keeps = steps_keep steps in
     let added = steps_add steps in
@@ -68,7 +68,7 @@ named name x env n h = record {
   sized = λ k. k;
 }
 
-pub declared : (ds : Definitions) (name : List ℕ) (new : NameDeclaration) (n : Notes) {u names : UnitNames} {env later : Env} → ((u : UnitNames) → IsTypedefIn (of_structs n.structs) (first_meaning ds name new u).0) → IsDeclared ds name new u env names later → GoesTo (env, n) (later, n)
+pub declared : (ds : Definitions) (name : List ℕ) (new : NameDeclaration) (n : Notes) {u names : UnitNames} {env later : Env} → ((u : UnitNames) → IsTypedefIn (of_structs n.structs) (first_meaning ds name new u).0) → DeclaresName ds name new u env names later → GoesTo (env, n) (later, n)
 declared ds name new n h (First {u = u} {env = env} e free) = named name (first_meaning ds name new u).0 env n (h u)
 declared ds name new n h (Again {env = env} old e may) = goes_itself (env, n)
 
@@ -86,7 +86,7 @@ object_plain ds name ty has_value n u = choose (is_some (find name ds.objects))
     choose true = tt
     choose false = tt
 
-pub steps_go : (ds : Definitions) {es : List External} {w v : Walk} → WalkSteps ds es w v → GoesTo w.1 v.1
+pub steps_go : (ds : Definitions) {es : List External} {w v : UnitWalk} → WalkSteps ds es w v → GoesTo w.1 v.1
 steps_go ds (Stays {w = w}) = goes_itself w.1
 steps_go ds (Follows {w = w} {x = x} {v = v} h g) = goes_then w.1 x.1 v.1 (steps_go ds h) (steps_go ds g)
 steps_go ds (AddsConstant {env = env} {n = n} name word e g) = named name (m.Constant word) env n tt

@@ -19,14 +19,14 @@ use Rattle.c_statements.specs.declared.functions.FunctionType.{FunctionType}
 use Rattle.c_unit_names.specs.declared.names.NameDeclaration.{NameDeclaration}
 use Rattle.c_unit_names.specs.declared.names.UnitNames.{UnitNames}
 use Rattle.c_unit_names.specs.UnitNames.{object_name, function_name, first_meaning}
-use Rattle.c_declarations.specs.Walk.{Walk}
+use Rattle.c_declarations.specs.Walk.{UnitWalk}
 use Rattle.c_declarations.specs.Functions.{function_declared}
 use Rattle.c_declarations.specs.Objects.{object_declared}
 use Rattle.c_unit_meaning_laws.specs.Externals.{typedef_of}
 use Rattle.c_unit_meaning_laws.specs.Units.{builtins, start}
 use Rattle.c_struct_laws.specs.Growth.{Grow}
 use Rattle.c_struct_laws.proofs.Growth.{grow_then}
-use Rattle.c_unit_meaning_laws.specs.Steps.{IsDeclared, First, Again, declared_as}
+use Rattle.c_unit_meaning_laws.specs.Steps.{DeclaresName, First, Again, declared_as}
 use Rattle.c_unit_meaning_laws.specs.Walks.{IsObjectType, IsGivenType, WalkSteps, Stays, Follows, AddsConstant, AddsNotes, DeclaresType, DeclaresFunction, DefinesFunction, DeclaresObject, InitialisesObject}
 use Rattle.c_unit_meaning_laws.proofs.Names.{none_some, meant_by}
 use Rattle.c_unit_object_laws.specs.Meant.{IsMeant, AreMeant}
@@ -36,7 +36,7 @@ use Rattle.c_unit_object_laws.proofs.Types.{object_stays, callable_stays}
 more_meant : (structs : List StructDef) (name : List ℕ) (x : NameMeaning) (env : Env) → IsMeant structs x → AreMeant structs env → AreMeant structs (with_name name x env)
 more_meant structs name x env own h q y = meant_by name x env q y (λ same e. subst (IsMeant structs) e own) (λ differs e. h q y e)
 
-declared_meant : (ds : Definitions) (structs : List StructDef) (name : List ℕ) (new : NameDeclaration) {u names : UnitNames} {env later : Env} → ((u : UnitNames) → IsMeant structs (first_meaning ds name new u).0) → IsDeclared ds name new u env names later → AreMeant structs env → AreMeant structs later
+declared_meant : (ds : Definitions) (structs : List StructDef) (name : List ℕ) (new : NameDeclaration) {u names : UnitNames} {env later : Env} → ((u : UnitNames) → IsMeant structs (first_meaning ds name new u).0) → DeclaresName ds name new u env names later → AreMeant structs env → AreMeant structs later
 declared_meant ds structs name new own (First {u = u} {env = env} e free) h = more_meant structs name (first_meaning ds name new u).0 env (own u) h
 declared_meant ds structs name new own (Again old e may) h = h
 
@@ -55,7 +55,7 @@ function_meant ds structs known name of has_body h g u = choose (is_some (find n
     choose true = (callable_stays known structs g of.result of.parameters h, tt)
     choose false = tt
 
-pub steps_meant : (ds : Definitions) (structs : List StructDef) {es : List External} {w v : Walk} → WalkSteps ds es w v → Grow v.1.1.structs structs → AreMeant structs w.1.0 → AreMeant structs v.1.0
+pub steps_meant : (ds : Definitions) (structs : List StructDef) {es : List External} {w v : UnitWalk} → WalkSteps ds es w v → Grow v.1.1.structs structs → AreMeant structs w.1.0 → AreMeant structs v.1.0
 steps_meant ds structs Stays g h = h
 steps_meant ds structs (Follows {x = x} {v = v} one two) g h = steps_meant ds structs two g (steps_meant ds structs one (grow_then x.1.1.structs v.1.1.structs structs (steps_go ds two).grow g) h)
 steps_meant ds structs (AddsConstant {env = env} name word e k) g h = more_meant structs name (m.Constant word) env k h

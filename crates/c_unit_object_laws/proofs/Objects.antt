@@ -21,15 +21,15 @@ use Rattle.c_unit_names.specs.declared.names.NameDeclaration.{NameDeclaration}
 use Rattle.c_unit_names.specs.declared.names.UnitNames.{UnitNames}
 use Rattle.c_unit_names.specs.UnitNames.{object_name, function_name, first_meaning, with_declared}
 use Rattle.c_declarations.specs.declared.walk.UnitSoFar.{UnitSoFar}
-use Rattle.c_declarations.specs.Walk.{Walk, with_names, with_objects, next_object, object_by, object_at, add_numbered, add_object, fill_numbered, function_at, add_function}
+use Rattle.c_declarations.specs.Walk.{UnitWalk, with_names, with_objects, next_object, object_by, object_at, add_numbered, add_object, fill_numbered, function_at, add_function}
 use Rattle.c_declarations.specs.Functions.{main_seen, function_declared}
 use Rattle.c_declarations.specs.Objects.{object_declared}
 use Rattle.c_unit_meaning_laws.specs.Externals.{typedef_of}
 use Rattle.c_unit_meaning_laws.specs.Units.{builtins, start}
-use Rattle.c_unit_meaning_laws.specs.Steps.{IsDeclared, First, Again, declared_as}
+use Rattle.c_unit_meaning_laws.specs.Steps.{DeclaresName, First, Again, declared_as}
 use Rattle.c_unit_meaning_laws.specs.Walks.{WalkSteps, Stays, Follows, AddsConstant, AddsNotes, DeclaresType, DeclaresFunction, DefinesFunction, DeclaresObject, InitialisesObject}
 use Rattle.c_unit_meaning_laws.proofs.Names.{none_some, own_meaning, meant_by}
-use Rattle.c_unit_object_laws.specs.Meant.{IsOfType, HasObjects}
+use Rattle.c_unit_object_laws.specs.Meant.{ObjectIsOfType, HasObjects}
 
 -- ---- lists of objects
 
@@ -40,7 +40,7 @@ longer (y ∷ xs) x = ap suc (longer xs x) ∙ one_over (length xs)
     one_over : (n : ℕ) → suc (n + 1) ≡ suc n + 1
     one_over n = omega arith
 
-front_stays : (xs : List UnitObject) (x : UnitObject) (k : ℕ) (ty : CType) → IsOfType (slice_get xs k) ty → IsOfType (slice_get (xs ++ x ∷ []) k) ty
+front_stays : (xs : List UnitObject) (x : UnitObject) (k : ℕ) (ty : CType) → ObjectIsOfType (slice_get xs k) ty → ObjectIsOfType (slice_get (xs ++ x ∷ []) k) ty
 front_stays [] x k ty h = absurd h
 front_stays (y ∷ xs) x zero ty h = h
 front_stays (y ∷ xs) x (suc k) ty h = front_stays xs x k ty h
@@ -53,9 +53,9 @@ none_behind : (xs : List UnitObject) → slice_get xs (length xs) ≡ None
 none_behind [] = refl
 none_behind (y ∷ xs) = none_behind xs
 
-set_stays : (xs : List UnitObject) (n : ℕ) (o : UnitObject) (cells : List DataCell) (k : ℕ) (ty : CType) → slice_get xs n ≡ Some o → IsOfType (slice_get xs k) ty → IsOfType (slice_get (slice_set xs n (with_cells cells o)) k) ty
+set_stays : (xs : List UnitObject) (n : ℕ) (o : UnitObject) (cells : List DataCell) (k : ℕ) (ty : CType) → slice_get xs n ≡ Some o → ObjectIsOfType (slice_get xs k) ty → ObjectIsOfType (slice_get (slice_set xs n (with_cells cells o)) k) ty
 set_stays [] n o cells k ty e h = h
-set_stays (x ∷ xs) zero o cells zero ty e h = subst (λ z. IsOfType (Some z) ty) (same e) h
+set_stays (x ∷ xs) zero o cells zero ty e h = subst (λ z. ObjectIsOfType (Some z) ty) (same e) h
   where
     same : {a z : UnitObject} → Some a ≡ Some z → a ≡ z
     same e = cc
@@ -63,10 +63,10 @@ set_stays (x ∷ xs) zero o cells (suc k) ty e h = h
 set_stays (x ∷ xs) (suc n) o cells zero ty e h = h
 set_stays (x ∷ xs) (suc n) o cells (suc k) ty e h = set_stays xs n o cells k ty e h
 
-cells_stay : (xs : List UnitObject) (n : ℕ) (cells : List DataCell) (k : ℕ) (ty : CType) → IsOfType (slice_get xs k) ty → IsOfType (slice_get (set_cells n cells xs) k) ty
+cells_stay : (xs : List UnitObject) (n : ℕ) (cells : List DataCell) (k : ℕ) (ty : CType) → ObjectIsOfType (slice_get xs k) ty → ObjectIsOfType (slice_get (set_cells n cells xs) k) ty
 cells_stay xs n cells k ty h = by (slice_get xs n) refl
   where
-    by : (o : Option UnitObject) → slice_get xs n ≡ o → IsOfType (slice_get (replace_cells n cells o xs) k) ty
+    by : (o : Option UnitObject) → slice_get xs n ≡ o → ObjectIsOfType (slice_get (replace_cells n cells o xs) k) ty
     by None e = h
     by (Some o) e = set_stays xs n o cells k ty e h
 
@@ -82,12 +82,12 @@ as_many xs n cells = by (slice_get xs n)
 other : (name : List ℕ) (x : NameMeaning) (env : Env) (u v : UnitSoFar) → ((k : ℕ) (ty : CType) → x ≡ m.Object k ty → ⊥) → v.objects ≡ u.objects → v.names.objects ≡ u.names.objects → HasObjects u env → HasObjects v (with_name name x env)
 other name x env u v plain same count h = record {
   count = ap length same ∙ (h.count ∙ sym count);
-  objects = λ q k ty. meant_by name x env q (m.Object k ty) (λ own e. absurd (plain k ty e)) (λ differs e. subst (λ os. IsOfType (slice_get os k) ty) (sym same) (h.objects q k ty e));
+  objects = λ q k ty. meant_by name x env q (m.Object k ty) (λ own e. absurd (plain k ty e)) (λ differs e. subst (λ os. ObjectIsOfType (slice_get os k) ty) (sym same) (h.objects q k ty e));
 }
 
 -- a function or a typedef name
 plain_declared : (ds : Definitions) (name : List ℕ) (new : NameDeclaration) (u : UnitSoFar) {names : UnitNames} {env later : Env} → ((n : UnitNames) (k : ℕ) (ty : CType) → (first_meaning ds name new n).0 ≡ m.Object k ty → ⊥) → ((n : UnitNames) → (first_meaning ds name new n).1.objects ≡ n.objects)
-    → IsDeclared ds name new u.names env names later → HasObjects u env → HasObjects (with_names names u) later
+    → DeclaresName ds name new u.names env names later → HasObjects u env → HasObjects (with_names names u) later
 plain_declared ds name new u plain count (First {env = env} e free) h =
     let r = first_meaning ds name new u.names in
     other name r.0 env u (with_names (with_declared name new r.1) u) (plain u.names) refl (count u.names) h
@@ -118,7 +118,7 @@ next_there : (n : ℕ) (name : List ℕ) (ty : CType) (u : UnitSoFar) (o : Optio
 next_there n name ty u o e count = subst (λ o. add_numbered (object_by o) name ty u ≡ with_objects (u.objects ++ record { name = name; ty = ty; cells = [] } ∷ []) u) (sym e) (ap (λ z. next_object z name ty u) ((Decides-eqb n (length u.objects)).1 (sym count)))
 
 -- what a name means that is no new object adds none
-none_next : (name : List ℕ) (ty : CType) (u : UnitSoFar) (env : Env) (o : Option NameMeaning) → ((k : ℕ) (of : CType) → o ≡ Some (m.Object k of) → IsOfType (slice_get u.objects k) of) → add_numbered (object_by o) name ty u ≡ u
+none_next : (name : List ℕ) (ty : CType) (u : UnitSoFar) (env : Env) (o : Option NameMeaning) → ((k : ℕ) (of : CType) → o ≡ Some (m.Object k of) → ObjectIsOfType (slice_get u.objects k) of) → add_numbered (object_by o) name ty u ≡ u
 none_next name ty u env None h = refl
 none_next name ty u env (Some m.Faulty) h = refl
 none_next name ty u env (Some (m.Undefined number)) h = refl
@@ -128,8 +128,8 @@ none_next name ty u env (Some (m.Object k of)) h = choose (k == length u.objects
     choose : (z : Bool) → k == length u.objects ≡ z → next_object z name ty u ≡ u
     choose true e = absurd (nowhere (h k of refl))
       where
-        nowhere : IsOfType (slice_get u.objects k) of → ⊥
-        nowhere there = subst (λ o. IsOfType o of) (ap (slice_get u.objects) ((Decides-eqb k (length u.objects)).0 e) ∙ none_behind u.objects) there
+        nowhere : ObjectIsOfType (slice_get u.objects k) of → ⊥
+        nowhere there = subst (λ o. ObjectIsOfType o of) (ap (slice_get u.objects) ((Decides-eqb k (length u.objects)).0 e) ∙ none_behind u.objects) there
     choose false e = refl
 none_next name ty u env (Some (m.Constant word)) h = refl
 none_next name ty u env (Some (m.Function callee of tys)) h = refl
@@ -164,15 +164,15 @@ module _ (ds : Definitions) (name : List ℕ) (ty : CType) (has_value : Bool) wh
           subst (λ v. HasObjects v (later true)) (sym (next_there n name ty (after true) (meaning_of (later true) name) (own_meaning name (m.Object n ty) env) h.count)) (record {
             count = longer u.objects new_object ∙ ap (λ k. k + 1) h.count;
             objects = λ q k of. meant_by name (m.Object n ty) env q (m.Object k of)
-                (λ own e. subst (λ j. IsOfType (slice_get (u.objects ++ new_object ∷ []) j) of) (h.count ∙ sym (same_object e).0)
-                (subst (λ o. IsOfType o of) (sym (last_there u.objects new_object)) (ap type_view (same_object e).1)))
+                (λ own e. subst (λ j. ObjectIsOfType (slice_get (u.objects ++ new_object ∷ []) j) of) (h.count ∙ sym (same_object e).0)
+                (subst (λ o. ObjectIsOfType o of) (sym (last_there u.objects new_object)) (ap type_view (same_object e).1)))
                 (λ differs e. front_stays u.objects new_object k of (h.objects q k of e));
           })
       choose false =
           subst (λ v. HasObjects v (later false)) (sym (ap (λ o. add_numbered (object_by o) name ty (after false)) (own_meaning name (m.Undefined u.names.undefined) env)))
           (other name (m.Undefined u.names.undefined) env u (after false) (λ k of e. cc) refl refl h)
 
-  pub declared_object : (u : UnitSoFar) {names : UnitNames} {env later : Env} → IsDeclared ds name (object_declared ty has_value) u.names env names later → HasObjects u env → HasObjects (add_object later name ty (with_names names u)) later
+  pub declared_object : (u : UnitSoFar) {names : UnitNames} {env later : Env} → DeclaresName ds name (object_declared ty has_value) u.names env names later → HasObjects u env → HasObjects (add_object later name ty (with_names names u)) later
   declared_object u (First {env = env} e free) h = first_object u env free h
   declared_object u {names = names} (Again {env = env} old e may) h =
       subst (λ v. HasObjects v env) (sym (none_next name ty (with_names names u) env (meaning_of env name) (λ k of e. h.objects name k of e))) (record { count = h.count; objects = h.objects })
@@ -188,7 +188,7 @@ filled_objects (Some number) cells u env h = record {
   objects = λ q k ty e. cells_stay u.objects number cells k ty (h.objects q k ty e);
 }
 
-pub steps_objects : (ds : Definitions) {es : List External} {w v : Walk} → WalkSteps ds es w v → HasObjects w.0 w.1.0 → HasObjects v.0 v.1.0
+pub steps_objects : (ds : Definitions) {es : List External} {w v : UnitWalk} → WalkSteps ds es w v → HasObjects w.0 w.1.0 → HasObjects v.0 v.1.0
 steps_objects ds Stays h = h
 steps_objects ds (Follows one two) h = steps_objects ds two (steps_objects ds one h)
 steps_objects ds (AddsConstant {u = u} {env = env} name word e k) h = other name (m.Constant word) env u u (λ k ty e. cc) refl refl h

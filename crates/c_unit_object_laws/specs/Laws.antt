@@ -3,21 +3,21 @@ use Rattle.std.specs.Prelude.{List}
 use Rattle.c_typed_tree.specs.declared.types.StructDef.{StructDef}
 use Rattle.c_tree.specs.declared.declarations.External.{External}
 use Rattle.c_definitions.specs.declared.names.Definitions.{Definitions}
-use Rattle.c_declarations.specs.Walk.{Walk}
+use Rattle.c_declarations.specs.Walk.{UnitWalk}
 use Rattle.c_struct_laws.specs.Growth.{Grow}
 use Rattle.c_unit_meaning_laws.specs.Walks.{WalkSteps}
 use Rattle.c_unit_object_laws.specs.Meant.{GoesTo, AreMeant, HasObjects}
 
 abbrev pub WalksGoOn : Type 0
-WalksGoOn = (ds : Definitions) (es : List External) (w v : Walk) → WalkSteps ds es w v → GoesTo w.1 v.1
+WalksGoOn = (ds : Definitions) (es : List External) (w v : UnitWalk) → WalkSteps ds es w v → GoesTo w.1 v.1
 
 -- among structs that have grown from those at the end
 abbrev pub NamesAreMeant : Type 0
 NamesAreMeant =
-    (ds : Definitions) (es : List External) (structs : List StructDef) (w v : Walk) → WalkSteps ds es w v →
+    (ds : Definitions) (es : List External) (structs : List StructDef) (w v : UnitWalk) → WalkSteps ds es w v →
     Grow v.1.1.structs structs → AreMeant structs w.1.0 → AreMeant structs v.1.0
 
 abbrev pub ObjectsAreNumbered : Type 0
 ObjectsAreNumbered =
-    (ds : Definitions) (es : List External) (w v : Walk) → WalkSteps ds es w v → HasObjects w.0 w.1.0 →
+    (ds : Definitions) (es : List External) (w v : UnitWalk) → WalkSteps ds es w v → HasObjects w.0 w.1.0 →
     HasObjects v.0 v.1.0

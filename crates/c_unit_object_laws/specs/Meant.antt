@@ -14,7 +14,7 @@ use Rattle.c_checks.specs.declared.env.Env.{Env}
 use Rattle.c_checks.specs.declared.meanings.NameMeaning.{NameMeaning}
 use Rattle.c_checks.specs.declared.meanings.NameMeaning.TheVariants as m
 use Rattle.c_checks.specs.Scopes.{meaning_of}
-use Rattle.c_judgements.specs.Types.{State}
+use Rattle.c_judgements.specs.Types.{JudgementState}
 use Rattle.c_globals.specs.declared.objects.UnitObject.{UnitObject}
 use Rattle.c_declarations.specs.declared.walk.UnitSoFar.{UnitSoFar}
 use Rattle.c_unit_meaning_laws.specs.CStatementLaws.{is_parameter}
@@ -25,7 +25,7 @@ use Rattle.c_body_laws.specs.Notes.{of_structs, IsWellDeclared}
 
 -- ---- what is noted along declarations
 
-pub record GoesTo (s later : State) : Type 0 where
+pub record GoesTo (s later : JudgementState) : Type 0 where
   pub grow : Grow s.1.structs later.1.structs
   pub declared : IsWellDeclared s → IsWellDeclared later
   pub texts : StandsFirst s.1.texts later.1.texts
@@ -61,11 +61,11 @@ AreMeant structs env = (q : List ℕ) (x : NameMeaning) → meaning_of env q ≡
 -- ---- objects
 
 -- an object of this type, as far as plain types tell
-abbrev pub IsOfType : Option UnitObject → CType → Type 0
-IsOfType None ty = ⊥
-IsOfType (Some o) ty = type_view o.ty ≡ type_view ty
+abbrev pub ObjectIsOfType : Option UnitObject → CType → Type 0
+ObjectIsOfType None ty = ⊥
+ObjectIsOfType (Some o) ty = type_view o.ty ≡ type_view ty
 
 pub record HasObjects (u : UnitSoFar) (env : Env) : Type 0 where
   pub count : length u.objects ≡ u.names.objects
   pub objects : (q : List ℕ) (k : ℕ) (ty : CType) → meaning_of env q ≡ Some (m.Object k ty) →
-      IsOfType (slice_get u.objects k) ty
+      ObjectIsOfType (slice_get u.objects k) ty

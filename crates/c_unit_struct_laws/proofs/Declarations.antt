@@ -23,21 +23,21 @@ use Rattle.c_checks.specs.declared.notes.Notes.{Notes}
 use Rattle.c_checks.specs.Checks.{each}
 use Rattle.c_checks.specs.Notes.{with_fault}
 use Rattle.c_judgements.specs.Leaves.{no_type}
-use Rattle.c_judgements.specs.Types.{State, type_named}
+use Rattle.c_judgements.specs.Types.{JudgementState, type_named}
 use Rattle.c_tag_bodies.specs.Members.{is_member}
 use Rattle.c_statements.specs.declared.functions.FunctionType.{FunctionType}
 use Rattle.c_statements.specs.Functions.{function}
 use Rattle.c_initialisers.specs.Initialisers.{object_cells, length_given}
 use Rattle.c_initialisers.specs.Unfit.{judge_init}
 use Rattle.c_unit_names.specs.declared.names.NameDeclaration.{NameDeclaration}
-use Rattle.c_declarations.specs.Walk.{Walk, in_notes, with_notes, declare, is_static, is_main, main_checked, with_object}
+use Rattle.c_declarations.specs.Walk.{UnitWalk, in_notes, with_notes, declare, is_static, is_main, main_checked, with_object}
 use Rattle.c_declarations.specs.Objects.{no_object, object_type, type_there, array_type, init_judged, init_filled, object_declared, faulty_object, object_of, object_with_type, array_object, value_object}
 use Rattle.c_declarations.specs.Functions.{function_type, function_declared, function_of, function_with_type, refusal_of, init_refused, optional_refused, name_row, defined_type}
 use Rattle.c_units.specs.Externals.{typedef_of, typedef_declared, prototype, object_with, with_main_in, with_definition, type_of_function, definition, end_judged, function_typed}
 use Rattle.c_judgement_laws.specs.Covers.{IsLawfulContext}
 use Rattle.c_expression_laws.specs.Types.{IsTypeIn}
 use Rattle.c_statement_laws.proofs.Functions.{function_leaves}
-use Rattle.c_note_laws.specs.Steps.{Steps}
+use Rattle.c_note_laws.specs.Steps.{NoteSteps}
 use Rattle.c_note_laws.proofs.Forms.{each_adds, named_type_adds}
 use Rattle.c_step_laws.proofs.Statements.{function_steps}
 use Rattle.c_step_laws.proofs.Initialisers.{init_steps, unfit_steps, cells_steps}
@@ -53,52 +53,52 @@ use Rattle.c_unit_struct_laws.proofs.Names.{LeadsWhere, Given, declaration_leads
 empty_lawful : IsLawfulContext (of_structs [])
 empty_lawful = All-nil (IsLawfulStruct [])
 
-init_env : (x : Init) (s : State) → (judge_init x s).1.0 ≡ s.0
+init_env : (x : Init) (s : JudgementState) → (judge_init x s).1.0 ≡ s.0
 init_env x s = (object_leaves (of_structs []) empty_lawful ct.Void x s).1.env
 
-judged_leads : (x : Init) (s : State) → LeadsOn s (judge_init x s).1
+judged_leads : (x : Init) (s : JudgementState) → LeadsOn s (judge_init x s).1
 judged_leads x s = leads_steps s (judge_init x s).1 (init_env x s) (init_steps x s)
 
-refused_leads : (x : Init) (s : State) → LeadsOn s (init_refused x s)
+refused_leads : (x : Init) (s : JudgementState) → LeadsOn s (init_refused x s)
 refused_leads x s = leads_steps s (init_refused x s) (init_env x s) (unfit_steps (refusal_of x) x s)
 
-cells_lead : (ty : CType) (x : Init) (s : State) → LeadsOn s (object_cells ty x s).1
+cells_lead : (ty : CType) (x : Init) (s : JudgementState) → LeadsOn s (object_cells ty x s).1
 cells_lead ty x s = leads_steps s (object_cells ty x s).1 (object_leaves (of_structs []) empty_lawful ty x s).0.env (cells_steps ty x s)
 
-body_leads : (e : Declaration) (of : Option FunctionType) (list : List Stmt) (s : State) → LeadsOn s (function e of list s).1
+body_leads : (e : Declaration) (of : Option FunctionType) (list : List Stmt) (s : JudgementState) → LeadsOn s (function e of list s).1
 body_leads e of list s = leads_steps s (function e of list s).1 (function_leaves (of_structs []) empty_lawful e of list s).env (function_steps e of list s)
 
-optional_judged_leads : (o : Option Init) (s : State) → LeadsOn s (init_judged o s)
+optional_judged_leads : (o : Option Init) (s : JudgementState) → LeadsOn s (init_judged o s)
 optional_judged_leads None s = leads_itself s
 optional_judged_leads (Some x) s = judged_leads x s
 
-optional_refused_leads : (o : Option Init) (s : State) → LeadsOn s (optional_refused o s)
+optional_refused_leads : (o : Option Init) (s : JudgementState) → LeadsOn s (optional_refused o s)
 optional_refused_leads None s = leads_itself s
 optional_refused_leads (Some x) s = refused_leads x s
 
-main_steps : (storage : Option Storage) (at : ℕ) (name : List ℕ) (n : Notes) → Steps n (main_checked storage at name n)
+main_steps : (storage : Option Storage) (at : ℕ) (name : List ℕ) (n : Notes) → NoteSteps n (main_checked storage at name n)
 main_steps storage at name n = choose (is_static storage) (is_main name)
   where
-    choose : (a b : Bool) → Steps n (if a then (if b then with_fault at Redeclared n else n) else n)
-    choose true true = Steps.AddsFault at Redeclared
-    choose true false = Steps.Stays
-    choose false b = Steps.Stays
+    choose : (a b : Bool) → NoteSteps n (if a then (if b then with_fault at Redeclared n else n) else n)
+    choose true true = NoteSteps.AddsFault at Redeclared
+    choose true false = NoteSteps.Stays
+    choose false b = NoteSteps.Stays
 
-main_leads : (storage : Option Storage) (at : ℕ) (name : List ℕ) (s : State) → LeadsOn s (s.0, main_checked storage at name s.1)
+main_leads : (storage : Option Storage) (at : ℕ) (name : List ℕ) (s : JudgementState) → LeadsOn s (s.0, main_checked storage at name s.1)
 main_leads storage at name s = leads_steps s (s.0, main_checked storage at name s.1) refl (main_steps storage at name s.1)
 
 -- a name that is no typedef name, or whose declaration has a fault
 abbrev IsValue : Option NameDeclaration → Type 0
 IsValue new = IfSome new (λ d. d.is_typedef ≡ false)
 
-value_given : (s : State) (new : Option NameDeclaration) → IsValue new → Given s.1.structs new
+value_given : (s : JudgementState) (new : Option NameDeclaration) → IsValue new → Given s.1.structs new
 value_given s None h = tt
 value_given s (Some new) h = λ typedef. absurd (clash new.is_typedef h typedef)
   where
     clash : (b : Bool) → b ≡ false → IsTrue b → ⊥
     clash b e h = cc
 
-declared_leads : (ds : Definitions) (at : ℕ) (name : List ℕ) (new : Option NameDeclaration) (w : Walk) → IsValue new → LeadsOn w.1 (declare ds at name new w).1
+declared_leads : (ds : Definitions) (at : ℕ) (name : List ℕ) (new : Option NameDeclaration) (w : UnitWalk) → IsValue new → LeadsOn w.1 (declare ds at name new w).1
 declared_leads ds at name new w h =
     let d = declaration_leads ds at name new w.0.names w.1 in
     record { grow = d.grow; sound = λ s. d.sound s (value_given w.1 new h) }
@@ -113,19 +113,19 @@ named_type_in at (Some x) n P h = choose (is_declarable n.structs x)
     choose true = h
     choose false = tt
 
-typedef_given : (s : State) (o : Option DeclaredType) → IfSome o (IsTypeIn (of_structs s.1.structs)) → Given s.1.structs (option_map typedef_of o)
+typedef_given : (s : JudgementState) (o : Option DeclaredType) → IfSome o (IsTypeIn (of_structs s.1.structs)) → Given s.1.structs (option_map typedef_of o)
 typedef_given s None h = tt
 typedef_given s (Some x) h = λ typedef. h
 
-types_grow : (n later : Notes) (o : Option DeclaredType) → Steps n later → IfSome o (IsTypeIn (of_structs n.structs)) → IfSome o (IsTypeIn (of_structs later.structs))
+types_grow : (n later : Notes) (o : Option DeclaredType) → NoteSteps n later → IfSome o (IsTypeIn (of_structs n.structs)) → IfSome o (IsTypeIn (of_structs later.structs))
 types_grow n later None steps h = tt
 types_grow n later (Some x) steps h = type_grows (of_structs n.structs) (of_structs later.structs) (steps_keep steps).grow x h
 
-pub typedef_leads : (ds : Definitions) (at : ℕ) (name : List ℕ) (ty : Option DeclaredType) (w : Walk)
+pub typedef_leads : (ds : Definitions) (at : ℕ) (name : List ℕ) (ty : Option DeclaredType) (w : UnitWalk)
     → LeadsWhere (IfSome ty (IsTypeIn (of_structs w.1.1.structs))) w.1 (typedef_declared ds at name ty w).1
 typedef_leads ds at name ty w =
     let r = each ty (type_named at) w.1.1 in
-    let u : State = (w.1.0, r.1) in
+    let u : JudgementState = (w.1.0, r.1) in
     let steps = each_adds ty (type_named at) w.1.1 (λ x. named_type_adds at x w.1.1) in
     let one = leads_steps w.1 u refl steps in
     let two = declaration_leads ds at name (option_map typedef_of r.0) w.0.names u in
@@ -136,29 +136,29 @@ typedef_leads ds at name ty w =
 
 -- ---- objects
 
-object_type_steps : (at : ℕ) (ty : CType) (n : Notes) → Steps n (object_type at ty n).1
+object_type_steps : (at : ℕ) (ty : CType) (n : Notes) → NoteSteps n (object_type at ty n).1
 object_type_steps at ty n = choose (is_member n.structs ty)
   where
-    choose : (b : Bool) → Steps n (if b then (Some ty, n) else no_object at n).1
-    choose true = Steps.Stays
-    choose false = Steps.AddsFault at BadType
+    choose : (b : Bool) → NoteSteps n (if b then (Some ty, n) else no_object at n).1
+    choose true = NoteSteps.Stays
+    choose false = NoteSteps.AddsFault at BadType
 
-type_there_steps : (at : ℕ) (o : Option DeclaredType) (n : Notes) → Steps n (type_there at o n).1
-type_there_steps at None n = Steps.AddsFault at BadType
+type_there_steps : (at : ℕ) (o : Option DeclaredType) (n : Notes) → NoteSteps n (type_there at o n).1
+type_there_steps at None n = NoteSteps.AddsFault at BadType
 type_there_steps at (Some (d.Value ty)) n = object_type_steps at ty n
-type_there_steps at (Some (d.Unsized element)) n = Steps.AddsFault at BadType
-type_there_steps at (Some (d.Function of parameters)) n = Steps.AddsFault at BadType
+type_there_steps at (Some (d.Unsized element)) n = NoteSteps.AddsFault at BadType
+type_there_steps at (Some (d.Function of parameters)) n = NoteSteps.AddsFault at BadType
 
-faulty_object_leads : (ds : Definitions) (at : ℕ) (name : List ℕ) (init : Option Init) (w : Walk) → LeadsOn w.1 (faulty_object ds at name init w).1
+faulty_object_leads : (ds : Definitions) (at : ℕ) (name : List ℕ) (init : Option Init) (w : UnitWalk) → LeadsOn w.1 (faulty_object ds at name init w).1
 faulty_object_leads ds at name init w =
     let u = (declare ds at name None w).1 in
     leads_then w.1 u (init_judged init u) (declared_leads ds at name None w tt) (optional_judged_leads init u)
 
-filled_leads : (name : List ℕ) (ty : CType) (init : Option Init) (w : Walk) → LeadsOn w.1 (init_filled name ty init w).1
+filled_leads : (name : List ℕ) (ty : CType) (init : Option Init) (w : UnitWalk) → LeadsOn w.1 (init_filled name ty init w).1
 filled_leads name ty None w = leads_itself w.1
 filled_leads name ty (Some x) w = cells_lead ty x w.1
 
-object_of_leads : (ds : Definitions) (at : ℕ) (name : List ℕ) (storage : Option Storage) (init : Option Init) (o : Option CType) (w : Walk) → LeadsOn w.1 (object_of ds at name storage init o w).1
+object_of_leads : (ds : Definitions) (at : ℕ) (name : List ℕ) (storage : Option Storage) (init : Option Init) (o : Option CType) (w : UnitWalk) → LeadsOn w.1 (object_of ds at name storage init o w).1
 object_of_leads ds at name storage init None w = faulty_object_leads ds at name init w
 object_of_leads ds at name storage init (Some ty) w =
     let u = with_notes (main_checked storage at name w.1.1) w in
@@ -168,39 +168,39 @@ object_of_leads ds at name storage init (Some ty) w =
     (leads_then u.1 v.1 (init_filled name ty init x).1 (declared_leads ds at name (Some (object_declared ty (is_some init))) u refl) (filled_leads name ty init x))
 
 -- an object behind steps that judge its type
-object_behind : (ds : Definitions) (at : ℕ) (name : List ℕ) (storage : Option Storage) (init : Option Init) (w : Walk) (r : Option CType × Notes) → Steps w.1.1 r.1 → LeadsOn w.1 (object_with_type ds at name storage init (in_notes w r)).1
+object_behind : (ds : Definitions) (at : ℕ) (name : List ℕ) (storage : Option Storage) (init : Option Init) (w : UnitWalk) (r : Option CType × Notes) → NoteSteps w.1.1 r.1 → LeadsOn w.1 (object_with_type ds at name storage init (in_notes w r)).1
 object_behind ds at name storage init w r steps =
-    let u : Walk = (w.0, (w.1.0, r.1)) in
+    let u : UnitWalk = (w.0, (w.1.0, r.1)) in
     leads_then w.1 u.1 (object_of ds at name storage init r.0 u).1 (leads_steps w.1 u.1 refl steps) (object_of_leads ds at name storage init r.0 u)
 
-value_leads : (ds : Definitions) (at : ℕ) (name : List ℕ) (storage : Option Storage) (init : Option Init) (ty : CType) (w : Walk) → LeadsOn w.1 (value_object ds at name storage init ty w).1
+value_leads : (ds : Definitions) (at : ℕ) (name : List ℕ) (storage : Option Storage) (init : Option Init) (ty : CType) (w : UnitWalk) → LeadsOn w.1 (value_object ds at name storage init ty w).1
 value_leads ds at name storage init ty w = object_behind ds at name storage init w (object_type at ty w.1.1) (object_type_steps at ty w.1.1)
 
-array_leads : (ds : Definitions) (at : ℕ) (name : List ℕ) (storage : Option Storage) (init : Option Init) (element : CType) (w : Walk) → LeadsOn w.1 (array_object ds at name storage init element w).1
-array_leads ds at name storage None element w = object_behind ds at name storage None w (no_object at w.1.1) (Steps.AddsFault at BadType)
+array_leads : (ds : Definitions) (at : ℕ) (name : List ℕ) (storage : Option Storage) (init : Option Init) (element : CType) (w : UnitWalk) → LeadsOn w.1 (array_object ds at name storage init element w).1
+array_leads ds at name storage None element w = object_behind ds at name storage None w (no_object at w.1.1) (NoteSteps.AddsFault at BadType)
 array_leads ds at name storage (Some x) element w =
     object_behind ds at name storage (Some x) w (array_type at element (length_given element x) w.1.1) (type_there_steps at (array_with w.1.1.structs element (length_given element x)) w.1.1)
 
 -- ---- functions
 
-function_type_steps : (at : ℕ) (ty : DeclaredType) (n : Notes) → Steps n (function_type at ty n).1
-function_type_steps at (d.Value ty) n = Steps.AddsFault at BadType
-function_type_steps at (d.Unsized element) n = Steps.AddsFault at BadType
+function_type_steps : (at : ℕ) (ty : DeclaredType) (n : Notes) → NoteSteps n (function_type at ty n).1
+function_type_steps at (d.Value ty) n = NoteSteps.AddsFault at BadType
+function_type_steps at (d.Unsized element) n = NoteSteps.AddsFault at BadType
 function_type_steps at (d.Function of parameters) n = named_type_adds at (d.Function of parameters) n
 
-function_of_leads : (ds : Definitions) (at : ℕ) (name : List ℕ) (storage : Option Storage) (has_body : Bool) (o : Option DeclaredType) (w : Walk) → LeadsOn w.1 (function_of ds at name storage has_body o w).1
+function_of_leads : (ds : Definitions) (at : ℕ) (name : List ℕ) (storage : Option Storage) (has_body : Bool) (o : Option DeclaredType) (w : UnitWalk) → LeadsOn w.1 (function_of ds at name storage has_body o w).1
 function_of_leads ds at name storage has_body None w = declared_leads ds at name None w tt
 function_of_leads ds at name storage has_body (Some ty) w =
     let u = with_notes (main_checked storage at name w.1.1) w in
     leads_then w.1 u.1 (function_of ds at name storage has_body (Some ty) w).1 (main_leads storage at name w.1) (declared_leads ds at name (Some (function_declared has_body ty)) u refl)
 
-prototype_leads : (ds : Definitions) (at : ℕ) (name : List ℕ) (storage : Option Storage) (ty : DeclaredType) (w : Walk) → LeadsOn w.1 (prototype ds at name storage ty w).1
+prototype_leads : (ds : Definitions) (at : ℕ) (name : List ℕ) (storage : Option Storage) (ty : DeclaredType) (w : UnitWalk) → LeadsOn w.1 (prototype ds at name storage ty w).1
 prototype_leads ds at name storage ty w =
     let r = function_type at ty w.1.1 in
-    let u : Walk = (w.0, (w.1.0, r.1)) in
+    let u : UnitWalk = (w.0, (w.1.0, r.1)) in
     leads_then w.1 u.1 (prototype ds at name storage ty w).1 (leads_steps w.1 u.1 refl (function_type_steps at ty w.1.1)) (function_of_leads ds at name storage false r.0 u)
 
-pub object_leads : (ds : Definitions) (at : ℕ) (name : List ℕ) (storage : Option Storage) (init : Option Init) (ty : Option DeclaredType) (w : Walk) → LeadsOn w.1 (object_with ds at name storage init ty w).1
+pub object_leads : (ds : Definitions) (at : ℕ) (name : List ℕ) (storage : Option Storage) (init : Option Init) (ty : Option DeclaredType) (w : UnitWalk) → LeadsOn w.1 (object_with ds at name storage init ty w).1
 object_leads ds at name storage init None w = faulty_object_leads ds at name init w
 object_leads ds at name storage init (Some (d.Value ty)) w = value_leads ds at name storage init ty w
 object_leads ds at name storage init (Some (d.Unsized element)) w = array_leads ds at name storage init element w
@@ -208,39 +208,39 @@ object_leads ds at name storage init (Some (d.Function of parameters)) w =
     let u = (prototype ds at name storage (d.Function of parameters) w).1 in
     leads_then w.1 u (optional_refused init u) (prototype_leads ds at name storage (d.Function of parameters) w) (optional_refused_leads init u)
 
-name_row_steps : {m : _} (xs : k.Row_of-Parameter m) (whole : Bool) (n : Notes) → Steps n (name_row xs whole n).1
+name_row_steps : {m : _} (xs : k.Row_of-Parameter m) (whole : Bool) (n : Notes) → NoteSteps n (name_row xs whole n).1
 unfolding name_row
-name_row_steps k.end_of-Parameter whole n = Steps.Stays
-name_row_steps (k.more_of-Parameter at None ty rest) whole n = Steps.Follows (Steps.AddsFault at BadType) (name_row_steps rest false (with_fault at BadType n))
+name_row_steps k.end_of-Parameter whole n = NoteSteps.Stays
+name_row_steps (k.more_of-Parameter at None ty rest) whole n = NoteSteps.Follows (NoteSteps.AddsFault at BadType) (name_row_steps rest false (with_fault at BadType n))
 name_row_steps (k.more_of-Parameter at (Some name) ty rest) whole n = name_row_steps rest whole n
 
-defined_steps : (at : ℕ) (node : t.TypeNode) (ty : DeclaredType) (n : Notes) → Steps n (defined_type at node ty n).1
+defined_steps : (at : ℕ) (node : t.TypeNode) (ty : DeclaredType) (n : Notes) → NoteSteps n (defined_type at node ty n).1
 unfolding defined_type
-defined_steps at (t.Basic words) ty n = Steps.AddsFault at BadType
-defined_steps at (t.Named name) ty n = Steps.AddsFault at BadType
-defined_steps at (t.Enum' place tag constants) ty n = Steps.AddsFault at BadType
-defined_steps at (t.Struct' place tag members) ty n = Steps.AddsFault at BadType
-defined_steps at (t.Pointer' _ target) ty n = Steps.AddsFault at BadType
-defined_steps at (t.Array' _ element length) ty n = Steps.AddsFault at BadType
+defined_steps at (t.Basic words) ty n = NoteSteps.AddsFault at BadType
+defined_steps at (t.Named name) ty n = NoteSteps.AddsFault at BadType
+defined_steps at (t.Enum' place tag constants) ty n = NoteSteps.AddsFault at BadType
+defined_steps at (t.Struct' place tag members) ty n = NoteSteps.AddsFault at BadType
+defined_steps at (t.Pointer' _ target) ty n = NoteSteps.AddsFault at BadType
+defined_steps at (t.Array' _ element length) ty n = NoteSteps.AddsFault at BadType
 defined_steps at (t.Takes' _ result _ parameters) ty n = name_row_steps parameters true n
 
-definition_leads : (ds : Definitions) (e : Declaration) (storage : Option Storage) (list : List Stmt) (ty : DeclaredType) (w : Walk) → LeadsOn w.1 (definition ds e storage list ty w).1
+definition_leads : (ds : Definitions) (e : Declaration) (storage : Option Storage) (list : List Stmt) (ty : DeclaredType) (w : UnitWalk) → LeadsOn w.1 (definition ds e storage list ty w).1
 definition_leads ds e storage list ty w =
     let a = function_type e.at ty w.1.1 in
     let b = with_main_in e.name (in_notes w a) in
     let r = with_definition e.at e.ty b in
-    let steps = Steps.Follows (function_type_steps e.at ty w.1.1) (each_adds b.0 (defined_type e.at e.ty) b.1.1.1 (λ x. defined_steps e.at e.ty x b.1.1.1)) in
+    let steps = NoteSteps.Follows (function_type_steps e.at ty w.1.1) (each_adds b.0 (defined_type e.at e.ty) b.1.1.1 (λ x. defined_steps e.at e.ty x b.1.1.1)) in
     let v = function_with_type ds e.at e.name storage true r in
     let of = type_of_function r.0 in
     leads_then w.1 r.1.1 (function e of list v.1).1 (leads_steps w.1 r.1.1 refl steps)
     (leads_then r.1.1 v.1 (function e of list v.1).1 (function_of_leads ds e.at e.name storage true r.0 r.1) (body_leads e of list v.1))
 
-end_leads : (e : Declaration) (end : FunctionEnd) (s : State) → LeadsOn s (end_judged e end s)
+end_leads : (e : Declaration) (end : FunctionEnd) (s : JudgementState) → LeadsOn s (end_judged e end s)
 end_leads e f.Nothing s = leads_itself s
 end_leads e (f.Init init) s = judged_leads init s
 end_leads e (f.Body list) s = body_leads e None list s
 
-pub function_leads : (ds : Definitions) (e : Declaration) (storage : Option Storage) (end : FunctionEnd) (ty : Option DeclaredType) (w : Walk) → LeadsOn w.1 (function_typed ds e storage end ty w).1
+pub function_leads : (ds : Definitions) (e : Declaration) (storage : Option Storage) (end : FunctionEnd) (ty : Option DeclaredType) (w : UnitWalk) → LeadsOn w.1 (function_typed ds e storage end ty w).1
 function_leads ds e storage end None w =
     let u = (declare ds e.at e.name None w).1 in
     leads_then w.1 u (end_judged e end u) (declared_leads ds e.at e.name None w tt) (end_leads e end u)

@@ -11,23 +11,23 @@ use Rattle.c_checks.specs.declared.meanings.NameMeaning.{NameMeaning}
 use Rattle.c_checks.specs.declared.meanings.NameMeaning.TheVariants as m
 use Rattle.c_checks.specs.Notes.{with_fault}
 use Rattle.c_checks.specs.Scopes.{with_name, meaning_of}
-use Rattle.c_judgements.specs.Types.{State}
+use Rattle.c_judgements.specs.Types.{JudgementState}
 use Rattle.c_unit_names.specs.declared.names.NameDeclaration.{NameDeclaration}
 use Rattle.c_unit_names.specs.declared.names.UnitNames.{UnitNames}
 use Rattle.c_unit_names.specs.UnitNames.{object_name, function_name, value_name, first_meaning, meaning_before, first_by, follows, known_by, faulty_by, declaration}
 use Rattle.c_expression_laws.specs.Types.{IsTypeIn, IsTypedefIn}
-use Rattle.c_note_laws.specs.Steps.{Steps}
+use Rattle.c_note_laws.specs.Steps.{NoteSteps}
 use Rattle.c_struct_laws.specs.Growth.{Grow}
 use Rattle.c_struct_laws.proofs.Growth.{grow_itself}
 use Rattle.c_body_laws.specs.Notes.{of_structs, IsWellDeclared, LeadsOn}
 use Rattle.c_body_laws.proofs.Types.{leads_itself, leads_steps}
 
 -- what leads on where something is given
-pub record LeadsWhere (given : Type 0) (s later : State) : Type 0 where
+pub record LeadsWhere (given : Type 0) (s later : JudgementState) : Type 0 where
   pub grow : Grow s.1.structs later.1.structs
   pub sound : IsWellDeclared s → given → IsWellDeclared later
 
-pub leads_where : (given : Type 0) (s later : State) → LeadsOn s later → LeadsWhere given s later
+pub leads_where : (given : Type 0) (s later : JudgementState) → LeadsOn s later → LeadsWhere given s later
 leads_where given s later h = record { grow = h.grow; sound = λ w g. h.sound w }
 
 -- the parts of the type of a typedef name are there
@@ -58,13 +58,13 @@ meaning_in structs ds name new u h = choose new.is_typedef h
     choose false h = value_in structs ds name new.ty u
 
 -- a name in front of the others
-pub named_leads : (name : List ℕ) (meaning : NameMeaning) (given : Type 0) (s : State) → (given → IsIn s.1.structs meaning) → LeadsWhere given s (with_name name meaning s.0, s.1)
+pub named_leads : (name : List ℕ) (meaning : NameMeaning) (given : Type 0) (s : JudgementState) → (given → IsIn s.1.structs meaning) → LeadsWhere given s (with_name name meaning s.0, s.1)
 named_leads name meaning given s h = record { grow = grow_itself s.1.structs; sound = λ w g. record { noted = w.noted; typedefs = (h g, w.typedefs) } }
 
-redeclared : (given : Type 0) (at : ℕ) (s : State) → LeadsWhere given s (s.0, with_fault at Redeclared s.1)
-redeclared given at s = leads_where given s (s.0, with_fault at Redeclared s.1) (leads_steps s (s.0, with_fault at Redeclared s.1) refl (Steps.AddsFault at Redeclared))
+redeclared : (given : Type 0) (at : ℕ) (s : JudgementState) → LeadsWhere given s (s.0, with_fault at Redeclared s.1)
+redeclared given at s = leads_where given s (s.0, with_fault at Redeclared s.1) (leads_steps s (s.0, with_fault at Redeclared s.1) refl (NoteSteps.AddsFault at Redeclared))
 
-first_leads : (o : Option NameMeaning) (ds : Definitions) (at : ℕ) (name : List ℕ) (new : NameDeclaration) (u : UnitNames) (s : State) → LeadsWhere (HasType s.1.structs new) s (first_by (meaning_before o) ds at name new u s).1
+first_leads : (o : Option NameMeaning) (ds : Definitions) (at : ℕ) (name : List ℕ) (new : NameDeclaration) (u : UnitNames) (s : JudgementState) → LeadsWhere (HasType s.1.structs new) s (first_by (meaning_before o) ds at name new u s).1
 first_leads None ds at name new u s = named_leads name (first_meaning ds name new u).0 (HasType s.1.structs new) s (meaning_in s.1.structs ds name new u)
 first_leads (Some m.Faulty) ds at name new u s = leads_where (HasType s.1.structs new) s s (leads_itself s)
 first_leads (Some (m.Undefined number)) ds at name new u s = redeclared (HasType s.1.structs new) at s
@@ -74,12 +74,12 @@ first_leads (Some (m.Constant word)) ds at name new u s = redeclared (HasType s.
 first_leads (Some (m.Function callee ty parameters)) ds at name new u s = redeclared (HasType s.1.structs new) at s
 first_leads (Some (m.Typedef ty)) ds at name new u s = redeclared (HasType s.1.structs new) at s
 
-known_leads : (o : Option (Option Bool)) (ds : Definitions) (at : ℕ) (name : List ℕ) (new : NameDeclaration) (u : UnitNames) (s : State) → LeadsWhere (HasType s.1.structs new) s (known_by o ds at name new u s).1
+known_leads : (o : Option (Option Bool)) (ds : Definitions) (at : ℕ) (name : List ℕ) (new : NameDeclaration) (u : UnitNames) (s : JudgementState) → LeadsWhere (HasType s.1.structs new) s (known_by o ds at name new u s).1
 known_leads None ds at name new u s = first_leads (meaning_of s.0 name) ds at name new u s
 known_leads (Some None) ds at name new u s = redeclared (HasType s.1.structs new) at s
 known_leads (Some (Some has_value)) ds at name new u s = leads_where (HasType s.1.structs new) s s (leads_itself s)
 
-faulty_leads : (o : Option NameMeaning) (name : List ℕ) (given : Type 0) (s : State) → LeadsWhere given s (faulty_by (meaning_before o) name s.0, s.1)
+faulty_leads : (o : Option NameMeaning) (name : List ℕ) (given : Type 0) (s : JudgementState) → LeadsWhere given s (faulty_by (meaning_before o) name s.0, s.1)
 faulty_leads None name given s = named_leads name m.Faulty given s (λ g. tt)
 faulty_leads (Some m.Faulty) name given s = leads_where given s s (leads_itself s)
 faulty_leads (Some (m.Undefined number)) name given s = leads_where given s s (leads_itself s)
@@ -92,6 +92,6 @@ faulty_leads (Some (m.Typedef ty)) name given s = leads_where given s s (leads_i
 abbrev pub Given : List StructDef → Option NameDeclaration → Type 0
 Given structs new = IfSome new (HasType structs)
 
-pub declaration_leads : (ds : Definitions) (at : ℕ) (name : List ℕ) (new : Option NameDeclaration) (u : UnitNames) (s : State) → LeadsWhere (Given s.1.structs new) s (declaration ds at name new u s).1
+pub declaration_leads : (ds : Definitions) (at : ℕ) (name : List ℕ) (new : Option NameDeclaration) (u : UnitNames) (s : JudgementState) → LeadsWhere (Given s.1.structs new) s (declaration ds at name new u s).1
 declaration_leads ds at name None u s = faulty_leads (meaning_of s.0 name) name (Unit {0}) s
 declaration_leads ds at name (Some new) u s = known_leads (follows (find name u.declared) new) ds at name new u s

@@ -7,8 +7,8 @@ use Rattle.c_tree.specs.declared.declarations.TranslationUnit.{TranslationUnit}
 use Rattle.c_typed_tree.specs.Lawful.{IsLawfulStruct}
 use Rattle.c_definitions.specs.declared.names.Definitions.{Definitions}
 use Rattle.c_definitions.specs.Definitions.{definitions}
-use Rattle.c_judgements.specs.Types.{State}
-use Rattle.c_tag_bodies.specs.Bodies.{Scope}
+use Rattle.c_judgements.specs.Types.{JudgementState}
+use Rattle.c_tag_bodies.specs.Bodies.{TagScope}
 use Rattle.c_declarations.specs.declared.walk.UnitSoFar.{UnitSoFar}
 use Rattle.c_units.specs.Externals.{typedef_declared, object_with, function_typed, type_of, external, externals}
 use Rattle.c_units.specs.Units.{start, end_notes, whole_unit}
@@ -18,7 +18,7 @@ use Rattle.c_body_laws.proofs.Types.{leads_itself, leads_then}
 use Rattle.c_body_laws.proofs.Bodies.{declared_found}
 use Rattle.c_unit_struct_laws.proofs.Declarations.{typedef_leads, object_leads, function_leads}
 
-pub external_leads : (ds : Definitions) (e : External) (s : UnitSoFar × Scope) → LeadsOn s.1.1 (external ds e s).1.1
+pub external_leads : (ds : Definitions) (e : External) (s : UnitSoFar × TagScope) → LeadsOn s.1.1 (external ds e s).1.1
 external_leads ds (x.Typedef e) s =
     let r = type_of e s.1 in
     let found = declared_found e.at e.ty s.1 in
@@ -35,7 +35,7 @@ external_leads ds (x.Function e storage end) s =
     leads_then s.1.1 r.1.1 (function_typed ds e storage end r.0 (s.0, r.1.1)).1 (declared_found e.at e.ty s.1).leads (function_leads ds e storage end r.0 (s.0, r.1.1))
 external_leads ds (x.Tags storage ty) s = (declared_found 0 ty s.1).leads
 
-pub externals_lead : (ds : Definitions) (es : List External) (s : UnitSoFar × Scope) → LeadsOn s.1.1 (externals ds es s).1.1
+pub externals_lead : (ds : Definitions) (es : List External) (s : UnitSoFar × TagScope) → LeadsOn s.1.1 (externals ds es s).1.1
 externals_lead ds [] s = leads_itself s.1.1
 externals_lead ds (e ∷ es) s = leads_then s.1.1 (external ds e s).1.1 (externals ds es (external ds e s)).1.1 (external_leads ds e s) (externals_lead ds es (external ds e s))
 
@@ -48,7 +48,7 @@ start_declared ds = record {
 }
 
 -- what is noted at the end is a fault at most
-end_declared : (length : ℕ) (has_main : Bool) (s : State) → IsWellDeclared s → IsWellDeclared (s.0, end_notes length has_main s.1)
+end_declared : (length : ℕ) (has_main : Bool) (s : JudgementState) → IsWellDeclared s → IsWellDeclared (s.0, end_notes length has_main s.1)
 end_declared length true s h = record { noted = record { structs = h.noted.structs; tags = h.noted.tags; untagged = h.noted.untagged }; typedefs = h.typedefs }
 end_declared length false s h = record { noted = record { structs = h.noted.structs; tags = h.noted.tags; untagged = h.noted.untagged }; typedefs = h.typedefs }
 

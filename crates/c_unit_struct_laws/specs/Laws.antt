@@ -4,14 +4,14 @@ use Rattle.c_tree.specs.declared.declarations.External.{External}
 use Rattle.c_tree.specs.declared.declarations.TranslationUnit.{TranslationUnit}
 use Rattle.c_definitions.specs.declared.names.Definitions.{Definitions}
 use Rattle.c_declarations.specs.declared.walk.UnitSoFar.{UnitSoFar}
-use Rattle.c_tag_bodies.specs.Bodies.{Scope}
+use Rattle.c_tag_bodies.specs.Bodies.{TagScope}
 use Rattle.c_units.specs.Externals.{externals}
 use Rattle.c_units.specs.Units.{whole_unit}
 use Rattle.c_body_laws.specs.Notes.{IsWellDeclared, LeadsOn}
 
 abbrev pub DeclarationsLeadOn : Type 0
 DeclarationsLeadOn =
-    (ds : Definitions) (es : List External) (s : UnitSoFar × Scope) → LeadsOn s.1.1 (externals ds es s).1.1
+    (ds : Definitions) (es : List External) (s : UnitSoFar × TagScope) → LeadsOn s.1.1 (externals ds es s).1.1
 
 abbrev pub UnitIsWellDeclared : Type 0
 UnitIsWellDeclared = (unit : TranslationUnit) → IsWellDeclared (whole_unit unit).1.1

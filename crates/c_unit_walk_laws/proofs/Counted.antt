@@ -9,7 +9,7 @@ use Rattle.c_tree.specs.declared.declarations.External.TheVariants as x
 use Rattle.c_tree.specs.declared.types.Declaration.{Declaration}
 use Rattle.c_scopes.specs.Names.{find}
 use Rattle.c_definitions.specs.declared.names.Definitions.{Definitions}
-use Rattle.c_definitions.specs.Definitions.{Names, with_name, with_function_type, with_object, is_function, is_definition, see, defined_behind}
+use Rattle.c_definitions.specs.Definitions.{NameSet, with_name, with_function_type, with_object, is_function, is_definition, see, defined_behind}
 use Rattle.c_type_laws.proofs.Truth.{no_true}
 use Rattle.c_unit_walk_laws.specs.Walks.{IsInitialiserIn, Here, There}
 
@@ -29,7 +29,7 @@ AreCounted ds [] = Unit {0}
 AreCounted ds (e ∷ es) = IsCountedIn ds e × AreCounted ds es
 
 -- a name that is counted stays so
-pub name_stays : (q name : List ℕ) (ns : Names) → IsTrue (is_some (find q ns)) → IsTrue (is_some (find q (with_name name ns)))
+pub name_stays : (q name : List ℕ) (ns : NameSet) → IsTrue (is_some (find q ns)) → IsTrue (is_some (find q (with_name name ns)))
 name_stays q name ns h = choose (is_some (find name ns))
   where
     own : (c : Bool) → IsTrue (is_some (if c then Some (length ns, tt {0}) else find q ns))
@@ -40,7 +40,7 @@ name_stays q name ns h = choose (is_some (find name ns))
     choose true = h
     choose false = own (bytes_eq q name)
 
-pub name_there : (name : List ℕ) (ns : Names) → IsTrue (is_some (find name (with_name name ns)))
+pub name_there : (name : List ℕ) (ns : NameSet) → IsTrue (is_some (find name (with_name name ns)))
 name_there name ns = choose (is_some (find name ns)) refl
   where
     own : (c : Bool) → c ≡ true → IsTrue (is_some (if c then Some (length ns, tt {0}) else find name ns))

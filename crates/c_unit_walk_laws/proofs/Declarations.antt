@@ -25,14 +25,14 @@ use Rattle.c_checks.specs.declared.notes.Notes.{Notes}
 use Rattle.c_checks.specs.Checks.{each}
 use Rattle.c_checks.specs.Notes.{with_fault}
 use Rattle.c_judgements.specs.Leaves.{no_type}
-use Rattle.c_judgements.specs.Types.{State}
+use Rattle.c_judgements.specs.Types.{JudgementState}
 use Rattle.c_tag_bodies.specs.Members.{is_member}
 use Rattle.c_initialisers.specs.Unfit.{judge_init, no_place}
 use Rattle.c_initialisers.specs.Initialisers.{object_cells, length_given}
 use Rattle.c_unit_names.specs.declared.names.UnitNames.{UnitNames}
 use Rattle.c_unit_names.specs.UnitNames.{object_name, function_name, declaration}
 use Rattle.c_declarations.specs.declared.walk.UnitSoFar.{UnitSoFar}
-use Rattle.c_declarations.specs.Walk.{Walk, in_notes, declare, with_names, main_checked, add_object, keep_cells}
+use Rattle.c_declarations.specs.Walk.{UnitWalk, in_notes, declare, with_names, main_checked, add_object, keep_cells}
 use Rattle.c_declarations.specs.Objects.{no_object, object_type, type_there, init_judged, object_declared, faulty_object, object_of, array_object, value_object}
 use Rattle.c_declarations.specs.Functions.{function_declared, function_with_type, refusal_of, init_refused}
 use Rattle.c_found_unit_laws.specs.Externals.{typedef_of, typedef_declared, prototype, object_with, type_with}
@@ -41,7 +41,7 @@ use Rattle.c_expression_laws.specs.Types.{IsTypeIn}
 use Rattle.c_unit_struct_laws.specs.Notes.{of_structs}
 use Rattle.c_found_laws.specs.Laws.{is_sound, Tells, IsFound}
 use Rattle.c_found_laws.proofs.Forms.{no_true, tells_none, tells_fault, tells_as, tells_then, tells_both}
-use Rattle.c_found_unit_laws.specs.Steps.{IsDeclared}
+use Rattle.c_found_unit_laws.specs.Steps.{DeclaresName}
 use Rattle.c_found_unit_laws.proofs.Declarations.{tells_refused}
 use Rattle.c_found_unit_laws.proofs.Initialisers.{judge_init_tells, unfit_tells, object_cells_tell, object_cells_leave}
 use Rattle.c_unit_walk_laws.specs.Shapes.{is_shaped}
@@ -57,19 +57,19 @@ pub given : (structs : List StructDef) (ty : DeclaredType) → IsThere structs t
 given structs ty h e = record { there = h.0; declarable = e; shape = h.1 }
 
 -- the same notes
-pub at_notes : {ds : Definitions} {es : List External} {w : Walk} {u : UnitSoFar} {later : Env} {n k : Notes} → k ≡ n → WalkSteps ds es w (u, (later, n)) → WalkSteps ds es w (u, (later, k))
+pub at_notes : {ds : Definitions} {es : List External} {w : UnitWalk} {u : UnitSoFar} {later : Env} {n k : Notes} → k ≡ n → WalkSteps ds es w (u, (later, n)) → WalkSteps ds es w (u, (later, k))
 at_notes {ds = ds} {es = es} {w = w} {u = u} {later = later} e h = subst (λ k. WalkSteps ds es w (u, (later, k))) (sym e) h
 
 -- a fault is noted before
-pub fault_tells : {X : Type 0} (s : State) (env later : Env) (at : ℕ) (n : Notes) → Tells (Unit {0}) s (env, n) → Tells X s (later, with_fault at BadType n)
+pub fault_tells : {X : Type 0} (s : JudgementState) (env later : Env) (at : ℕ) (n : Notes) → Tells (Unit {0}) s (env, n) → Tells X s (later, with_fault at BadType n)
 fault_tells s env later at n h = tells_refused s (env, with_fault at BadType n) later (tells_both s (env, n) (env, with_fault at BadType n) (λ x y. y) h (tells_fault env at BadType n))
 
-pub anything : {X : Type 0} (s u : State) → Tells X s u → Tells (Unit {0}) s u
+pub anything : {X : Type 0} (s u : JudgementState) → Tells X s u → Tells (Unit {0}) s u
 anything s u h = tells_as s u (λ x. tt) h
 
 -- ---- typedef names
 
-pub typedef_after : (ds : Definitions) (es : List External) (G : Type 0) (at : ℕ) (name : List ℕ) (o : Option DeclaredType) (s : State) (w : Walk) → (G → IfSome o (IsThere w.1.1.structs)) → Tells (IsFound o) s w.1
+pub typedef_after : (ds : Definitions) (es : List External) (G : Type 0) (at : ℕ) (name : List ℕ) (o : Option DeclaredType) (s : JudgementState) (w : UnitWalk) → (G → IfSome o (IsThere w.1.1.structs)) → Tells (IsFound o) s w.1
     → (let v = typedef_declared ds at name o w in Tells (G → WalkSteps ds es w v) s v.1)
 typedef_after ds es G at name None s w f h = tells_refused s w.1 _ h
 typedef_after ds es G at name (Some ty) s w f h = choose (is_declarable w.1.1.structs ty) refl
@@ -77,7 +77,7 @@ typedef_after ds es G at name (Some ty) s w f h = choose (is_declarable w.1.1.st
     either : Bool → Option DeclaredType × Notes
     either b = if b then (Some ty, w.1.1) else no_type at BadType w.1.1
 
-    after : Bool → Walk
+    after : Bool → UnitWalk
     after b = declare ds at name (option_map typedef_of (either b).0) (w.0, (w.1.0, (either b).1))
 
     choose : (b : Bool) → is_declarable w.1.1.structs ty ≡ b → Tells (G → WalkSteps ds es w (after b)) s (after b).1
@@ -97,7 +97,7 @@ never_found : (o : Option ℕ) (kind : Kind) (n : Notes) → IsFound (each o (no
 never_found None kind n h = h
 never_found (Some at) kind n h = h
 
-pub refused_never : {X : Type 0} (init : Init) (s : State) → Tells X s (init_refused init s)
+pub refused_never : {X : Type 0} (init : Init) (s : JudgementState) → Tells X s (init_refused init s)
 refused_never init s =
     let r = judge_init init s in
     tells_as s (init_refused init s) (λ h. no_true (never_found r.0 (refusal_of init) r.1.1 h)) (unfit_tells (refusal_of init) init s)
@@ -114,7 +114,7 @@ module _ (ds : Definitions) (es : List External) (G : Type 0) where
       choose true e = tells_none (env, n) (refl, refl, λ g. record { there = f g; member = e })
       choose false e = tells_fault env at BadType n
 
-  init_judged_tells : (init : Option Init) (s : State) → Tells (Unit {0}) s (init_judged init s)
+  init_judged_tells : (init : Option Init) (s : JudgementState) → Tells (Unit {0}) s (init_judged init s)
   init_judged_tells None s = tells_none s tt
   init_judged_tells (Some x) s = tells_as s (judge_init x s).1 (λ y. tt) (judge_init_tells x s)
 
@@ -123,7 +123,7 @@ module _ (ds : Definitions) (es : List External) (G : Type 0) where
   object_sound ty false u = refl
 
   -- an object with its initialiser, at the same notes
-  initialised : (name : List ℕ) (ty : CType) (x : Init) (u : UnitSoFar) (env : Env) (n k : Notes) (names : UnitNames) (later : Env) → IsObjectType n.structs ty → IsDeclared ds name (object_declared ty true) u.names env names later → IsInitialiserIn x es → k ≡ n
+  initialised : (name : List ℕ) (ty : CType) (x : Init) (u : UnitSoFar) (env : Env) (n k : Notes) (names : UnitNames) (later : Env) → IsObjectType n.structs ty → DeclaresName ds name (object_declared ty true) u.names env names later → IsInitialiserIn x es → k ≡ n
       → IsFound (object_cells ty x (later, k)).0
       → (let q = object_cells ty x (later, k) in WalkSteps ds es (u, (env, n)) (keep_cells q.1.0 name q.0 (add_object later name ty (with_names names u)), q.1))
   initialised name ty x u env n k names later object declared listed e =
@@ -133,7 +133,7 @@ module _ (ds : Definitions) (es : List External) (G : Type 0) where
       added : UnitSoFar
       added = add_object later name ty (with_names names u)
 
-      cells : Option (List DataCell) × State
+      cells : Option (List DataCell) × JudgementState
       cells = object_cells ty x (later, n)
 
       filled : (o : Option (List DataCell)) → cells.0 ≡ o → (same : Env) → same ≡ later → IsFound o → WalkSteps ds es (u, (env, n)) (keep_cells same name o added, (same, cells.1.1))
@@ -144,7 +144,7 @@ module _ (ds : Definitions) (es : List External) (G : Type 0) where
   abbrev pub Typed : (n k : Notes) → Option CType → Type 0
   Typed n k o = IsFound o × (k ≡ n) × (G → IfSome o (IsObjectType n.structs))
 
-  object_by : (at : ℕ) (name : List ℕ) (storage : Option Storage) (init : Option Init) → AreListed init es → (o : Option CType) (s : State) (u : UnitSoFar) (env : Env) (n k : Notes) → Tells (Typed n k o) s (env, k)
+  object_by : (at : ℕ) (name : List ℕ) (storage : Option Storage) (init : Option Init) → AreListed init es → (o : Option CType) (s : JudgementState) (u : UnitSoFar) (env : Env) (n k : Notes) → Tells (Typed n k o) s (env, k)
       → (let v = object_of ds at name storage init o (u, (env, k)) in Tells (G → WalkSteps ds es (u, (env, n)) v) s v.1)
   object_by at name storage init listed None s u env n k h =
       let mid = declare ds at name None (u, (env, k)) in
@@ -162,7 +162,7 @@ module _ (ds : Definitions) (es : List External) (G : Type 0) where
       (tells_then s (env, k) r.1 h (checked_declaration_tells ds at name storage new u.names env k (object_sound ty (is_some (find name ds.objects)) u.names)))
       (object_cells_tell ty x r.1)
 
-  value_after : (at : ℕ) (name : List ℕ) (storage : Option Storage) (init : Option Init) → AreListed init es → (ty : CType) (s : State) (w : Walk) → (G → IsTrue (is_type w.1.1.structs (type_view ty))) → Tells (Unit {0}) s w.1
+  value_after : (at : ℕ) (name : List ℕ) (storage : Option Storage) (init : Option Init) → AreListed init es → (ty : CType) (s : JudgementState) (w : UnitWalk) → (G → IsTrue (is_type w.1.1.structs (type_view ty))) → Tells (Unit {0}) s w.1
       → (let v = value_object ds at name storage init ty w in Tells (G → WalkSteps ds es w v) s v.1)
   value_after at name storage init listed ty s w f h =
       let r = object_type at ty w.1.1 in
@@ -182,7 +182,7 @@ module _ (ds : Definitions) (es : List External) (G : Type 0) where
       choose true e = array_is structs element size h e
       choose false e = tt
 
-  array_after : (at : ℕ) (name : List ℕ) (storage : Option Storage) (init : Option Init) → AreListed init es → (element : CType) (s : State) (w : Walk) → (G → IsTrue (is_type w.1.1.structs (type_view element))) → Tells (Unit {0}) s w.1
+  array_after : (at : ℕ) (name : List ℕ) (storage : Option Storage) (init : Option Init) → AreListed init es → (element : CType) (s : JudgementState) (w : UnitWalk) → (G → IsTrue (is_type w.1.1.structs (type_view element))) → Tells (Unit {0}) s w.1
       → (let v = array_object ds at name storage init element w in Tells (G → WalkSteps ds es w v) s v.1)
   array_after at name storage None listed element s w f h =
       object_by at name storage None tt None s w.0 w.1.0 w.1.1 (with_fault at BadType w.1.1) (tells_both s w.1 (w.1.0, with_fault at BadType w.1.1) (λ x y. y) h (tells_fault w.1.0 at BadType w.1.1))
@@ -192,7 +192,7 @@ module _ (ds : Definitions) (es : List External) (G : Type 0) where
       object_by at name storage (Some x) listed r.0 s w.0 w.1.0 w.1.1 r.1
       (tells_both s w.1 (w.1.0, r.1) (λ a b. b) h (there_tells w.1.0 at o w.1.1 (λ g. array_there w.1.1.structs element (length_given element x) (f g))))
 
-  faulty_after : {X : Type 0} (at : ℕ) (name : List ℕ) (init : Option Init) (s : State) (w : Walk) → Tells (IsTrue false) s w.1 → Tells X s (faulty_object ds at name init w).1
+  faulty_after : {X : Type 0} (at : ℕ) (name : List ℕ) (init : Option Init) (s : JudgementState) (w : UnitWalk) → Tells (IsTrue false) s w.1 → Tells X s (faulty_object ds at name init w).1
   faulty_after at name init s w h =
       let mid = declare ds at name None w in
       tells_both s mid.1 (init_judged init mid.1) (λ x y. x) (tells_refused s w.1 mid.1.0 h) (init_judged_tells init mid.1)
@@ -203,7 +203,7 @@ module _ (ds : Definitions) (es : List External) (G : Type 0) where
   function_sound true ty tys u = refl
   function_sound false ty tys u = refl
 
-  pub prototype_after : (at : ℕ) (name : List ℕ) (storage : Option Storage) (ty : DeclaredType) (s : State) (w : Walk) → (G → IsThere w.1.1.structs ty) → Tells (Unit {0}) s w.1 → (let v = prototype ds at name storage ty w in Tells (G → WalkSteps ds es w v) s v.1)
+  pub prototype_after : (at : ℕ) (name : List ℕ) (storage : Option Storage) (ty : DeclaredType) (s : JudgementState) (w : UnitWalk) → (G → IsThere w.1.1.structs ty) → Tells (Unit {0}) s w.1 → (let v = prototype ds at name storage ty w in Tells (G → WalkSteps ds es w v) s v.1)
   prototype_after at name storage (d.Value ty) s w f h = fault_tells s w.1.0 _ at w.1.1 h
   prototype_after at name storage (d.Unsized ty) s w f h = fault_tells s w.1.0 _ at w.1.1 h
   prototype_after at name storage (d.Function of tys) s w f h = choose (is_declarable w.1.1.structs (d.Function of tys)) refl
@@ -211,7 +211,7 @@ module _ (ds : Definitions) (es : List External) (G : Type 0) where
       either : Bool → Option DeclaredType × Notes
       either b = if b then (Some (d.Function of tys), w.1.1) else no_type at BadType w.1.1
 
-      after : Bool → Walk
+      after : Bool → UnitWalk
       after b = function_with_type ds at name storage false (in_notes w (either b))
 
       choose : (b : Bool) → is_declarable w.1.1.structs (d.Function of tys) ≡ b → Tells (G → WalkSteps ds es w (after b)) s (after b).1
@@ -221,7 +221,7 @@ module _ (ds : Definitions) (es : List External) (G : Type 0) where
           (checked_declaration_tells ds at name storage new w.0.names w.1.0 w.1.1 (function_sound (is_some (find name ds.functions)) of tys w.0.names))
       choose false e = fault_tells s w.1.0 (after false).1.0 at w.1.1 h
 
-  pub object_after : (at : ℕ) (name : List ℕ) (storage : Option Storage) (init : Option Init) → AreListed init es → (o : Option DeclaredType) (s : State) (w : Walk) → (G → IfSome o (IsThere w.1.1.structs)) → Tells (IsFound o) s w.1
+  pub object_after : (at : ℕ) (name : List ℕ) (storage : Option Storage) (init : Option Init) → AreListed init es → (o : Option DeclaredType) (s : JudgementState) (w : UnitWalk) → (G → IfSome o (IsThere w.1.1.structs)) → Tells (IsFound o) s w.1
       → (let v = object_with ds at name storage init o w in Tells (G → WalkSteps ds es w v) s v.1)
   object_after at name storage init listed None s w f h = faulty_after at name init s w h
   object_after at name storage init listed (Some (d.Value ty)) s w f h = value_after at name storage init listed ty s w (λ g. (f g).0) (anything s w.1 h)

@@ -27,9 +27,9 @@ use Rattle.c_checks.specs.declared.notes.Notes.{Notes}
 use Rattle.c_checks.specs.Notes.{with_fault}
 use Rattle.c_checks.specs.Scopes.{with_name, stands_here}
 use Rattle.c_judgements.specs.Leaves.{no_type}
-use Rattle.c_judgements.specs.Types.{State}
+use Rattle.c_judgements.specs.Types.{JudgementState}
 use Rattle.c_tag_bodies.specs.Enums.{constant_meaning}
-use Rattle.c_tag_bodies.specs.Bodies.{Scope, declared_type}
+use Rattle.c_tag_bodies.specs.Bodies.{TagScope, declared_type}
 use Rattle.c_statements.specs.declared.functions.FunctionType.{FunctionType}
 use Rattle.c_statements.specs.Functions.{parameters_of, function}
 use Rattle.c_initialisers.specs.Unfit.{judge_init}
@@ -37,7 +37,7 @@ use Rattle.c_unit_names.specs.declared.names.NameDeclaration.{NameDeclaration}
 use Rattle.c_unit_names.specs.declared.names.UnitNames.{UnitNames}
 use Rattle.c_unit_names.specs.UnitNames.{object_name, function_name, first_meaning, declaration}
 use Rattle.c_declarations.specs.declared.walk.UnitSoFar.{UnitSoFar}
-use Rattle.c_declarations.specs.Walk.{Walk, in_notes, declare, with_names, main_checked, keep_function, body_kept}
+use Rattle.c_declarations.specs.Walk.{UnitWalk, in_notes, declare, with_names, main_checked, keep_function, body_kept}
 use Rattle.c_declarations.specs.Functions.{function_declared, function_with_type, name_judged, name_row, type_where, defined_type, main_seen, init_refused}
 use Rattle.c_declarations.specs.Objects.{object_declared}
 use Rattle.c_found_unit_laws.specs.Externals.{typedef_of, typedef_declared, prototype, object_with, type_with, with_main_in, with_definition, definition_with, definition, function_with, end_judged, function_typed, type_of, external, externals}
@@ -49,7 +49,7 @@ use Rattle.c_found_laws.specs.Laws.{are_sound_names, is_sound, Tells, IsFound}
 use Rattle.c_found_laws.proofs.Forms.{no_true, front, back, tells_none, tells_fault, tells_as, tells_then, tells_both}
 use Rattle.c_found_statement_laws.specs.Laws.{are_as_many}
 use Rattle.c_found_statement_laws.proofs.Functions.{function_tells}
-use Rattle.c_found_unit_laws.specs.Steps.{IsDeclared, First, Again, declared_as}
+use Rattle.c_found_unit_laws.specs.Steps.{DeclaresName, First, Again, declared_as}
 use Rattle.c_found_unit_laws.proofs.Names.{function_env}
 use Rattle.c_found_unit_laws.proofs.Bodies.{declared_tells}
 use Rattle.c_found_unit_laws.proofs.Constants.{Enters, Same, More, declared_enters}
@@ -69,11 +69,11 @@ use Rattle.c_unit_walk_laws.proofs.Declarations.{IsThere, given, anything, typed
 abbrev AllNamed : (first n : Notes) → Bool → Type 0
 AllNamed first n whole = IsTrue whole × (n ≡ first)
 
-named_tells : (env : Env) (first : Notes) (at : ℕ) (name : Option (List ℕ)) (whole : Bool) (s : State) (n : Notes) → Tells (AllNamed first n whole) s (env, n) → (let r = name_judged at name whole n in Tells (AllNamed first r.1 r.0) s (env, r.1))
+named_tells : (env : Env) (first : Notes) (at : ℕ) (name : Option (List ℕ)) (whole : Bool) (s : JudgementState) (n : Notes) → Tells (AllNamed first n whole) s (env, n) → (let r = name_judged at name whole n in Tells (AllNamed first r.1 r.0) s (env, r.1))
 named_tells env first at None whole s n h = tells_both s (env, n) (env, with_fault at BadType n) (λ x y. y) h (tells_fault env at BadType n)
 named_tells env first at (Some name) whole s n h = h
 
-name_row_tells : (env : Env) (first : Notes) {m : _} (xs : k.Row_of-Parameter m) (whole : Bool) (s : State) (n : Notes) → Tells (AllNamed first n whole) s (env, n) → (let r = name_row xs whole n in Tells (AllNamed first r.1 r.0) s (env, r.1))
+name_row_tells : (env : Env) (first : Notes) {m : _} (xs : k.Row_of-Parameter m) (whole : Bool) (s : JudgementState) (n : Notes) → Tells (AllNamed first n whole) s (env, n) → (let r = name_row xs whole n in Tells (AllNamed first r.1 r.0) s (env, r.1))
 unfolding name_row
 name_row_tells env first k.end_of-Parameter whole s n h = h
 name_row_tells env first (k.more_of-Parameter at name ty rest) whole s n h =
@@ -120,7 +120,7 @@ defined_tells env at (t.Takes' _ result _ parameters) ty n =
     tells_as (env, n) (env, r.1) (λ x. (where_found ty r.0 x.0, x.1)) (name_row_tells env n parameters true (env, n) n (tells_none (env, n) (refl, refl)))
 
 -- behind the type of a definition, which may be missing
-body_none : {X : Type 0} (ds : Definitions) (e : Declaration) (storage : Option Storage) (list : List Stmt) (s : State) (w : Walk) → Tells (IsTrue false) s w.1 → Tells X s (definition_with ds e storage list (None, w)).1
+body_none : {X : Type 0} (ds : Definitions) (e : Declaration) (storage : Option Storage) (list : List Stmt) (s : JudgementState) (w : UnitWalk) → Tells (IsTrue false) s w.1 → Tells X s (definition_with ds e storage list (None, w)).1
 body_none ds e storage list s w h =
     let mid = function_with_type ds e.at e.name storage true (None, w) in
     let r = function e None list mid.1 in
@@ -128,7 +128,7 @@ body_none ds e storage list s w h =
 
 module _ (ds : Definitions) (es : List External) (G : Type 0) (e : Declaration) (storage : Option Storage) (list : List Stmt) (counted : IsTrue (is_some (find e.name ds.functions))) where
   -- the body of a function of this type, at the same notes
-  defined : (of : FunctionType) (u : UnitSoFar) (env : Env) (n k : Notes) (names : UnitNames) (later : Env) → IsGivenType n.structs (declared_as of) → IsDeclared ds e.name (function_declared true (declared_as of)) u.names env names later → k ≡ n
+  defined : (of : FunctionType) (u : UnitSoFar) (env : Env) (n k : Notes) (names : UnitNames) (later : Env) → IsGivenType n.structs (declared_as of) → DeclaresName ds e.name (function_declared true (declared_as of)) u.names env names later → k ≡ n
       → IsFound (function e (Some of) list (later, k)).0 → (let q = function e (Some of) list (later, k) in WalkSteps ds es (u, (env, n)) (body_kept e.name (with_names names (main_seen e.name (declared_as of) u)) q))
   defined of u env n k names later type declared same =
       subst (λ k. IsFound (function e (Some of) list (later, k)).0 → (let q = function e (Some of) list (later, k) in WalkSteps ds es (u, (env, n)) (body_kept e.name before q))) (sym same)
@@ -137,14 +137,14 @@ module _ (ds : Definitions) (es : List External) (G : Type 0) (e : Declaration) 
       before : UnitSoFar
       before = with_names names (main_seen e.name (declared_as of) u)
 
-      made : Option TypedFn × State
+      made : Option TypedFn × JudgementState
       made = function e (Some of) list (later, n)
 
       kept : (o : Option TypedFn) → made.0 ≡ o → (left : Env) → left ≡ later → IsFound o → WalkSteps ds es (u, (env, n)) (keep_function left e.name o before, (left, made.1.1))
       kept None g left h found = no_true found
       kept (Some f) g left h found = subst (λ z. WalkSteps ds es (u, (env, n)) (keep_function z e.name (Some f) before, (z, made.1.1))) (sym h) (DefinesFunction e of list f type counted declared g)
 
-  body_there : (of : FunctionType) (s : State) (u : UnitSoFar) (env : Env) (n k : Notes) → (G → IsGivenType n.structs (declared_as of)) → IsTrue (are_as_many (parameters_of e.ty) of.parameters) → Tells (k ≡ n) s (env, k)
+  body_there : (of : FunctionType) (s : JudgementState) (u : UnitSoFar) (env : Env) (n k : Notes) → (G → IsGivenType n.structs (declared_as of)) → IsTrue (are_as_many (parameters_of e.ty) of.parameters) → Tells (k ≡ n) s (env, k)
       → (let v = definition_with ds e storage list (Some (declared_as of), (main_seen e.name (declared_as of) u, (env, k))) in Tells (G → WalkSteps ds es (u, (env, n)) v) s v.1)
   body_there of s u env n k given fit h =
       let new = function_declared true (declared_as of) in
@@ -154,7 +154,7 @@ module _ (ds : Definitions) (es : List External) (G : Type 0) (e : Declaration) 
       (tells_then s (env, k) r.1 h (checked_declaration_tells ds e.at e.name storage new u.names env k (function_sound ds es G (is_some (find e.name ds.functions)) of.result of.parameters u.names)))
       (function_tells e (Some of) list r.1)
 
-  body_by : (of : FunctionType) (o : Option DeclaredType) (s : State) (u : UnitSoFar) (env : Env) (n k : Notes) → (G → IsGivenType n.structs (declared_as of)) → IsOrNone e.ty of o → Tells (IsDefined n k o) s (env, k)
+  body_by : (of : FunctionType) (o : Option DeclaredType) (s : JudgementState) (u : UnitSoFar) (env : Env) (n k : Notes) → (G → IsGivenType n.structs (declared_as of)) → IsOrNone e.ty of o → Tells (IsDefined n k o) s (env, k)
       → (let v = definition_with ds e storage list (o, (main_seen e.name (declared_as of) u, (env, k))) in Tells (G → WalkSteps ds es (u, (env, n)) v) s v.1)
   body_by of o s u env n k given (Missing same) h =
       subst (λ (o : Option DeclaredType). let v = definition_with ds e storage list (o, (main_seen e.name (declared_as of) u, (env, k))) in Tells (G → WalkSteps ds es (u, (env, n)) v) s v.1) (sym same)
@@ -163,14 +163,14 @@ module _ (ds : Definitions) (es : List External) (G : Type 0) (e : Declaration) 
       subst (λ (o : Option DeclaredType). let v = definition_with ds e storage list (o, (main_seen e.name (declared_as of) u, (env, k))) in Tells (G → WalkSteps ds es (u, (env, n)) v) s v.1) (sym same)
       (body_there of s u env n k given fit (tells_as s (env, k) (λ x. x.1) h))
 
-  definition_after : (of : FunctionType) (s : State) (w : Walk) → (G → IsThere w.1.1.structs (declared_as of)) → IsTrue (declares_type e.ty of) → Tells (Unit {0}) s w.1
+  definition_after : (of : FunctionType) (s : JudgementState) (w : UnitWalk) → (G → IsThere w.1.1.structs (declared_as of)) → IsTrue (declares_type e.ty of) → Tells (Unit {0}) s w.1
       → (let v = definition ds e storage list (declared_as of) w in Tells (G → WalkSteps ds es w v) s v.1)
   definition_after of s w there fit h = choose (is_declarable w.1.1.structs (declared_as of)) refl
     where
       either : Bool → Option DeclaredType × Notes
       either b = if b then (Some (declared_as of), w.1.1) else no_type e.at BadType w.1.1
 
-      after : Bool → Walk
+      after : Bool → UnitWalk
       after b = definition_with ds e storage list (with_definition e.at e.ty (with_main_in e.name (in_notes w (either b))))
 
       choose : (b : Bool) → is_declarable w.1.1.structs (declared_as of) ≡ b → Tells (G → WalkSteps ds es w (after b)) s (after b).1
@@ -183,16 +183,16 @@ module _ (ds : Definitions) (es : List External) (G : Type 0) (e : Declaration) 
 -- ---- what a declaration leaves, from the names behind its type on
 
 module _ (ds : Definitions) (es : List External) (G : Type 0) where
-  end_tells : {X : Type 0} (e : Declaration) (end : FunctionEnd) (s u : State) → Tells X s u → Tells X s (end_judged e end u)
+  end_tells : {X : Type 0} (e : Declaration) (end : FunctionEnd) (s u : JudgementState) → Tells X s u → Tells X s (end_judged e end u)
   end_tells e f.Nothing s u h = h
   end_tells e (f.Init init) s u h = tells_both s u (judge_init init u).1 (λ x y. x) h (judge_init_tells init u)
   end_tells e (f.Body list) s u h = tells_both s u (function e None list u).1 (λ x y. x) h (function_tells e None list u)
 
   -- a body on what is no function
-  no_function : {X : Type 0} (e : Declaration) (storage : Option Storage) (list : List Stmt) (s : State) (w : Walk) → Tells (Unit {0}) s w.1 → Tells X s (definition_with ds e storage list (None, (w.0, (w.1.0, with_fault e.at BadType w.1.1)))).1
+  no_function : {X : Type 0} (e : Declaration) (storage : Option Storage) (list : List Stmt) (s : JudgementState) (w : UnitWalk) → Tells (Unit {0}) s w.1 → Tells X s (definition_with ds e storage list (None, (w.0, (w.1.0, with_fault e.at BadType w.1.1)))).1
   no_function e storage list s w h = body_none ds e storage list s (w.0, (w.1.0, with_fault e.at BadType w.1.1)) (tells_both s w.1 (w.1.0, with_fault e.at BadType w.1.1) (λ x y. y) h (tells_fault w.1.0 e.at BadType w.1.1))
 
-  function_with_after : (e : Declaration) (storage : Option Storage) (end : FunctionEnd) → IsCounted ds e end → (ty : DeclaredType) (s : State) (w : Walk) → (G → IsThere w.1.1.structs ty) → ((of : FunctionType) → ty ≡ declared_as of → IsTrue (declares_type e.ty of)) → Tells (Unit {0}) s w.1
+  function_with_after : (e : Declaration) (storage : Option Storage) (end : FunctionEnd) → IsCounted ds e end → (ty : DeclaredType) (s : JudgementState) (w : UnitWalk) → (G → IsThere w.1.1.structs ty) → ((of : FunctionType) → ty ≡ declared_as of → IsTrue (declares_type e.ty of)) → Tells (Unit {0}) s w.1
       → (let v = function_with ds e storage end ty w in Tells (G → WalkSteps ds es w v) s v.1)
   function_with_after e storage f.Nothing counted ty s w there fit h = prototype_after ds es G e.at e.name storage ty s w there h
   function_with_after e storage (f.Init init) counted ty s w there fit h =
@@ -202,7 +202,7 @@ module _ (ds : Definitions) (es : List External) (G : Type 0) where
   function_with_after e storage (f.Body list) counted (d.Unsized ty) s w there fit h = no_function e storage list s w h
   function_with_after e storage (f.Body list) counted (d.Function of tys) s w there fit h = definition_after ds es G e storage list counted (type_with of tys) s w there (fit (type_with of tys) refl) h
 
-  function_after : (e : Declaration) (storage : Option Storage) (end : FunctionEnd) → IsCounted ds e end → (o : Option DeclaredType) (s : State) (w : Walk) → (G → IfSome o (IsThere w.1.1.structs)) → ((of : FunctionType) → o ≡ Some (declared_as of) → IsTrue (declares_type e.ty of))
+  function_after : (e : Declaration) (storage : Option Storage) (end : FunctionEnd) → IsCounted ds e end → (o : Option DeclaredType) (s : JudgementState) (w : UnitWalk) → (G → IfSome o (IsThere w.1.1.structs)) → ((of : FunctionType) → o ≡ Some (declared_as of) → IsTrue (declares_type e.ty of))
       → Tells (IsFound o) s w.1 → (let v = function_typed ds e storage end o w in Tells (G → WalkSteps ds es w v) s v.1)
   function_after e storage end counted None s w there fit h =
       let mid = declare ds e.at e.name None w in
@@ -245,11 +245,11 @@ enters_typedefs ds Same h = h
 enters_typedefs ds (More name value g free word) h = enters_typedefs ds g h.1
 
 -- what is sound behind some steps was sound before
-declared_before : (ds : Definitions) (name : List ℕ) (new : NameDeclaration) {u names : UnitNames} {env later : Env} → IsDeclared ds name new u env names later → IsTrue (are_sound_names later.names) → IsTrue (are_sound_names env.names)
+declared_before : (ds : Definitions) (name : List ℕ) (new : NameDeclaration) {u names : UnitNames} {env later : Env} → DeclaresName ds name new u env names later → IsTrue (are_sound_names later.names) → IsTrue (are_sound_names env.names)
 declared_before ds name new (First {u = u} {env = env} e g) sound = back (is_sound (first_meaning ds name new u).0) (are_sound_names env.names) sound
 declared_before ds name new (Again old e g) sound = sound
 
-steps_before : (ds : Definitions) {es : List External} {w v : Walk} → WalkSteps ds es w v → IsTrue (are_sound_names v.1.0.names) → IsTrue (are_sound_names w.1.0.names)
+steps_before : (ds : Definitions) {es : List External} {w v : UnitWalk} → WalkSteps ds es w v → IsTrue (are_sound_names v.1.0.names) → IsTrue (are_sound_names w.1.0.names)
 steps_before ds Stays sound = sound
 steps_before ds (Follows h g) sound = steps_before ds h (steps_before ds g sound)
 steps_before ds (AddsConstant {env = env} name word e g) sound = back true (are_sound_names env.names) sound
@@ -263,7 +263,7 @@ steps_before ds (InitialisesObject name ty x cells g h same listed) sound = decl
 -- ---- a declaration, from its beginning on
 
 -- what is known before a declaration
-pub record IsGood (s : State) : Type 0 where
+pub record IsGood (s : JudgementState) : Type 0 where
   pub outside : s.0.outside ≡ 0
   pub declared : IsWellDeclared s
   pub shapes : HasShapes s.0
@@ -273,13 +273,13 @@ both_some P Q None h g = tt
 both_some P Q (Some x) h g = (h, g)
 
 -- what is known of the type of a declaration
-type_there : (at : ℕ) (ty : t.TypeNode) (s : Scope) → IsGood s.1 → (let r = declared_type at ty s in IfSome r.0 (IsThere r.1.1.1.structs))
+type_there : (at : ℕ) (ty : t.TypeNode) (s : TagScope) → IsGood s.1 → (let r = declared_type at ty s in IfSome r.0 (IsThere r.1.1.1.structs))
 type_there at ty s h =
     let r = declared_type at ty s in
     both_some (IsTypeIn (of_structs r.1.1.1.structs)) (λ of. IsTrue (is_shaped of)) r.0 ((declared_found at ty s).type h.declared) (declared_shape at ty s h.shapes)
 
 -- the steps of the type: its constants, and what is noted
-type_steps : (ds : Definitions) {es : List External} (u : UnitSoFar) (at : ℕ) (ty : t.TypeNode) (s : Scope) → s.1.0.outside ≡ 0 → IsTrue (are_sound_names (declared_type at ty s).1.1.0.names) → WalkSteps ds es (u, s.1) (u, (declared_type at ty s).1.1)
+type_steps : (ds : Definitions) {es : List External} (u : UnitSoFar) (at : ℕ) (ty : t.TypeNode) (s : TagScope) → s.1.0.outside ≡ 0 → IsTrue (are_sound_names (declared_type at ty s).1.1.0.names) → WalkSteps ds es (u, s.1) (u, (declared_type at ty s).1.1)
 type_steps ds u at ty s file sound =
     let r = declared_type at ty s in
     let enters = declared_enters at ty s in
@@ -297,14 +297,14 @@ type_steps ds u at ty s file sound =
 
 module _ (ds : Definitions) (es : List External) where
   -- behind the constants that are in its type
-  with_type : (at : ℕ) (ty : t.TypeNode) (u : UnitSoFar) (s : Scope) (v : Walk) → Tells (IsGood s.1 → WalkSteps ds es (u, (declared_type at ty s).1.1) v) s.1 v.1 → Tells (IsGood s.1 → WalkSteps ds es (u, s.1) v) s.1 v.1
+  with_type : (at : ℕ) (ty : t.TypeNode) (u : UnitSoFar) (s : TagScope) (v : UnitWalk) → Tells (IsGood s.1 → WalkSteps ds es (u, (declared_type at ty s).1.1) v) s.1 v.1 → Tells (IsGood s.1 → WalkSteps ds es (u, s.1) v) s.1 v.1
   with_type at ty u s v g = record {
     before = g.before;
     stays = g.stays;
     found = λ t k good. let rest = g.found t k good in Follows (type_steps ds u at ty s good.outside (steps_before ds rest (g.stays t k).0)) rest;
   }
 
-  pub external_tells : (e : External) → IsCountedIn ds e → IsListed e es → (s : UnitSoFar × Scope) → (let v = external ds e s in Tells (IsGood s.1.1 → WalkSteps ds es (s.0, s.1.1) (v.0, v.1.1)) s.1.1 v.1.1)
+  pub external_tells : (e : External) → IsCountedIn ds e → IsListed e es → (s : UnitSoFar × TagScope) → (let v = external ds e s in Tells (IsGood s.1.1 → WalkSteps ds es (s.0, s.1.1) (v.0, v.1.1)) s.1.1 v.1.1)
   external_tells (x.Typedef e) counted listed s =
       let r = type_of e s.1 in
       with_type e.at e.ty s.0 s.1 (typedef_declared ds e.at e.name r.0 (s.0, r.1.1)) (typedef_after ds es (IsGood s.1.1) e.at e.name r.0 s.1.1 (s.0, r.1.1) (type_there e.at e.ty s.1) (declared_tells e.at e.ty s.1))
@@ -321,11 +321,11 @@ module _ (ds : Definitions) (es : List External) where
 
 -- ---- what steps keep
 
-declared_outside : (ds : Definitions) (name : List ℕ) (new : NameDeclaration) {u names : UnitNames} {env later : Env} → IsDeclared ds name new u env names later → later.outside ≡ env.outside
+declared_outside : (ds : Definitions) (name : List ℕ) (new : NameDeclaration) {u names : UnitNames} {env later : Env} → DeclaresName ds name new u env names later → later.outside ≡ env.outside
 declared_outside ds name new (First e g) = refl
 declared_outside ds name new (Again old e g) = refl
 
-pub steps_outside : (ds : Definitions) {es : List External} {w v : Walk} → WalkSteps ds es w v → v.1.0.outside ≡ w.1.0.outside
+pub steps_outside : (ds : Definitions) {es : List External} {w v : UnitWalk} → WalkSteps ds es w v → v.1.0.outside ≡ w.1.0.outside
 steps_outside ds Stays = refl
 steps_outside ds (Follows h g) = steps_outside ds g ∙ steps_outside ds h
 steps_outside ds (AddsConstant name word e g) = refl
@@ -340,7 +340,7 @@ steps_outside ds (InitialisesObject name ty x cells g h same listed) = declared_
 abbrev MeansShaped : Definitions → List ℕ → NameDeclaration → Type 0
 MeansShaped ds name new = (u : UnitNames) (ty : DeclaredType) → (first_meaning ds name new u).0 ≡ m.Typedef ty → IsTrue (is_shaped ty)
 
-declared_shapes : (ds : Definitions) (name : List ℕ) (new : NameDeclaration) {u names : UnitNames} {env later : Env} → MeansShaped ds name new → IsDeclared ds name new u env names later → HasShapes env → HasShapes later
+declared_shapes : (ds : Definitions) (name : List ℕ) (new : NameDeclaration) {u names : UnitNames} {env later : Env} → MeansShaped ds name new → DeclaresName ds name new u env names later → HasShapes env → HasShapes later
 declared_shapes ds name new means (First {u = u} {env = env} e g) h = shapes_after name (first_meaning ds name new u).0 env (means u) h
 declared_shapes ds name new means (Again old e g) h = h
 
@@ -364,7 +364,7 @@ function_shaped ds name has_body of u other = choose (is_some (find name ds.func
     choose true e = let clash : ⊥ = cc in absurd clash
     choose false e = let clash : ⊥ = cc in absurd clash
 
-pub steps_shapes : (ds : Definitions) {es : List External} {w v : Walk} → WalkSteps ds es w v → HasShapes w.1.0 → HasShapes v.1.0
+pub steps_shapes : (ds : Definitions) {es : List External} {w v : UnitWalk} → WalkSteps ds es w v → HasShapes w.1.0 → HasShapes v.1.0
 steps_shapes ds Stays h = h
 steps_shapes ds (Follows g k) h = steps_shapes ds k (steps_shapes ds g h)
 steps_shapes ds (AddsConstant {env = env} name word e g) h = shapes_after name (m.Constant word) env (λ ty e. let clash : ⊥ = cc in absurd clash) h
@@ -377,7 +377,7 @@ steps_shapes ds (InitialisesObject name ty x cells g k same listed) h = declared
 
 -- ---- lists of declarations
 
-pub externals_tell : (ds : Definitions) (all es : List External) → AreCounted ds es → AllListed es all → (s : UnitSoFar × Scope) → (let v = externals ds es s in Tells (IsGood s.1.1 → WalkSteps ds all (s.0, s.1.1) (v.0, v.1.1)) s.1.1 v.1.1)
+pub externals_tell : (ds : Definitions) (all es : List External) → AreCounted ds es → AllListed es all → (s : UnitSoFar × TagScope) → (let v = externals ds es s in Tells (IsGood s.1.1 → WalkSteps ds all (s.0, s.1.1) (v.0, v.1.1)) s.1.1 v.1.1)
 externals_tell ds all [] counted listed s = tells_none s.1.1 (λ good. Stays)
 externals_tell ds all (e ∷ es) counted listed s =
     let u = external ds e s in

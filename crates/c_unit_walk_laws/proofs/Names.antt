@@ -11,18 +11,18 @@ use Rattle.c_checks.specs.declared.meanings.NameMeaning.TheVariants as m
 use Rattle.c_checks.specs.declared.notes.Notes.{Notes}
 use Rattle.c_checks.specs.Notes.{with_fault}
 use Rattle.c_checks.specs.Scopes.{meaning_of}
-use Rattle.c_judgements.specs.Types.{State}
+use Rattle.c_judgements.specs.Types.{JudgementState}
 use Rattle.c_unit_names.specs.declared.names.NameDeclaration.{NameDeclaration}
 use Rattle.c_unit_names.specs.declared.names.UnitNames.{UnitNames}
 use Rattle.c_unit_names.specs.UnitNames.{may_follow, first_meaning, meaning_before, redeclare, first_by, follows, known_by, declaration}
 use Rattle.c_declarations.specs.Walk.{is_main, main_checked}
 use Rattle.c_found_laws.specs.Laws.{is_sound, Tells}
 use Rattle.c_found_laws.proofs.Forms.{no_true, holds, meaning_sound, tells_none, tells_fault, tells_both, tells_named}
-use Rattle.c_found_unit_laws.specs.Steps.{IsDeclared, First, Again}
+use Rattle.c_found_unit_laws.specs.Steps.{DeclaresName, First, Again}
 
-module _ (ds : Definitions) (at : ℕ) (name : List ℕ) (new : NameDeclaration) (u : UnitNames) (s : State) where
-  abbrev IsDone : UnitNames × State → Type 0
-  IsDone r = Tells (IsDeclared ds name new u s.0 r.0 r.1.0 × (r.1.1 ≡ s.1)) s r.1
+module _ (ds : Definitions) (at : ℕ) (name : List ℕ) (new : NameDeclaration) (u : UnitNames) (s : JudgementState) where
+  abbrev IsDone : UnitNames × JudgementState → Type 0
+  IsDone r = Tells (DeclaresName ds name new u s.0 r.0 r.1.0 × (r.1.1 ≡ s.1)) s r.1
 
   redeclared_tells : IsDone (redeclare at u s)
   redeclared_tells = tells_fault s.0 at Redeclared s.1
@@ -66,7 +66,7 @@ checked_tells env (Some s.Static) at name n = choose (is_main name)
 
 -- a name of an object or of a function
 pub checked_declaration_tells : (ds : Definitions) (at : ℕ) (name : List ℕ) (storage : Option Storage) (new : NameDeclaration) (u : UnitNames) (env : Env) (n : Notes) → IsTrue (is_sound (first_meaning ds name new u).0)
-    → (let r = declaration ds at name (Some new) u (env, main_checked storage at name n) in Tells (IsDeclared ds name new u env r.0 r.1.0 × (r.1.1 ≡ n)) (env, n) r.1)
+    → (let r = declaration ds at name (Some new) u (env, main_checked storage at name n) in Tells (DeclaresName ds name new u env r.0 r.1.0 × (r.1.1 ≡ n)) (env, n) r.1)
 checked_declaration_tells ds at name storage new u env n sound =
     let checked = main_checked storage at name n in
     let r = declaration ds at name (Some new) u (env, checked) in

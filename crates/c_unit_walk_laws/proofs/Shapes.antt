@@ -27,10 +27,10 @@ use Rattle.c_checks.specs.declared.notes.Notes.{Notes}
 use Rattle.c_checks.specs.Checks.{each, both, append_part}
 use Rattle.c_checks.specs.Scopes.{enter, leave, with_name, meaning_of, stands_here}
 use Rattle.c_judgements.specs.Leaves.{no_type, named_type, tag_named, enum_tagged, enum_type, struct_numbered, struct_tagged, struct_at, struct_type, leaf}
-use Rattle.c_judgements.specs.Types.{State, within, there, pointer, array, function, no_parameter, within_depth, parameter_type, parameter_meaning, declared_parameter, parameter_declared}
+use Rattle.c_judgements.specs.Types.{JudgementState, within, there, pointer, array, function, no_parameter, within_depth, parameter_type, parameter_meaning, declared_parameter, parameter_declared}
 use Rattle.c_expressions.specs.Expressions.{derive, length_held, parameter_row}
 use Rattle.c_tag_bodies.specs.Enums.{constant_meaning}
-use Rattle.c_tag_bodies.specs.Bodies.{Scope, bodies, declared_type}
+use Rattle.c_tag_bodies.specs.Bodies.{TagScope, bodies, declared_type}
 use Rattle.c_type_laws.proofs.Truth.{also, either_left, either_right}
 use Rattle.c_found_laws.proofs.Forms.{all_append}
 use Rattle.c_found_unit_laws.proofs.Constants.{Enters, Same, More, behind_leaves, declared_enters}
@@ -121,7 +121,7 @@ typed_parameter : (at : ℕ) (o : Option DeclaredType) (n : Notes) → IsParamet
 typed_parameter at None n = tt
 typed_parameter at (Some x) n = within_parameter at (parameter_of x) n (of_parameter x)
 
-named_parameter_type : (at : ℕ) (name : Option (List ℕ)) (o : Option CType) (s : State) → IsParameter o → IsParameter (declared_parameter at name o s).0
+named_parameter_type : (at : ℕ) (name : Option (List ℕ)) (o : Option CType) (s : JudgementState) → IsParameter o → IsParameter (declared_parameter at name o s).0
 named_parameter_type at None o s h = h
 named_parameter_type at (Some name) o s h = choose (stands_here s.0 (find name s.0.names))
   where
@@ -129,7 +129,7 @@ named_parameter_type at (Some name) o s h = choose (stands_here s.0 (find name s
     choose true = tt
     choose false = h
 
-one_parameter : (at : ℕ) (name : Option (List ℕ)) (o : Option DeclaredType) (s : State) → IsParameter (parameter_declared at name o s).0
+one_parameter : (at : ℕ) (name : Option (List ℕ)) (o : Option DeclaredType) (s : JudgementState) → IsParameter (parameter_declared at name o s).0
 one_parameter at name o s =
     let r = each o (parameter_type at) s.1 in
     named_parameter_type at name r.0 (s.0, r.1) (typed_parameter at o s.1)
@@ -142,7 +142,7 @@ more_parameters None o h g = tt
 more_parameters (Some xs) None h g = tt
 more_parameters (Some xs) (Some x) h g = all_append is_parameter_type xs x h g
 
-row_parameters : {m : _} (xs : k.Row_of-Parameter m) (found : Option (List CType)) (s : State) → AreParameters found → AreParameters (parameter_row xs found s).0
+row_parameters : {m : _} (xs : k.Row_of-Parameter m) (found : Option (List CType)) (s : JudgementState) → AreParameters found → AreParameters (parameter_row xs found s).0
 unfolding derive
 row_parameters k.end_of-Parameter found s h = h
 row_parameters (k.more_of-Parameter at name node rest) found s h =
@@ -203,7 +203,7 @@ function_shape at None o n h = tt
 function_shape at (Some xs) None n h = tt
 function_shape at (Some xs) (Some x) n h = there_shape at (function_of x xs) n (result_shape x xs h)
 
-derive_shape : (at : ℕ) (node : t.TypeNode) (of : Option DeclaredType) (s : State) → IsShaped of → IsShaped (derive at node of s).0
+derive_shape : (at : ℕ) (node : t.TypeNode) (of : Option DeclaredType) (s : JudgementState) → IsShaped of → IsShaped (derive at node of s).0
 unfolding derive
 derive_shape at (t.Basic words) of s h = h
 derive_shape at (t.Named name) of s h = h
@@ -242,7 +242,7 @@ pub entered_shapes : {a b : Env} → Enters a b → HasShapes a → HasShapes b
 entered_shapes Same h = h
 entered_shapes (More {mid = mid} name value g free word) h = constant_shapes name value mid (entered_shapes g h)
 
-pub declared_shape : (at : ℕ) (node : t.TypeNode) (s : Scope) → HasShapes s.1.0 → IsShaped (declared_type at node s).0
+pub declared_shape : (at : ℕ) (node : t.TypeNode) (s : TagScope) → HasShapes s.1.0 → IsShaped (declared_type at node s).0
 declared_shape at node s h =
     let u = bodies node s in
     let l = leaf u.1.0 at node u.1.1 in

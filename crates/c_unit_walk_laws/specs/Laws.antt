@@ -4,7 +4,7 @@ use Rattle.c_tree.specs.declared.types.TypeNode.{TypeNode}
 use Rattle.c_tree.specs.declared.declarations.TranslationUnit.{TranslationUnit}
 use Rattle.c_type_faults.specs.Faults.{head}
 use Rattle.c_definitions.specs.Definitions.{definitions}
-use Rattle.c_tag_bodies.specs.Bodies.{Scope, declared_type}
+use Rattle.c_tag_bodies.specs.Bodies.{TagScope, declared_type}
 use Rattle.c_found_unit_laws.specs.Externals.{externals}
 use Rattle.c_found_unit_laws.specs.Units.{start, faults_of}
 use Rattle.c_unit_walk_laws.specs.Shapes.{is_shaped, HasShapes}
@@ -20,5 +20,5 @@ UnitsAreWalked =
 
 abbrev pub DeclaredTypesAreShaped : Type 0
 DeclaredTypesAreShaped =
-    (at : ℕ) (ty : TypeNode) (s : Scope) → HasShapes s.1.0 →
+    (at : ℕ) (ty : TypeNode) (s : TagScope) → HasShapes s.1.0 →
     IfSome (declared_type at ty s).0 (λ of. IsTrue (is_shaped of))

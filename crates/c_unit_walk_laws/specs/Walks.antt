@@ -29,7 +29,7 @@ use Rattle.c_statements.specs.Functions.{function}
 use Rattle.c_initialisers.specs.Initialisers.{object_cells}
 use Rattle.c_unit_names.specs.declared.names.UnitNames.{UnitNames}
 use Rattle.c_declarations.specs.declared.walk.UnitSoFar.{UnitSoFar}
-use Rattle.c_declarations.specs.Walk.{Walk, with_names, add_object, keep_cells, keep_function}
+use Rattle.c_declarations.specs.Walk.{UnitWalk, with_names, add_object, keep_cells, keep_function}
 use Rattle.c_declarations.specs.Functions.{main_seen, function_declared}
 use Rattle.c_declarations.specs.Objects.{object_declared}
 use Rattle.c_found_unit_laws.specs.Externals.{typedef_of}
@@ -37,11 +37,11 @@ use Rattle.c_expression_laws.specs.Types.{IsTypeIn}
 use Rattle.c_note_laws.specs.Steps.{is_sized}
 use Rattle.c_note_laws.specs.Laws.{StandsFirst}
 use Rattle.c_unit_struct_laws.specs.Notes.{of_structs, LeadsOn}
-use Rattle.c_found_unit_laws.specs.Steps.{IsDeclared, declared_as}
+use Rattle.c_found_unit_laws.specs.Steps.{DeclaresName, declared_as}
 use Rattle.c_unit_walk_laws.specs.Shapes.{is_shaped}
 
 -- what is noted: structs stay lawful, and texts come behind those that were noted, each of a size that an object has
-pub record GoesOn (env : Env) (n later : Notes) : Type 0 where
+pub record NotesGoOn (env : Env) (n later : Notes) : Type 0 where
   pub leads : LeadsOn (env, n) (env, later)
   pub texts : StandsFirst n.texts later.texts
   pub first : later.first_text ≡ n.first_text
@@ -65,27 +65,27 @@ pub data IsInitialiserIn (x : Init) : List External → Type 0 where
   There : {e : External} {es : List External} → IsInitialiserIn x es → IsInitialiserIn x (e ∷ es)
 
 -- `all` are the declarations of the unit
-pub data WalkSteps (ds : Definitions) (all : List External) : Walk → Walk → Type 0 where
-  Stays : {w : Walk} → WalkSteps ds all w w
-  Follows : {w x v : Walk} → WalkSteps ds all w x → WalkSteps ds all x v → WalkSteps ds all w v
+pub data WalkSteps (ds : Definitions) (all : List External) : UnitWalk → UnitWalk → Type 0 where
+  Stays : {w : UnitWalk} → WalkSteps ds all w w
+  Follows : {w x v : UnitWalk} → WalkSteps ds all w x → WalkSteps ds all x v → WalkSteps ds all w v
   -- an enumeration constant, whose value is one of the type `int`
   AddsConstant : {u : UnitSoFar} {env : Env} {n : Notes} (name : List ℕ) (word : ℕ) → find name env.names ≡ None →
       IsTrue (is_word Int word) → WalkSteps ds all (u, (env, n)) (u, (with_name name (m.Constant word) env, n))
   -- what the type of a declaration notes
-  AddsNotes : {u : UnitSoFar} {env : Env} {n later : Notes} → GoesOn env n later →
+  AddsNotes : {u : UnitSoFar} {env : Env} {n later : Notes} → NotesGoOn env n later →
       WalkSteps ds all (u, (env, n)) (u, (env, later))
   DeclaresType : {u : UnitSoFar} {env : Env} {n : Notes} {names : UnitNames} {later : Env} (name : List ℕ)
-      (ty : DeclaredType) → IsGivenType n.structs ty → IsDeclared ds name (typedef_of ty) u.names env names later →
+      (ty : DeclaredType) → IsGivenType n.structs ty → DeclaresName ds name (typedef_of ty) u.names env names later →
       WalkSteps ds all (u, (env, n)) (with_names names u, (later, n))
   DeclaresFunction : {u : UnitSoFar} {env : Env} {n : Notes} {names : UnitNames} {later : Env} (name : List ℕ)
       (of : FunctionType) → IsGivenType n.structs (declared_as of) →
-      IsDeclared ds name (function_declared false (declared_as of)) u.names env names later →
+      DeclaresName ds name (function_declared false (declared_as of)) u.names env names later →
       WalkSteps ds all (u, (env, n)) (with_names names u, (later, n))
   -- a function is declared, and then its body is judged
   DefinesFunction : {u : UnitSoFar} {env : Env} {n : Notes} {names : UnitNames} {later : Env} (e : Declaration)
       (of : FunctionType) (list : List Stmt) (f : TypedFn) → IsGivenType n.structs (declared_as of) →
       IsTrue (is_some (find e.name ds.functions)) →
-      IsDeclared ds e.name (function_declared true (declared_as of)) u.names env names later →
+      DeclaresName ds e.name (function_declared true (declared_as of)) u.names env names later →
       (function e (Some of) list (later, n)).0 ≡ Some f →
       WalkSteps ds all (u, (env, n)) (
         keep_function later e.name (Some f) (with_names names (main_seen e.name (declared_as of) u)),
@@ -93,12 +93,12 @@ pub data WalkSteps (ds : Definitions) (all : List External) : Walk → Walk → 
       )
   DeclaresObject : {u : UnitSoFar} {env : Env} {n : Notes} {names : UnitNames} {later : Env} (name : List ℕ)
       (ty : CType) → IsObjectType n.structs ty →
-      IsDeclared ds name (object_declared ty false) u.names env names later →
+      DeclaresName ds name (object_declared ty false) u.names env names later →
       WalkSteps ds all (u, (env, n)) (add_object later name ty (with_names names u), (later, n))
   -- an object is declared, and then its initialiser is judged
   InitialisesObject : {u : UnitSoFar} {env : Env} {n : Notes} {names : UnitNames} {later : Env} (name : List ℕ)
       (ty : CType) (x : Init) (cells : List DataCell) → IsObjectType n.structs ty →
-      IsDeclared ds name (object_declared ty true) u.names env names later →
+      DeclaresName ds name (object_declared ty true) u.names env names later →
       (object_cells ty x (later, n)).0 ≡ Some cells → IsInitialiserIn x all →
       WalkSteps ds all (u, (env, n)) (
         keep_cells later name (Some cells) (add_object later name ty (with_names names u)),

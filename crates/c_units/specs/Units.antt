@@ -17,7 +17,7 @@ use Rattle.c_checks.specs.declared.notes.Notes.{Notes}
 use Rattle.c_checks.specs.declared.meanings.NameMeaning.TheVariants as m
 use Rattle.c_checks.specs.Notes.{with_fault}
 use Rattle.c_checks.specs.Scopes.{with_name}
-use Rattle.c_declarations.specs.Bodies.{Scope}
+use Rattle.c_declarations.specs.Bodies.{TagScope}
 use Rattle.c_unit_names.specs.declared.names.UnitNames.{UnitNames}
 use Rattle.c_unit_names.specs.UnitNames.{with_declared}
 use Rattle.c_declarations.specs.declared.walk.UnitSoFar.{UnitSoFar}
@@ -58,7 +58,7 @@ with_builtins r =
 abbrev pub builtins : UnitNames × Env
 builtins = with_builtins (no_names, record { names = []; outside = 0 })
 
-abbrev pub start : Definitions → UnitSoFar × Scope
+abbrev pub start : Definitions → UnitSoFar × TagScope
 start ds = (
   record { names = builtins.0; objects = []; functions = []; has_main = false },
   ([], (builtins.1, no_notes (length ds.objects))),
@@ -72,15 +72,15 @@ main_missed length has_main n = if has_main then n else with_fault length Missin
 abbrev pub end_notes : (length : ℕ) → (has_main : Bool) → Notes → Notes
 end_notes length has_main n = main_missed length has_main (undefined_noted n)
 
-abbrev pub at_end : (length : ℕ) → UnitSoFar × Scope → UnitSoFar × Scope
+abbrev pub at_end : (length : ℕ) → UnitSoFar × TagScope → UnitSoFar × TagScope
 at_end length s = (s.0, (s.1.0, (s.1.1.0, end_notes length s.0.has_main s.1.1.1)))
 
 -- ---- the whole
 
-abbrev pub judge_unit : Definitions → TranslationUnit → UnitSoFar × Scope → UnitSoFar × Scope
+abbrev pub judge_unit : Definitions → TranslationUnit → UnitSoFar × TagScope → UnitSoFar × TagScope
 judge_unit ds unit s = at_end unit.length (externals ds unit.externals s)
 
-abbrev pub whole_unit : TranslationUnit → UnitSoFar × Scope
+abbrev pub whole_unit : TranslationUnit → UnitSoFar × TagScope
 whole_unit unit = judge_unit (definitions unit.externals) unit (start (definitions unit.externals))
 
 -- the faults of a unit

@@ -154,15 +154,10 @@ fn note_main(notes: &mut Notes<'_>, length: u32, has_main: bool) -> Result<(), A
 }
 
 /// What is seen of a unit at its end.
-fn end_unit(
-    alloc: Global,
-    notes: &mut Notes<'_>,
-    length: u32,
-    has_main: bool,
-) -> Result<(), AllocError>
+fn end_unit(notes: &mut Notes<'_>, length: u32, has_main: bool) -> Result<(), AllocError>
     ensures { OnOk result (notes.new ≡ spec.end_notes length has_main notes.old) }
 {
-    note_undefined(alloc, notes)?;
+    note_undefined(notes)?;
     note_main(notes, length, has_main)
 }
 
@@ -220,7 +215,7 @@ fn judge_unit<'a>(
         &mut state.notes,
         unit.externals.as_slice(),
     )?;
-    end_unit(alloc, &mut state.notes, unit.length, state.so_far.has_main)
+    end_unit(&mut state.notes, unit.length, state.so_far.has_main)
 }
 
 /// What is known of a whole unit, and what was noted. It fails only where memory is short.

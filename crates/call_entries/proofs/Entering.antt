@@ -31,7 +31,7 @@ use Rattle.flat_frames.proofs.Shapes.{pieces_of, frames_are_small}
 use Rattle.flat_frames.proofs.Frames.{argument-word}
 use Rattle.frame_accesses.specs.Laws.{IsAt}
 use Rattle.frame_accesses.proofs.Runs.{stands, bytes-same, reached-same, parts-same}
-use Rattle.frame_transfers.specs.Laws.{Call, FitsTheStack, StandsFor}
+use Rattle.frame_transfers.specs.Laws.{CallAt, FitsTheStack, StandsFor}
 use Rattle.call_parts.specs.Items.{entry_part}
 use Rattle.call_parts.specs.Laws.{IsFrameAt, EntryDone}
 use Rattle.call_parts.proofs.Entries.{entries_are_done}
@@ -44,7 +44,7 @@ use Rattle.call_entries.proofs.Begins.{get-behind, sizes-are, extent-of, size-of
 
 -- ---- the owners of the new frame
 
-module _ (c : Call) (s : FrameShape) (own bottom : ℕ) (room : bottom + frame_size s ≤ c.sp) (free : (y : ℕ) → bottom ≤ y → y < c.sp → c.owner y ≡ Nobody) where
+module _ (c : CallAt) (s : FrameShape) (own bottom : ℕ) (room : bottom + frame_size s ≤ c.sp) (free : (y : ℕ) → bottom ≤ y → y < c.sp → c.owner y ≡ Nobody) where
   sp-is : called_sp c s + frame_size s ≡ c.sp
   sp-is = omega (arith, room)
 
@@ -87,7 +87,7 @@ usable-below : (r : ℕ) → usable r ≡ true → (r < 26) ⊎ (r ≡ 27)
 usable-below r e = ⊎_elim (λ f. inl (ltb-true r 26 f)) (λ f. inr (eqb-true r 27 f)) (or_cases (nat_lt r 26) (r == 27) e)
 
 -- an argument is held whatever it is
-held-argument : (c : Call) (k : ℕ) (content : Content) (m : Bytes) → IsHeldArgument c k content m → ArgumentIs c k content m
+held-argument : (c : CallAt) (k : ℕ) (content : Content) (m : Bytes) → IsHeldArgument c k content m → ArgumentIs c k content m
 held-argument c k (contents.Plain (Word n)) m h = h
 held-argument c k (contents.Plain (Address q)) m h = h
 held-argument c k (contents.Plain Unset) m h = tt
@@ -96,11 +96,11 @@ held-argument c k (Bundle cells) m h = h
 unset-content : (xs : Extents) (content : Content) (w : ℕ) → content ≡ unset → ContentIs xs content w
 unset-content xs content w e = subst (λ z. ContentIs xs z w) (sym e) tt
 
-module _ (p : Program) (there : Labels) (start : Start) (c : Call) (gs : List Waiting) (o : Outer) (held : Places) (rest : List AsmItem) (end : ℕ) (s : State) (call : FitsTheStack c) (stack : StackIs p there start c gs held s) (outer : HasOuter o s) (l function arguments : ℕ) (shape : FrameShape) (body : List AsmItem) (last : ℕ) (at : ItemsAt p there (there l) (entry_part shape shape.saves body) last) (room : HasRoom p c shape) (few : arguments ≤ c.shape.outgoing + 6) (h : StandsFor p there (Branch Bsr 26 l ∷ rest) end c o.memory usable held s) where
+module _ (p : Program) (there : Labels) (start : Start) (c : CallAt) (gs : List Waiting) (o : Outer) (held : Places) (rest : List AsmItem) (end : ℕ) (s : State) (call : FitsTheStack c) (stack : StackIs p there start c gs held s) (outer : HasOuter o s) (l function arguments : ℕ) (shape : FrameShape) (body : List AsmItem) (last : ℕ) (at : ItemsAt p there (there l) (entry_part shape shape.saves body) last) (room : HasRoom p c shape) (few : arguments ≤ c.shape.outgoing + 6) (h : StandsFor p there (Branch Bsr 26 l ∷ rest) end c o.memory usable held s) where
   abbrev sp : ℕ
   sp = called_sp c shape
 
-  abbrev D : Call
+  abbrev D : CallAt
   D = called c shape (length o.memory)
 
   abbrev entry : Places
@@ -404,7 +404,7 @@ module _ (p : Program) (there : Labels) (start : Start) (c : Call) (gs : List Wa
           };
         }
 
-pub calls_are_entered : (p : Program) (there : Labels) (start : Start) (c : Call) (gs : List Waiting) (o : Outer) (held : Places) (rest : List AsmItem) (end : ℕ) (s : State) → FitsTheStack c → StackIs p there start c gs held s → HasOuter o s → (l function arguments : ℕ) (shape : FrameShape) (body : List AsmItem) (last : ℕ) → ItemsAt p there (there l) (entry_part shape shape.saves body) last → HasRoom p c shape → arguments ≤ c.shape.outgoing + 6 → StandsFor p there (Branch Bsr 26 l ∷ rest) end c o.memory usable held s → EntryIs p there start body last c (called c shape (length o.memory)) gs o held (entry_places (passed function arguments held)) rest end s
+pub calls_are_entered : (p : Program) (there : Labels) (start : Start) (c : CallAt) (gs : List Waiting) (o : Outer) (held : Places) (rest : List AsmItem) (end : ℕ) (s : State) → FitsTheStack c → StackIs p there start c gs held s → HasOuter o s → (l function arguments : ℕ) (shape : FrameShape) (body : List AsmItem) (last : ℕ) → ItemsAt p there (there l) (entry_part shape shape.saves body) last → HasRoom p c shape → arguments ≤ c.shape.outgoing + 6 → StandsFor p there (Branch Bsr 26 l ∷ rest) end c o.memory usable held s → EntryIs p there start body last c (called c shape (length o.memory)) gs o held (entry_places (passed function arguments held)) rest end s
 calls_are_entered p there start c gs o held rest end s call stack outer l function arguments shape body last at room few h =
     let b = branched p there start c gs o held rest end s call stack outer l function arguments shape body last at room few h in
     entry-is p there start c gs o held rest end s call stack outer l function arguments shape body last at room few h b (entered p there start c gs o held rest end s call stack outer l function arguments shape body last at room few h b)

@@ -17,7 +17,7 @@ use Rattle.alloc_model.specs.Effect.{entry_holders}
 use Rattle.alloc_model.specs.Places.{Places, place_eq, home_of, places_read_at}
 use Rattle.flat_memory.specs.Relation.{Extents, Owners}
 use Rattle.flat_frames.specs.Shapes.{FrameShape, objects_at, frame_size, owner_at}
-use Rattle.frame_transfers.specs.Laws.{Call, FitsTheStack, StandsFor}
+use Rattle.frame_transfers.specs.Laws.{CallAt, FitsTheStack, StandsFor}
 use Rattle.call_parts.specs.Items.{entry_part}
 use Rattle.call_stacks.specs.InstructionItemsLaws.{usable, HasOuter}
 use Rattle.call_stacks.specs.Stacks.{Waiting, Start, StackIs}
@@ -35,15 +35,15 @@ extents_from base [] = []
 extents_from base (n ∷ sizes) = record { base = base; size = n } ∷ extents_from (base + place_after n) sizes
 
 -- the frame of the called function is below that of the caller
-abbrev pub called_sp : Call → FrameShape → ℕ
+abbrev pub called_sp : CallAt → FrameShape → ℕ
 called_sp c s = c.sp - frame_size s
 
-abbrev pub called_owner : Call → FrameShape → (own : ℕ) → Owners
+abbrev pub called_owner : CallAt → FrameShape → (own : ℕ) → Owners
 called_owner c s own y =
     if nat_lt y (called_sp c s) then c.owner y
     else if nat_lt y c.sp then owner_at s (suc c.depth) own (y - called_sp c s) else c.owner y
 
-abbrev pub called : Call → FrameShape → (own : ℕ) → Call
+abbrev pub called : CallAt → FrameShape → (own : ℕ) → CallAt
 called c s own = record {
   extents = c.extents ++ extents_from (called_sp c s + objects_at s) s.sizes;
   owner = called_owner c s own;
@@ -54,16 +54,16 @@ called c s own = record {
 }
 
 -- the call that waits meanwhile
-abbrev pub waits : Call → (held : Places) → (behind : List AsmItem) → (end : ℕ) → Waiting
+abbrev pub waits : CallAt → (held : Places) → (behind : List AsmItem) → (end : ℕ) → Waiting
 waits c held behind end = record { shape = c.shape; own = c.own; held = held; behind = behind; end = end }
 
 -- the stack has room for the frame, and an argument place of the caller is near from it
-pub record HasRoom (p : Program) (c : Call) (s : FrameShape) : Type 0 where
+pub record HasRoom (p : Program) (c : CallAt) (s : FrameShape) : Type 0 where
   pub room : stack_start p + frame_size s ≤ c.sp
   pub near : frame_size s + frame_size c.shape < 2147450880
 
 -- the machine stands at the first item of the called function, for the called function
-pub record EntryIs (p : Program) (there : Labels) (start : Start) (body : List AsmItem) (last : ℕ) (c d : Call)
+pub record EntryIs (p : Program) (there : Labels) (start : Start) (body : List AsmItem) (last : ℕ) (c d : CallAt)
     (gs : List Waiting) (o : Outer) (held entry : Places) (rest : List AsmItem) (end : ℕ) (s : State) : Type 0 where
   pub to : State
   pub comes : Comes p s to
@@ -75,7 +75,7 @@ pub record EntryIs (p : Program) (there : Labels) (start : Start) (body : List A
 
 abbrev pub CallsAreEntered : Type 0
 CallsAreEntered =
-    (p : Program) (there : Labels) (start : Start) (c : Call) (gs : List Waiting) (o : Outer) (held : Places)
+    (p : Program) (there : Labels) (start : Start) (c : CallAt) (gs : List Waiting) (o : Outer) (held : Places)
     (rest : List AsmItem) (end : ℕ) (s : State) → FitsTheStack c → StackIs p there start c gs held s → HasOuter o s →
     (l function arguments : ℕ) (shape : FrameShape) (body : List AsmItem) (last : ℕ) →
     ItemsAt p there (there l) (entry_part shape shape.saves body) last → HasRoom p c shape →

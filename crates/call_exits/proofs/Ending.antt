@@ -24,9 +24,9 @@ use Rattle.flat_memory.specs.Relation.{Extents}
 use Rattle.flat_operations.specs.Contents.{ContentIs}
 use Rattle.frame_accesses.specs.Laws.{IsAt}
 use Rattle.frame_accesses.proofs.Runs.{stands, word-written, register_moves}
-use Rattle.frame_transfers.specs.Laws.{Call, FitsTheStack, StandsFor}
+use Rattle.frame_transfers.specs.Laws.{CallAt, FitsTheStack, StandsFor}
 use Rattle.call_parts.specs.Items.{exit_part}
-use Rattle.call_stacks.specs.InstructionItemsLaws.{usable, HasOuter, IsOver}
+use Rattle.call_stacks.specs.InstructionItemsLaws.{usable, HasOuter, RunIsOver}
 use Rattle.call_stacks.specs.Stacks.{Start, StackIs}
 use Rattle.call_exits.specs.Leaving.{returned, ending_items}
 use Rattle.call_exits.proofs.Leaving.{returned-is, left}
@@ -66,7 +66,7 @@ ends p there w end s h =
       output = b.come.output ∙ a.come.output;
     }
 
-pub runs_are_ended : (p : Program) (there : Labels) (start : Start) (c : Call) (o : Outer) (held : Places) (rest : List AsmItem) (end : ℕ) (s : State) → FitsTheStack c → StackIs p there start c [] held s → HasOuter o s → start.behind ≡ ending_items → (with_value : Bool) (status : ℕ) → status_of (returned with_value held) ≡ Some status → StandsFor p there (exit_part c.shape c.shape.saves rest) end c o.memory usable held s → IsOver p (end_locals o c.own (length c.shape.sizes)) (Done status) s
+pub runs_are_ended : (p : Program) (there : Labels) (start : Start) (c : CallAt) (o : Outer) (held : Places) (rest : List AsmItem) (end : ℕ) (s : State) → FitsTheStack c → StackIs p there start c [] held s → HasOuter o s → start.behind ≡ ending_items → (with_value : Bool) (status : ℕ) → status_of (returned with_value held) ≡ Some status → StandsFor p there (exit_part c.shape c.shape.saves rest) end c o.memory usable held s → RunIsOver p (end_locals o c.own (length c.shape.sizes)) (Done status) s
 runs_are_ended p there start c o held rest end s call stack outer items with_value status e h =
     let x = left p there c o held rest end s call h in
     let back = stack.callers_are.1 in

@@ -21,7 +21,7 @@ use Rattle.flat_memory.proofs.Objects.{objects_end}
 use Rattle.flat_operations.specs.Contents.{ContentIs}
 use Rattle.flat_frames.specs.Shapes.{frame_size, saved_at}
 use Rattle.flat_frames.specs.Frames.{word_in, FrameIs}
-use Rattle.frame_transfers.specs.Laws.{Call, FitsTheStack, StandsFor}
+use Rattle.frame_transfers.specs.Laws.{CallAt, FitsTheStack, StandsFor}
 use Rattle.call_parts.specs.Items.{exit_part}
 use Rattle.call_parts.specs.Laws.{ExitDone}
 use Rattle.call_parts.proofs.Exits.{exits_are_done}
@@ -38,7 +38,7 @@ returned-is xs held w true h = h
 returned-is xs held w false h = tt
 
 -- the exit part of a call
-pub left : (p : Program) (there : Labels) (c : Call) (o : Outer) (held : Places) (rest : List AsmItem) (end : ℕ) (s : State) → FitsTheStack c → StandsFor p there (exit_part c.shape c.shape.saves rest) end c o.memory usable held s → ExitDone p there c.shape c.shape.saves c.sp s
+pub left : (p : Program) (there : Labels) (c : CallAt) (o : Outer) (held : Places) (rest : List AsmItem) (end : ℕ) (s : State) → FitsTheStack c → StandsFor p there (exit_part c.shape c.shape.saves rest) end c o.memory usable held s → ExitDone p there c.shape c.shape.saves c.sp s
 left p there c o held rest end s call h =
     exits_are_done p there h.word rest end c.shape c.shape.saves c.sp s h.is_at h.stack (record {
       aligned = h.frame.frame.aligned;
@@ -48,7 +48,7 @@ left p there c o held rest end s call h =
     })
 
 -- the memory without the objects of the call
-pub ended-memory : (p : Program) (there : Labels) (c : Call) (o : Outer) (held : Places) (items : List AsmItem) (end : ℕ) (s t : State) → StandsFor p there items end c o.memory usable held s → memory_bytes p t ≡ memory_bytes p s → MemoryIs c.extents (end_objects o.memory c.own (length c.shape.sizes)) (left_owner c) (memory_bytes p t)
+pub ended-memory : (p : Program) (there : Labels) (c : CallAt) (o : Outer) (held : Places) (items : List AsmItem) (end : ℕ) (s t : State) → StandsFor p there items end c o.memory usable held s → memory_bytes p t ≡ memory_bytes p s → MemoryIs c.extents (end_objects o.memory c.own (length c.shape.sizes)) (left_owner c) (memory_bytes p t)
 ended-memory p there c o held items end s t h same =
     subst (MemoryIs c.extents (end_objects o.memory c.own (length c.shape.sizes)) (left_owner c)) (sym same)
     (objects_end c.extents o.memory c.owner (left_owner c) (memory_bytes p s) c.own (length c.shape.sizes) h.frame.memory_is keeps)
@@ -65,11 +65,11 @@ ended-memory p there c o held items end s t h same =
         (cases_lt y (c.sp + frame_size c.shape)))
         (cases_lt y c.sp)
 
-module _ (p : Program) (there : Labels) (start : Start) (c : Call) (g : Waiting) (gs : List Waiting) (o : Outer) (held : Places) (rest : List AsmItem) (end : ℕ) (s : State) (call : FitsTheStack c) (stack : StackIs p there start c (g ∷ gs) held s) (outer : HasOuter o s) (function arguments : ℕ) (with_value : Bool) (h : StandsFor p there (exit_part c.shape c.shape.saves rest) end c o.memory usable held s) (x : ExitDone p there c.shape c.shape.saves c.sp s) where
+module _ (p : Program) (there : Labels) (start : Start) (c : CallAt) (g : Waiting) (gs : List Waiting) (o : Outer) (held : Places) (rest : List AsmItem) (end : ℕ) (s : State) (call : FitsTheStack c) (stack : StackIs p there start c (g ∷ gs) held s) (outer : HasOuter o s) (function arguments : ℕ) (with_value : Bool) (h : StandsFor p there (exit_part c.shape c.shape.saves rest) end c o.memory usable held s) (x : ExitDone p there c.shape c.shape.saves c.sp s) where
   abbrev up : ℕ
   up = c.sp + frame_size c.shape
 
-  abbrev D : Call
+  abbrev D : CallAt
   D = caller_of c (length gs) g
 
   abbrev after : Places
@@ -170,6 +170,6 @@ module _ (p : Program) (there : Labels) (start : Start) (c : Call) (g : Waiting)
     outer = record { input = x.input ∙ outer.input; output = x.output ∙ outer.output; bytes = outer.bytes };
   }
 
-pub calls_are_left : (p : Program) (there : Labels) (start : Start) (c : Call) (g : Waiting) (gs : List Waiting) (o : Outer) (held : Places) (rest : List AsmItem) (end : ℕ) (s : State) → FitsTheStack c → StackIs p there start c (g ∷ gs) held s → HasOuter o s → (function arguments : ℕ) (with_value : Bool) → StandsFor p there (exit_part c.shape c.shape.saves rest) end c o.memory usable held s → ExitIs p there start g gs (caller_of c (length gs) g) (end_locals o c.own (length c.shape.sizes)) (resumed function arguments g (returned with_value held)) s
+pub calls_are_left : (p : Program) (there : Labels) (start : Start) (c : CallAt) (g : Waiting) (gs : List Waiting) (o : Outer) (held : Places) (rest : List AsmItem) (end : ℕ) (s : State) → FitsTheStack c → StackIs p there start c (g ∷ gs) held s → HasOuter o s → (function arguments : ℕ) (with_value : Bool) → StandsFor p there (exit_part c.shape c.shape.saves rest) end c o.memory usable held s → ExitIs p there start g gs (caller_of c (length gs) g) (end_locals o c.own (length c.shape.sizes)) (resumed function arguments g (returned with_value held)) s
 calls_are_left p there start c g gs o held rest end s call stack outer function arguments with_value h =
     exit-is p there start c g gs o held rest end s call stack outer function arguments with_value h (left p there c o held rest end s call h)

@@ -9,7 +9,7 @@ use Rattle.mem_model.proofs.Objects.{ends_change}
 use Rattle.temp_ir.specs.Fixed.{ended_by_calls, has_number}
 use Rattle.flat_memory.specs.Relation.{Owner, OfObject, OfFrame, Nobody, FramePiece, SlotPiece, ReturnPiece, SavedPiece, ArgumentPiece, NoPiece}
 use Rattle.flat_frames.specs.Shapes.{FrameShape, frame_size, objects_at, object_owner, owner_at}
-use Rattle.frame_transfers.specs.Laws.{Call}
+use Rattle.frame_transfers.specs.Laws.{CallAt}
 use Rattle.call_exits.specs.Leaving.{left_owner}
 
 -- ---- the objects of a frame
@@ -66,15 +66,15 @@ own-ended memory own count k is live =
 
 -- ---- owners
 
-pub left-below : (c : Call) (y : ℕ) → y < c.sp → left_owner c y ≡ c.owner y
+pub left-below : (c : CallAt) (y : ℕ) → y < c.sp → left_owner c y ≡ c.owner y
 left-below c y lt = cond-true (nat_lt y c.sp) _ _ (lt-ltb y c.sp lt)
 
-pub left-in : (c : Call) (y : ℕ) → c.sp ≤ y → y < c.sp + frame_size c.shape → left_owner c y ≡ Nobody
+pub left-in : (c : CallAt) (y : ℕ) → c.sp ≤ y → y < c.sp + frame_size c.shape → left_owner c y ≡ Nobody
 left-in c y from to =
     cond-false (nat_lt y c.sp) _ _ (le-ltb y c.sp from)
     ∙ cond-true (nat_lt y (c.sp + frame_size c.shape)) _ _ (lt-ltb y (c.sp + frame_size c.shape) to)
 
-pub left-above : (c : Call) (y : ℕ) → c.sp + frame_size c.shape ≤ y → left_owner c y ≡ c.owner y
+pub left-above : (c : CallAt) (y : ℕ) → c.sp + frame_size c.shape ≤ y → left_owner c y ≡ c.owner y
 left-above c y le =
     cond-false (nat_lt y c.sp) _ _ (le-ltb y c.sp (omega (arith, le)))
     ∙ cond-false (nat_lt y (c.sp + frame_size c.shape)) _ _ (le-ltb y (c.sp + frame_size c.shape) le)

@@ -19,9 +19,9 @@ use Rattle.alloc_model.specs.Temporaries.{status_of}
 use Rattle.alloc_model.specs.Places.{Places, places_read_at}
 use Rattle.flat_memory.specs.Relation.{Owners, Nobody}
 use Rattle.flat_frames.specs.Shapes.{frame_size}
-use Rattle.frame_transfers.specs.Laws.{Call, FitsTheStack, StandsFor}
+use Rattle.frame_transfers.specs.Laws.{CallAt, FitsTheStack, StandsFor}
 use Rattle.call_parts.specs.Items.{exit_part}
-use Rattle.call_stacks.specs.InstructionItemsLaws.{usable, HasOuter, IsOver, store_behind}
+use Rattle.call_stacks.specs.InstructionItemsLaws.{usable, HasOuter, RunIsOver, store_behind}
 use Rattle.call_stacks.specs.Stacks.{Waiting, call_of, Start, StackIs}
 
 -- what a call returns, and what the call that waited holds then
@@ -32,15 +32,15 @@ abbrev pub resumed : (function arguments : ℕ) → Waiting → List Content →
 resumed function arguments g cs = store_behind [] (i.Call function arguments) g.held cs
 
 -- the frame is nobody's any more
-abbrev pub left_owner : Call → Owners
+abbrev pub left_owner : CallAt → Owners
 left_owner c y =
     if nat_lt y c.sp then c.owner y else if nat_lt y (c.sp + frame_size c.shape) then Nobody else c.owner y
 
-abbrev pub caller_of : Call → (depth : ℕ) → Waiting → Call
+abbrev pub caller_of : CallAt → (depth : ℕ) → Waiting → CallAt
 caller_of c depth g = call_of c.extents (left_owner c) (c.sp + frame_size c.shape) depth g
 
 -- the machine stands behind the call, for the call that waited
-pub record ExitIs (p : Program) (there : Labels) (start : Start) (g : Waiting) (gs : List Waiting) (d : Call)
+pub record ExitIs (p : Program) (there : Labels) (start : Start) (g : Waiting) (gs : List Waiting) (d : CallAt)
     (o : Outer)
     (held : Places) (s : State) : Type 0 where
   pub to : State
@@ -52,7 +52,7 @@ pub record ExitIs (p : Program) (there : Labels) (start : Start) (g : Waiting) (
 
 abbrev pub CallsAreLeft : Type 0
 CallsAreLeft =
-    (p : Program) (there : Labels) (start : Start) (c : Call) (g : Waiting) (gs : List Waiting) (o : Outer)
+    (p : Program) (there : Labels) (start : Start) (c : CallAt) (g : Waiting) (gs : List Waiting) (o : Outer)
     (held : Places) (rest : List AsmItem) (end : ℕ) (s : State) → FitsTheStack c →
     StackIs p there start c (g ∷ gs) held s →
     HasOuter o s → (function arguments : ℕ) (with_value : Bool) →
@@ -67,9 +67,9 @@ ending_items =
 
 abbrev pub RunsAreEnded : Type 0
 RunsAreEnded =
-    (p : Program) (there : Labels) (start : Start) (c : Call) (o : Outer) (held : Places) (rest : List AsmItem)
+    (p : Program) (there : Labels) (start : Start) (c : CallAt) (o : Outer) (held : Places) (rest : List AsmItem)
     (end : ℕ)
     (s : State) → FitsTheStack c → StackIs p there start c [] held s → HasOuter o s → start.behind ≡ ending_items →
     (with_value : Bool) (status : ℕ) → status_of (returned with_value held) ≡ Some status →
     StandsFor p there (exit_part c.shape c.shape.saves rest) end c o.memory usable held s →
-    IsOver p (end_locals o c.own (length c.shape.sizes)) (Done status) s
+    RunIsOver p (end_locals o c.own (length c.shape.sizes)) (Done status) s

@@ -99,7 +99,7 @@ impl Call {
             call.files.push((file.0.as_str().to_string(alloc)?, bytes))?;
         }
         self.files
-            .push((name.to_string(alloc)?, call.written(alloc)?))?;
+            .push((name.to_string(alloc)?, call.output_of(alloc)?))?;
         Ok(())
     }
 
@@ -166,7 +166,7 @@ impl Call {
     }
 
     /// What a call writes to the output.
-    fn written(self, alloc: Global) -> Result<Vec<u8>> {
+    fn output_of(self, alloc: Global) -> Result<Vec<u8>> {
         let Call { words, files, .. } = self;
         let mut files = MemFiles::new(files, Vec::new(alloc));
         let mut input = MemSource::new(Vec::new(alloc), Vec::new(alloc));

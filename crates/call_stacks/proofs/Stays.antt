@@ -20,7 +20,7 @@ use Rattle.flat_operations.proofs.Operations.{contents_stay}
 use Rattle.flat_frames.specs.Shapes.{FrameShape, frame_size, return_at, saved_at, slot_at, argument_at, objects_at, object_at, object_owner, owner_at, IsPiece}
 use Rattle.flat_frames.specs.Frames.{word_in, FrameIs, is_written_piece, is_written}
 use Rattle.flat_frames.proofs.Shapes.{pieces_of}
-use Rattle.frame_transfers.specs.Laws.{Call, IsKept}
+use Rattle.frame_transfers.specs.Laws.{CallAt, IsKept}
 use Rattle.instruction_items.specs.Laws.{IsHeldArgument, ArgumentIs}
 use Rattle.call_stacks.specs.Stacks.{Waiting, call_of, view_above, Start, CallersAre, StackIs, KeepsCallers}
 
@@ -93,7 +93,7 @@ module _ (xs ys : Extents) (owner new : Owners) (m k : Bytes) (depth bound : ℕ
   }
 
   -- arguments of a call, which its caller owns
-  held-stays : (c : Call) (j : ℕ) (content : Content) → c.depth ≤ depth → bound ≤ c.sp → IsHeldArgument (record c { extents = xs; owner = owner }) j content m → IsHeldArgument (record c { extents = ys; owner = new }) j content k
+  held-stays : (c : CallAt) (j : ℕ) (content : Content) → c.depth ≤ depth → bound ≤ c.sp → IsHeldArgument (record c { extents = xs; owner = owner }) j content m → IsHeldArgument (record c { extents = ys; owner = new }) j content k
   held-stays c j content le low h =
       let a = c.sp + (frame_size c.shape + argument_at j) in
       let up = h.above in
@@ -107,7 +107,7 @@ module _ (xs ys : Extents) (owner new : Owners) (m k : Bytes) (depth bound : ℕ
         is = contents_stay xs ys content (word_in k a) more (subst (ContentIs xs content) (sym same) h.is);
       }
 
-  pub argument-stays : (c : Call) (j : ℕ) (content : Content) → c.depth ≤ depth → bound ≤ c.sp → ArgumentIs (record c { extents = xs; owner = owner }) j content m → ArgumentIs (record c { extents = ys; owner = new }) j content k
+  pub argument-stays : (c : CallAt) (j : ℕ) (content : Content) → c.depth ≤ depth → bound ≤ c.sp → ArgumentIs (record c { extents = xs; owner = owner }) j content m → ArgumentIs (record c { extents = ys; owner = new }) j content k
   argument-stays c j (contents.Plain (Word n)) le low h = held-stays c j (contents.Plain (Word n)) le low h
   argument-stays c j (contents.Plain (Address q)) le low h = held-stays c j (contents.Plain (Address q)) le low h
   argument-stays c j (contents.Plain Unset) le low h = tt
@@ -135,7 +135,7 @@ callers_stay p there start xs ys owner new m k depth bound more keeps (g ∷ gs)
           a.3,
     )
 
-pub stacks_stay : (p : Program) (there : Labels) (start : Start) (c : Call) (gs : List Waiting) (held new : Places) (s t : State) → StackIs p there start c gs held s → FrameIs c.extents c.owner (memory_bytes p s) c.sp c.depth c.own c.shape held → ((k : ℕ) → new (In k) ≡ held (In k)) → IsKept p c s t → StackIs p there start c gs new t
+pub stacks_stay : (p : Program) (there : Labels) (start : Start) (c : CallAt) (gs : List Waiting) (held new : Places) (s t : State) → StackIs p there start c gs held s → FrameIs c.extents c.owner (memory_bytes p s) c.sp c.depth c.own c.shape held → ((k : ℕ) → new (In k) ≡ held (In k)) → IsKept p c s t → StackIs p there start c gs new t
 stacks_stay p there start c gs held new s t h frame ins kept =
     let m = memory_bytes p s in
     let k = memory_bytes p t in

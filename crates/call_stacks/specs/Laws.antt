@@ -10,7 +10,7 @@ use Rattle.flat_memory.specs.Machine.{memory_bytes}
 use Rattle.flat_memory.specs.Laws.{MoreExtents}
 use Rattle.flat_frames.specs.Shapes.{FrameShape}
 use Rattle.flat_frames.specs.Frames.{FrameIs}
-use Rattle.frame_transfers.specs.Laws.{Call, IsKept}
+use Rattle.frame_transfers.specs.Laws.{CallAt, IsKept}
 use Rattle.call_stacks.specs.Stacks.{Waiting, Start, CallersAre, StackIs, KeepsCallers}
 
 -- frames of calls that wait stay, with more extents, where their bytes stay and the view is the same
@@ -25,6 +25,6 @@ CallersStay =
 -- so the stack of a run stays through what an instruction of the call does
 abbrev pub StacksStay : Type 0
 StacksStay =
-    (p : Program) (there : Labels) (start : Start) (c : Call) (gs : List Waiting) (held new : Places) (s t : State) →
+    (p : Program) (there : Labels) (start : Start) (c : CallAt) (gs : List Waiting) (held new : Places) (s t : State) →
     StackIs p there start c gs held s → FrameIs c.extents c.owner (memory_bytes p s) c.sp c.depth c.own c.shape held →
     ((k : ℕ) → new (In k) ≡ held (In k)) → IsKept p c s t → StackIs p there start c gs new t

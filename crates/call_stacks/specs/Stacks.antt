@@ -12,7 +12,7 @@ use Rattle.flat_memory.specs.Machine.{memory_bytes, is_reached}
 use Rattle.flat_operations.specs.Contents.{ContentIs}
 use Rattle.flat_frames.specs.Shapes.{FrameShape, frame_size, return_at, saved_at}
 use Rattle.flat_frames.specs.Frames.{word_in, FrameIs, is_written}
-use Rattle.frame_transfers.specs.Laws.{Call}
+use Rattle.frame_transfers.specs.Laws.{CallAt}
 use Rattle.instruction_items.specs.Laws.{ArgumentsAre}
 
 -- a call that waits: the shape of its frame, the number of its first object, what it holds once the transfers before
@@ -25,7 +25,7 @@ pub record Waiting : Type 0 where
   pub end : ℕ
 
 -- the frame of a call that waits, at an address, with so many calls that wait above it
-abbrev pub call_of : Extents → Owners → (sp depth : ℕ) → Waiting → Call
+abbrev pub call_of : Extents → Owners → (sp depth : ℕ) → Waiting → CallAt
 call_of xs owner sp depth g =
     record { extents = xs; owner = owner; sp = sp; depth = depth; own = g.own; shape = g.shape }
 
@@ -68,7 +68,7 @@ CallersAre p there start xs owner m view sp s (g ∷ gs) =
     × CallersAre p there start xs owner m (view_above m (sp + frame_size s) g.shape view) (sp + frame_size s) g.shape gs
 
 -- the stack of a run: the call that goes on, and those that wait
-pub record StackIs (p : Program) (there : Labels) (start : Start) (c : Call) (callers : List Waiting) (held : Places)
+pub record StackIs (p : Program) (there : Labels) (start : Start) (c : CallAt) (callers : List Waiting) (held : Places)
     (s : State) : Type 0 where
   pub depth : c.depth ≡ length callers
   pub callers_are : CallersAre p there start c.extents c.owner (memory_bytes p s)

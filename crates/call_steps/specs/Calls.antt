@@ -13,9 +13,9 @@ use Rattle.alloc_model.specs.declared.allocation.Transfer.{Transfer}
 use Rattle.alloc_model.specs.Temporaries.{status_of}
 use Rattle.alloc_model.specs.Places.{Places, Plan, placed_site, do_all}
 use Rattle.frame_transfers.specs.Items.{items_of_transfers}
-use Rattle.frame_transfers.specs.Laws.{Call, FitsTheStack, StandsFor}
+use Rattle.frame_transfers.specs.Laws.{CallAt, FitsTheStack, StandsFor}
 use Rattle.call_entries.specs.Items.{ItemSetting, insn_items}
-use Rattle.call_entries.specs.Laws.{usable, HasOuter, IsOver}
+use Rattle.call_entries.specs.Laws.{usable, HasOuter, RunIsOver}
 use Rattle.call_entries.specs.Stacks.{Waiting, Start, StackIs}
 use Rattle.call_entries.specs.Entering.{entry_places, called, HasRoom, EntryIs}
 use Rattle.call_exits.specs.Leaving.{caller_of, resumed, ending_items, ExitIs}
@@ -32,7 +32,7 @@ first_items a g insns behind =
 -- a call of a function: the machine comes to the first instruction of that
 abbrev pub CallsAreDone : Type 0
 CallsAreDone =
-    (p : Program) (there : Labels) (start : Start) (g : ItemSetting) (rest : List AsmItem) (end : ℕ) (c : Call)
+    (p : Program) (there : Labels) (start : Start) (g : ItemSetting) (rest : List AsmItem) (end : ℕ) (c : CallAt)
     (gs : List Waiting) (o : Outer) (store : Places) (s : State) → FitsTheStack c → StackIs p there start c gs store s →
     HasOuter o s → (transfers : List Transfer) → AllMayTransfer c.shape transfers →
     (widest function arguments : ℕ) (registers : List ℕ) → registers ≡ [] → arguments ≤ c.shape.outgoing + 6 →
@@ -49,7 +49,7 @@ CallsAreDone =
 -- a return to a call that waits
 abbrev pub ReturnsAreDone : Type 0
 ReturnsAreDone =
-    (p : Program) (there : Labels) (start : Start) (g : ItemSetting) (rest : List AsmItem) (end : ℕ) (c : Call)
+    (p : Program) (there : Labels) (start : Start) (g : ItemSetting) (rest : List AsmItem) (end : ℕ) (c : CallAt)
     (w : Waiting) (gs : List Waiting) (o : Outer) (store : Places) (s : State) → FitsTheStack c → g.shape ≡ c.shape →
     StackIs p there start c (w ∷ gs) store s → HasOuter o s →
     (transfers : List Transfer) → AllMayTransfer c.shape transfers →
@@ -64,7 +64,7 @@ ReturnsAreDone =
 -- the return of the first function ends the run
 abbrev pub LastReturnsAreDone : Type 0
 LastReturnsAreDone =
-    (p : Program) (there : Labels) (start : Start) (g : ItemSetting) (rest : List AsmItem) (end : ℕ) (c : Call)
+    (p : Program) (there : Labels) (start : Start) (g : ItemSetting) (rest : List AsmItem) (end : ℕ) (c : CallAt)
     (o : Outer) (store : Places) (s : State) → FitsTheStack c → g.shape ≡ c.shape →
     StackIs p there start c [] store s → HasOuter o s → start.behind ≡ ending_items →
     (transfers : List Transfer) → AllMayTransfer c.shape transfers →
@@ -74,4 +74,4 @@ LastReturnsAreDone =
     StandsFor p there
     (items_of_transfers c.shape transfers (insn_items g registers (i.Return with_value) ++ rest)) end c o.memory
     usable store s →
-    IsOver p (end_locals o c.own (length c.shape.sizes)) (Done status) s
+    RunIsOver p (end_locals o c.own (length c.shape.sizes)) (Done status) s

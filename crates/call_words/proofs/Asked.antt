@@ -7,7 +7,7 @@ use Rattle.call_words.specs.declared.read.WordsFault.{WordsFault}
 use Rattle.call_words.specs.declared.read.WordsFault.TheVariants as fault
 use Rattle.call_words.specs.declared.request.Command.{Command}
 use Rattle.call_words.specs.Line.{rows_in}
-use Rattle.call_words.specs.Request.{request_in, request_of, IsFaultOf}
+use Rattle.call_words.specs.Request.{request_in, request_of, IsWordsFault}
 use Rattle.call_words.specs.model.Matches.{IsMatched, IsUnmatched}
 
 pub asked : (words : List Text) (m : ArgMatches) (o : Option (Command × List ℕ)) → IsMatched words m → o ≡ request_in (rows_of (found_of m)) → request_of words ≡ o
@@ -15,7 +15,7 @@ unfolding request_of
 asked words m o is same =
     ap (λ b. if b then request_in (rows_in words) else None) is.well ∙ (ap request_in (sym is.rows) ∙ sym same)
 
-pub refused : (words : List Text) (f : WordsFault) → IsUnmatched words f → IsFaultOf words f
+pub refused : (words : List Text) (f : WordsFault) → IsUnmatched words f → IsWordsFault words f
 unfolding request_of
 refused words fault.Usage bad = ap (λ b. if b then request_in (rows_in words) else None) bad
 refused words fault.NoMemory short = short
@@ -26,6 +26,6 @@ pub when_ok : {R : Type 0} (shown : R → Command × List ℕ) (words : List Tex
 when_ok shown words m is (Ok q) h = asked words m (Some (shown q)) is (sym h)
 when_ok shown words m is (Err f) h = tt
 
-pub when_err : {R : Type 0} (words : List Text) (m : ArgMatches) → IsMatched words m → (r : Result R WordsFault) → IfErr r (λ f. (f ≡ fault.Usage) × (request_in (rows_of (found_of m)) ≡ None)) → IfErr r (IsFaultOf words)
+pub when_err : {R : Type 0} (words : List Text) (m : ArgMatches) → IsMatched words m → (r : Result R WordsFault) → IfErr r (λ f. (f ≡ fault.Usage) × (request_in (rows_of (found_of m)) ≡ None)) → IfErr r (IsWordsFault words)
 when_err words m is (Ok q) h = tt
-when_err words m is (Err f) h = subst (IsFaultOf words) (sym h.0) (asked words m None is (sym h.1))
+when_err words m is (Err f) h = subst (IsWordsFault words) (sym h.0) (asked words m None is (sym h.1))

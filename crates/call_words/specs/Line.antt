@@ -1,6 +1,6 @@
--- The words of a call as a simple command of the crate clap. COMMAND is required and FILE optional, both by their place.
--- Each option has one value and is given at most once. There are no flags for help and a version. Nothing else is set, and
--- all values are texts.
+-- The words of a call as a simple command of the crate clap. COMMAND is required and FILE optional, both by their
+-- place. Each option has one value and is given at most once. There are no flags for help and a version. Nothing else
+-- is set, and all values are texts.
 use Rattle.std.specs.Prelude.{Bool, true, false, List, [], ◌∷◌, Option, Some, codes, fold}
 use Rattle.clap.specs.Simple.{on_top}
 use Rattle.clap.specs.Words.{App, Kinds, Row, Rule, Text, fault_of, first_of, matches_of, new_app, new_rule, with_rule}
@@ -47,8 +47,8 @@ abbrev pub has_none : Kinds → Bool
 has_none [] = true
 has_none (kind ∷ kinds) = false
 
--- The words, of which the first is the program's name, are well by the crate's definition: a parse fails only for want of
--- memory.
+-- The words, of which the first is the program's name, are well by the crate's definition: a parse fails only for
+-- want of memory.
 abbrev pub are_well : List Text → Bool
 are_well words = has_none (fault_of command_line words)
 

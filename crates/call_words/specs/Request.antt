@@ -66,9 +66,9 @@ abbrev pub shown : Option Request → Option (Command × List ℕ)
 shown = option_map (λ r. (r.command, r.file.now))
 
 -- why the words are not read
-abbrev pub IsFaultOf : List (List ℕ) → WordsFault → Type 0
-IsFaultOf words fault.Usage = request_of words ≡ None
-IsFaultOf words fault.NoMemory = MemoryIsShort
+abbrev pub IsWordsFault : List (List ℕ) → WordsFault → Type 0
+IsWordsFault words fault.Usage = request_of words ≡ None
+IsWordsFault words fault.NoMemory = MemoryIsShort
 
 -- the stack of a run is one that a machine takes
 abbrev pub HasStack : Command → Type 0

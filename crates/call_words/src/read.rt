@@ -177,7 +177,7 @@ fn asked_by<'a>(matches: &ArgMatches<'a>) -> Result<Request<'a>, WordsFault>
 pub fn read_words(alloc: Global, words: &[String]) -> Result<Request<'_>, WordsFault>
     ensures request { IfOk result (λ r. spec.request_of (map string_bytes words.now) ≡ Some (r.command, r.file.now)) }
     ensures stack { IfOk result (λ r. spec.HasStack r.command) }
-    ensures fault { IfErr result (spec.IsFaultOf (map string_bytes words.now)) }
+    ensures fault { IfErr result (spec.IsWordsFault (map string_bytes words.now)) }
 {
     match matches_of(alloc, words) {
         Ok(matches) => asked_by(&matches),

@@ -2,7 +2,7 @@
 use Rattle.std.proofs.Common.{◌≡◌, ℕ, zero, suc, ◌+◌, ◌<◌, Bool, true, false, List, [], ◌∷◌, length, map, drop, Option, Some, None, slice_get, if◌then◌else◌, refl, sym, ap, subst, ◌∙◌}
 use Rattle.mem_model.specs.declared.value.Value.{Value}
 use Rattle.mem_model.specs.World.{Outer, Meter, World, Rooms, enter_call, leave_call}
-use Rattle.mem_model.specs.Ending.{Ending, Done, Trap, Undefined, More}
+use Rattle.mem_model.specs.Ending.{Ending, Done, Trap, Undefined, More, SameEnding}
 use Rattle.machine_model.specs.Code.{Stop, Exits, Traps, HasNoMeaning, Act, Writes, Jumps, Calls, Returns, Stops, Code}
 use Rattle.machine_model.specs.Machine.{Frame, Config, Next, Goes, Over, world_of, begin_locals, end_locals, turn_if, stop_ending, jump_to, resume, status_ending, return_to, act_on, step_with, step_at, step, go_on, exec, start}
 use Rattle.machine_model.proofs.Runs.{steps_add_up}
@@ -16,7 +16,6 @@ use Rattle.cfg.proofs.Kept.{none_stop}
 use Rattle.vm_meaning.specs.Operations.{value_holds}
 use Rattle.vm_meaning.specs.Effect.{does, takes_turn, branches, is_taken}
 use Rattle.vm_meaning.specs.Behave.{Registers, set_registers, registers_of, FunctionCode, insn_site, site_in_function, sizes_in, vm_code, status_of}
-use Rattle.cfg_laws.specs.SameRuns.{SameEnding}
 use Rattle.cfg_laws.proofs.Flows.{writes_flow, calls_flow}
 use Rattle.cfg_laws.proofs.Walking.{Sort, IsJump, IsBranch, IsPlain, sort, Loud, Pair, SameInsn, TwoBranches, pair_of, Silent, Alike, meets, after_same, after_passed, after_taken, after_jump, after_fall}
 use Rattle.cfg_laws.proofs.Following.{Valid, SameAt, Stands, stands_next, stands_at, target_below, frame, config, site_insn, silent_run, step_end, step_jump, go_zero}

@@ -1,7 +1,7 @@
 -- Programs of the virtual machine whose functions have the same walks.
 use Rattle.std.specs.Prelude.{◌≡◌, ℕ, List, [], ◌∷◌}
 use Rattle.mem_model.specs.World.{Rooms}
-use Rattle.mem_model.specs.Ending.{Ending, Done, Trap, Undefined, More}
+use Rattle.mem_model.specs.Ending.{Ending, SameEnding}
 use Rattle.suifvm_ir.specs.declared.program.VmProgram.{VmProgram}
 use Rattle.suifvm_ir.specs.Insns.{targets_of, with_block, flows_on_of}
 use Rattle.suifvm_ir.specs.Programs.{VmFunction}
@@ -19,14 +19,6 @@ SameFunctions [] [] = Unit {0}
 SameFunctions [] (g ∷ gs) = ⊥
 SameFunctions (f ∷ fs) [] = ⊥
 SameFunctions (f ∷ fs) (g ∷ gs) = SameFunction f g × SameFunctions fs gs
-
--- the same ending, in the same world and so with the same output, turns left and peak; the number of an instruction
--- without a meaning may be another one
-abbrev pub SameEnding : Ending → Ending → Type 0
-SameEnding (Done w status) e = e ≡ Done w status
-SameEnding (Trap w code) e = e ≡ Trap w code
-SameEnding (Undefined w at) e = (other : ℕ) × (e ≡ Undefined w other)
-SameEnding (More w) e = e ≡ More w
 
 -- each ending of the one program is one of the other
 abbrev pub RunsAs : Rooms → (before after : VmProgram) → (input : List ℕ) → (turns : ℕ) → Type 0

@@ -4,8 +4,8 @@ use Rattle.alpha_isa.specs.Program.{Program}
 use Rattle.alpha_isa.specs.Behave.{behave_a, output_of, More}
 use Rattle.alpha_run.specs.declared.ending.Ending.{Ending}
 use Rattle.alpha_run.specs.declared.ending.Ending.TheVariants as ending
-use Rattle.alpha_run.specs.Run.{Traffic, MachineBehaves}
-use Rattle.bk_io.specs.Outside.{taken_with}
+use Rattle.alpha_run.specs.Run.{MachineBehaves}
+use Rattle.bk_io.specs.Outside.{taken_with, Traffic}
 use Rattle.machine_model.specs.Laws.{IsPrefix}
 use Rattle.c_mean.specs.Behaviour as c
 use Rattle.c_mean.specs.Behaviour.{Meaning}

@@ -4,7 +4,7 @@ use Rattle.mem_model.specs.World.{Rooms}
 use Rattle.mem_model.specs.Ending.{Ending, Done, Trap, Undefined, More}
 use Rattle.vm_meaning.specs.Behave.{behave_vm}
 use Rattle.vm_meaning.specs.Laws.{OneVmEnding}
-use Rattle.bk_io.specs.Outside.{taken_with}
+use Rattle.bk_io.specs.Outside.{taken_with, Traffic}
 use Rattle.c_mean.specs.Behaviour as c
 use Rattle.c_mean.specs.Behaviour.{CBehaviour, output_of}
 use Rattle.c_typed_tree.specs.declared.units.TypedUnit.{TypedUnit}
@@ -12,7 +12,7 @@ use Rattle.c_semantics.specs.Behaves.{behave_c, behaviour_of, rooms_of}
 use Rattle.suifvm_ir.specs.declared.program.VmProgram.{VmProgram}
 use Rattle.suifvm_run.specs.declared.ending.VmEnding.{VmEnding}
 use Rattle.suifvm_run.specs.declared.ending.VmEnding.TheVariants as ending
-use Rattle.suifvm_run.specs.Run.{Traffic, VmBehaves}
+use Rattle.suifvm_run.specs.Run.{VmBehaves}
 use Rattle.lowering_theorem.specs.Laws.{IsCodeOf, BehavesAsUnit, BehavioursAreKept}
 use Rattle.call_outcomes.specs.declared.outcome.Outcome.{Outcome}
 use Rattle.call_outcomes.specs.declared.outcome.Outcome.TheVariants.{Ran, Trapped, Budget}

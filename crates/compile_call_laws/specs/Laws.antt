@@ -1,14 +1,12 @@
 -- What the commands that compile answer for a text is what the text means (C99 5.1.2.3).
 use Rattle.std.specs.Prelude.{◌≡◌, ◌≢◌, ℕ, ◌<◌, ◌≤◌, ◌⊎◌, List, All, length, Option, Some}
 use Rattle.bk_memory.specs.Shortage.{MemoryIsShort}
-use Rattle.bk_io.specs.Outside.{taken_with}
+use Rattle.bk_io.specs.Outside.{taken_with, Traffic}
 use Rattle.machine_model.specs.Laws.{IsPrefix}
 use Rattle.flat_memory.specs.Bytes.{AreBytes}
 use Rattle.alpha_isa.specs.Program.{Program, IsLawful}
 use Rattle.alpha_isa.specs.Behave.{IsStack}
 use Rattle.alpha_isa.specs.ImageFormat.{image_spelling}
-use Rattle.alpha_run.specs.Run as machine
-use Rattle.suifvm_run.specs.Run as vm
 use Rattle.c_mean.specs.Behaviour as c
 use Rattle.c_mean.specs.Behaviour.{Meaning, CBehaviour, Good, output_of}
 use Rattle.c_lexer.specs.Limits.{text_limit}
@@ -71,7 +69,7 @@ pub record PutsFront (m : Meaning) (input : List ℕ) (before after : Option (Li
 -- What a run of so many steps may do for a program on an input: it ends or traps as the program does, and puts what
 -- that puts; or a front of that, where the steps do not suffice, or the input or the output fails; or the file is not
 -- read, or memory is short, and nothing is done.
-pub data RunsUnit (text : List ℕ) (m : Meaning) (input : List ℕ) (budget : ℕ) (before after : machine.Traffic) :
+pub data RunsUnit (text : List ℕ) (m : Meaning) (input : List ℕ) (budget : ℕ) (before after : Traffic) :
     Outcome → Type 0 where
   ran : (turns : ℕ) (output : List ℕ) (status : ℕ) → m.behave input turns ≡ c.Done output status →
       after.taken ≡ taken_with output before.taken → RunsUnit text m input budget before after (Ran status)
@@ -86,7 +84,7 @@ pub data RunsUnit (text : List ℕ) (m : Meaning) (input : List ℕ) (budget : �
 abbrev pub RunDoesWhatTheTextMeans : Type 0
 RunDoesWhatTheTextMeans =
     (text input : List ℕ) (unit : TypedUnit) (allocator : Allocator) (limits : MachineLimits) (answer : Outcome)
-    (before after : machine.Traffic) → HasUnit text unit → IsStack limits.stack → before.left ≡ Some input →
+    (before after : Traffic) → HasUnit text unit → IsStack limits.stack → before.left ≡ Some input →
     AreBytes input → Good (meaning unit) input limits.stack →
     Runs allocator limits (Some text) answer before after →
     RunsUnit text (meaning unit) input limits.budget before after answer
@@ -102,7 +100,7 @@ IsOutcomeOf turns (c.More output) answer = answer ≡ Budget turns
 
 -- what may be answered for a unit that behaves so within so many turns: the outcome of that, where the output took all
 -- that the unit puts; or the file, the input or the output fails, or memory is short
-pub data AnswersAs (text : List ℕ) (turns : ℕ) (b : CBehaviour) (before after : vm.Traffic) (answer : Outcome) :
+pub data AnswersAs (text : List ℕ) (turns : ℕ) (b : CBehaviour) (before after : Traffic) (answer : Outcome) :
     Type 0 where
   as_meant : IsOutcomeOf turns b answer → after.taken ≡ taken_with (output_of b) before.taken →
       AnswersAs text turns b before after answer
@@ -114,6 +112,6 @@ pub data AnswersAs (text : List ℕ) (turns : ℕ) (b : CBehaviour) (before afte
 abbrev pub VmAnswersAsTheTextMeans : Type 0
 VmAnswersAsTheTextMeans =
     (text input : List ℕ) (unit : TypedUnit) (allocator : Allocator) (turns : ℕ) (answer : Outcome)
-    (before after : vm.Traffic) → HasUnit text unit → before.left ≡ Some input → All (λ byte. byte < 256) input →
+    (before after : Traffic) → HasUnit text unit → before.left ≡ Some input → All (λ byte. byte < 256) input →
     behave_c unit input turns ≢ c.Undefined → RunsText allocator turns (Some text) answer before after →
     AnswersAs text turns (behave_c unit input turns) before after answer

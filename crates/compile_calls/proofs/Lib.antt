@@ -1,4 +1,5 @@
 pub mod Loops
 pub mod Causes
 pub mod Told
+pub mod Made
 pub mod Runs

@@ -12,7 +12,7 @@ use Rattle.compiler.specs.declared.built.Built.{Built}
 use Rattle.compile_calls.specs.Compile.{IsBuilt, HasBuilt, MakesNothing, HasHighTree, RefusesText}
 
 -- what was read of a file
-abbrev Read : Option Shelf → (name text : List ℕ) → Type 0
+abbrev pub Read : Option Shelf → (name text : List ℕ) → Type 0
 Read told name text = IfSome told (λ shelf. IsFront 4194305 (file_of shelf name) text)
 
 -- a fact of a text that is short enough

@@ -1,6 +1,6 @@
 -- What `run` answers, and what it does to the input and the output.
 use Rattle.std.specs.Prelude.{ℕ, List, Option}
-use Rattle.alpha_run.specs.Run.{Traffic}
+use Rattle.bk_io.specs.Outside.{Traffic}
 use Rattle.call_outcomes.specs.declared.outcome.Outcome.{Outcome}
 use Rattle.call_outcomes.specs.FromFile.{Does}
 use Rattle.compile_options.specs.declared.Allocator.{Allocator}

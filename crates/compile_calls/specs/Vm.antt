@@ -4,7 +4,8 @@ use Rattle.mem_model.specs.World.{Rooms}
 use Rattle.suifvm_ir.specs.declared.program.VmProgram.{VmProgram}
 use Rattle.suifvm_run.specs.declared.ending.VmEnding.{VmEnding}
 use Rattle.suifvm_run.specs.declared.ending.VmEnding.TheVariants as ending
-use Rattle.suifvm_run.specs.Run.{Traffic, VmBehaves}
+use Rattle.suifvm_run.specs.Run.{VmBehaves}
+use Rattle.bk_io.specs.Outside.{Traffic}
 use Rattle.call_outcomes.specs.declared.outcome.Outcome.{Outcome}
 use Rattle.call_outcomes.specs.declared.outcome.Outcome.TheVariants.{Ran, Trapped, Stuck, Budget, InputFault, WriteFault, NoMemory}
 use Rattle.call_outcomes.specs.FromFile.{Does}

@@ -6,7 +6,7 @@ ghost use Rattle.call_outcomes.specs.FromFile.{text_of};
 ghost use Rattle.call_outcomes.specs.Output.{file_faults_after, output_faults_after};
 ghost use Rattle.compile_calls.specs.Build.{Builds};
 
-use crate::files::compile_file;
+use crate::images::image_of_file;
 use bk_io::outside::{Files, Sink};
 use call_outcomes::outcome::Outcome;
 use compiler::Options;
@@ -29,8 +29,8 @@ pub fn build<F: Files, O: Sink>(
     ensures output_count { O.faults out.new ≡ output_faults_after result (O.faults out.old) }
     ensures reads_none { result ≢ Outcome.InputFault }
 {
-    match compile_file(alloc, options, name, files) {
-        Ok(built) => write_image(alloc, &built.image, out),
+    match image_of_file(alloc, options, name, files) {
+        Ok(image) => write_image(alloc, &image, out),
         Err(outcome) => outcome,
     }
 }

@@ -7,7 +7,7 @@ ghost use Rattle.call_outcomes.specs.FromFile.{text_of};
 ghost use Rattle.call_outcomes.specs.Output.{file_faults_after, input_faults_after, output_faults_after};
 ghost use Rattle.compile_calls.specs.Run.{Runs};
 
-use crate::files::compile_file;
+use crate::images::image_of_file;
 use bk_io::outside::{Files, Sink, Source};
 use call_outcomes::outcome::Outcome;
 use compile_options::MachineLimits;
@@ -35,8 +35,8 @@ pub fn run<F: Files, I: Source, O: Sink>(
     ensures input_count { I.faults input.new ≡ input_faults_after result (I.faults input.old) }
     ensures output_count { O.faults out.new ≡ output_faults_after result (O.faults out.old) }
 {
-    match compile_file(alloc, options, name, files) {
-        Ok(built) => run_image(alloc, &built.image, limits, input, out),
+    match image_of_file(alloc, options, name, files) {
+        Ok(image) => run_image(alloc, &image, limits, input, out),
         Err(outcome) => outcome,
     }
 }

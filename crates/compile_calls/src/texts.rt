@@ -1,9 +1,9 @@
 //! A text is compiled.
 
-ghost use Rattle.std.specs.Prelude.{◌≡◌, ◌<◌, length, IfOk, IfErr, Some, Err};
+ghost use Rattle.std.specs.Prelude.{◌≡◌, ◌≤◌, length, IfOk, IfErr, OnOk, Some};
 ghost use Rattle.c_lexer.specs.Limits.{text_limit};
 ghost use Rattle.call_outcomes.specs.FromFile.{IsCause};
-ghost use Rattle.compile_calls.specs.Compile.{source_limit, IsBuilt, RefusesText};
+ghost use Rattle.compile_calls.specs.Compile.{IsBuilt, RefusesText};
 ghost use Rattle.compile_calls.specs.model.Causes.{outcome_of_compile_fault, IsNoFault};
 
 use call_outcomes::outcome::{Outcome, Which};
@@ -15,7 +15,7 @@ use std::alloc::Global;
 pub(crate) const SOURCE_LIMIT: u64 = 4_194_305;
 
 /// The outcome where nothing is compiled of a text.
-fn outcome_of_fault(fault: CompileFault) -> Outcome
+pub(crate) fn outcome_of_fault(fault: CompileFault) -> Outcome
     ensures { result ≡ outcome_of_compile_fault fault }
 {
     match fault {
@@ -23,6 +23,21 @@ fn outcome_of_fault(fault: CompileFault) -> Outcome
         CompileFault::Limit { which, counted } => Outcome::Limit { which, counted },
         CompileFault::NoMemory => Outcome::NoMemory,
     }
+}
+
+/// Whether a text has as many bytes as it may.
+pub(crate) fn within_limit(text: &[u8]) -> Result<(), Outcome>
+    ensures low { OnOk result (length text.now ≤ text_limit) }
+    ensures cause { IfErr result (IsCause (RefusesText (Some text.now))) }
+    ensures no_fault { IfErr result IsNoFault }
+{
+    if text.len() as u64 >= SOURCE_LIMIT {
+        return Err(Outcome::Limit {
+            which: Which::Text,
+            counted: SOURCE_LIMIT,
+        });
+    }
+    Ok(())
 }
 
 /// What is made of a text.
@@ -37,11 +52,9 @@ pub(crate) fn compile_text(alloc: Global, text: &[u8], options: &Options) -> Res
     ensures cause { IfErr result (IsCause (RefusesText (Some text.now))) }
     ensures no_fault { IfErr result IsNoFault }
 {
-    if text.len() as u64 >= SOURCE_LIMIT {
-        return Err(Outcome::Limit {
-            which: Which::Text,
-            counted: SOURCE_LIMIT,
-        });
+    match within_limit(text) {
+        Ok(()) => {}
+        Err(outcome) => return Err(outcome),
     }
     match compile(alloc, text, options) {
         Ok(built) => Ok(built),

@@ -1,3 +1,4 @@
 pub mod Registers
 pub mod Stages
 pub mod Images
+pub mod Parts

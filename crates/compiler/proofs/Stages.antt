@@ -1,5 +1,5 @@
 -- What one stage of the compiler gives to the next, by the laws of the layers below.
-use Rattle.std.proofs.Common.{◌≡◌, ℕ, ◌≤◌, List, [], ◌∷◌, sym, ap, ◌∙◌, subst, arith}
+use Rattle.std.proofs.Common.{◌≡◌, ℕ, ◌+◌, ◌^◌, ◌<◌, ◌≤◌, List, [], ◌∷◌, length, sum_by, sym, ap, ◌∙◌, subst, arith}
 use Rattle.std.specs.Prelude.{All, IsTrue, Result, Ok, Err, IfOk}
 use Rattle.std.proofs.lemmas.List.Elements.{All-nil, All-cons, All-head, All-tail}
 use Rattle.alpha_isa.specs.Program.{IsLawful}
@@ -8,7 +8,7 @@ use Rattle.alpha_items.specs.Words.{Words}
 use Rattle.alpha_items.specs.Items.{is_name}
 use Rattle.alpha_items.specs.declared.final_fn.FinalFn.{FinalFn}
 use Rattle.alpha_asm.specs.declared.assemble.AsmFault.TheVariants.{CodeTooLong, NoMemory}
-use Rattle.alpha_asm.specs.Fault.{HasFewWords, IsFaultOf}
+use Rattle.alpha_asm.specs.Fault.{HasFewWords, IsAsmFault}
 use Rattle.data_object.specs.declared.DataObject.{DataObject}
 use Rattle.data_object.specs.declared.TheConstants.{MOST_DATA}
 use Rattle.data_object.specs.Globals.{AreLawful}
@@ -21,12 +21,12 @@ use Rattle.lowering_theorem.specs.Laws.{ProgramsKeepMeaning}
 use Rattle.temp_ir.specs.declared.program.TempProgram.{TempProgram}
 use Rattle.temp_ir.specs.Programs.{TempFn}
 use Rattle.alloc_model.specs.declared.allocation.Allocation.{Allocation}
-use Rattle.program_rooms.specs.Ranges.{IsSmall}
+use Rattle.program_rooms.specs.Ranges.{HasSmallNumbers}
 use Rattle.program_passes.specs.Prepared.{ArePrepared}
 use Rattle.prepared_laws.specs.Fit.{PreparedFunctionsFit, PreparedFunctionsHaveNames, ArePreparedOf}
 use Rattle.prepared_laws.specs.Kept.{PreparedSelectionsKeep}
 use Rattle.plain_programs.specs.Allocations.{AreAllocationsOf}
-use Rattle.program_rooms.specs.AllocationLaws.{AllocationsFit, LabelsAreFew, AllocationsAreNear}
+use Rattle.program_rooms.specs.AllocationLaws.{HasFrame, AllocationsFit, LabelsAreFew, AllocationsAreNear}
 use Rattle.program_rooms.specs.Laws.{FunctionsHaveFrames, FramesFitTheirRooms}
 use Rattle.program_rooms.specs.WordLaws.{UnitTextsFitImages}
 use Rattle.program_rooms.specs.Words.{OnlyMemoryIsShort}
@@ -38,11 +38,15 @@ use Rattle.compile_options.specs.declared.Allocator.{Allocator}
 use Rattle.front_end.specs.Units.{IsUnitWithin}
 use Rattle.compiler.specs.declared.built.Built.{Built}
 use Rattle.compiler.specs.Made.{Made, IsTidy, AllocatesBy}
-use Rattle.compiler.specs.model.Stages.{IsCodeWithin, CanBeLaidOut, CodeCanBeLaidOut, IsAssemblyOf, IsAssemblyOfUnit, AssembliesAreMade}
+use Rattle.compiler.specs.model.Stages.{IsCodeWithin, CanBeLaidOut, CodeCanBeAssembled, IsAssemblyOf, IsAssemblyOfUnit, AssembliesAreMade}
 
 -- the functions of a program are prepared of those of its unit
 prepared_of : PreparedFunctionsFit → (u : TypedUnit) (vm : VmProgram) (temps : TempProgram) → IsCodeWithin u vm temps → ArePreparedOf u temps
-prepared_of fit u vm temps code = fit u vm code.selected temps code.code.functions code.weights code.size code.are_selected code.costs code.prepared
+prepared_of fit u vm temps code = fit u vm code.over_temps.selected temps code.code.functions code.weights code.size code.over_temps.are_selected code.over_temps.costs code.over_temps.prepared
+
+-- they have the objects of the unit
+globals_of : (u : TypedUnit) (vm : VmProgram) (temps : TempProgram) → IsCodeWithin u vm temps → temps.globals ≡ u.globals
+globals_of u vm temps code = code.over_temps.globals ∙ code.code.globals
 
 -- ---- what is asked of an assembly
 
@@ -55,26 +59,41 @@ are_named (f ∷ fs) (a ∷ allocations) h all =
     (subst (λ n. IsTrue (is_name n)) (sym h.0.name) (All-head (λ (x : TempFn). IsTrue (is_name x.name)) f fs all))
     (are_named fs allocations h.1 (All-tail (λ (x : TempFn). IsTrue (is_name x.name)) f fs all))
 
-pub can_be_laid_out : PreparedFunctionsFit → PreparedFunctionsHaveNames → FunctionsHaveFrames → AllocationsFit → LabelsAreFew → CodeCanBeLaidOut
-can_be_laid_out prepared_fit have_names have_frames fit few text tree u vm temps allocations front code are =
-    let frames = have_frames u temps (prepared_of prepared_fit u vm temps code) front.light front.small in
+-- by these allocations
+can_be_laid_out : AllocationsFit → LabelsAreFew → (temps : TempProgram) (allocations : List Allocation) → All HasFrame temps.functions → All (λ (f : TempFn). IsTrue (is_name f.name)) temps.functions
+    → sum_by (λ (f : TempFn). length f.blocks + 2) temps.functions < 2 ^ 30 → AreLawful temps.globals → data_end temps.globals ≤ MOST_DATA → AreAllocationsOf temps.functions allocations → CanBeLaidOut temps allocations
+can_be_laid_out fit few temps allocations frames names labels lawful data_size are =
     let fits = fit temps allocations are frames in
-    let labels = few temps allocations are code.labels in
-    let names = (have_names u vm code.selected temps code.code.functions code.are_selected code.prepared).names front.is_unit.lawful.typed.functions in
-    let small = front.small in
+    let labels = few temps allocations are labels in
     record {
       some = fits.some;
       few = labels.functions;
       fit = fits.fit;
       names = are_named temps.functions allocations are names;
       labels = labels.labels;
-      lawful = subst AreLawful (sym code.globals) front.is_unit.lawful.typed.globals;
-      data_size = subst (λ globals. data_end globals ≤ MOST_DATA) (sym code.globals) (omega (arith, small));
+      lawful = lawful;
+      data_size = data_size;
+    }
+
+pub can_be_assembled : PreparedFunctionsFit → PreparedFunctionsHaveNames → FunctionsHaveFrames → AllocationsFit → LabelsAreFew → CodeCanBeAssembled
+can_be_assembled prepared_fit have_names have_frames fit few text tree u vm temps front code =
+    let frames = have_frames u temps (prepared_of prepared_fit u vm temps code) front.light front.small in
+    let names = (have_names u vm code.over_temps.selected temps code.code.functions code.over_temps.are_selected code.over_temps.prepared).names front.is_unit.lawful.typed.functions in
+    let globals = globals_of u vm temps code in
+    let lawful = subst AreLawful (sym globals) front.is_unit.lawful.typed.globals in
+    let small = front.small in
+    let data_size = subst (λ gs. data_end gs ≤ MOST_DATA) (sym globals) (omega (arith, small)) in
+    record {
+      frames = frames;
+      names = names;
+      labels = code.over_temps.labels;
+      data_size = data_size;
+      laid_out = λ allocations are. can_be_laid_out fit few temps allocations frames names code.over_temps.labels lawful data_size are;
     }
 
 -- ---- that an assembly is whole
 
-pub whole : AssembliesAreWhole → (temps : TempProgram) (allocations : List Allocation) (finals : List FinalFn) → CanBeLaidOut temps allocations → All (λ (a : Allocation). AllInsns IsSmall a.func.blocks) allocations
+pub whole : AssembliesAreWhole → (temps : TempProgram) (allocations : List Allocation) (finals : List FinalFn) → CanBeLaidOut temps allocations → All (λ (a : Allocation). AllInsns HasSmallNumbers a.func.blocks) allocations
     → FunctionsAreLaidOut temps.globals allocations finals → IsWhole (gathered finals temps.globals)
 whole are_whole temps allocations finals can numbers laid_out =
     are_whole temps.globals allocations finals ∣ can.lawful ∣₁ can.data_size can.some
@@ -86,7 +105,7 @@ if_ok P Q more (Ok a) h = more a h
 if_ok P Q more (Err e) h = tt
 
 -- the same where the lists are read as slices
-module _ (are_whole : AssembliesAreWhole) (temps : TempProgram) (allocations : List Allocation) (can : CanBeLaidOut temps allocations) (numbers : All (λ (a : Allocation). AllInsns IsSmall a.func.blocks) allocations) (finals : List FinalFn)
+module _ (are_whole : AssembliesAreWhole) (temps : TempProgram) (allocations : List Allocation) (can : CanBeLaidOut temps allocations) (numbers : All (λ (a : Allocation). AllInsns HasSmallNumbers a.func.blocks) allocations) (finals : List FinalFn)
     (laid_out : FunctionsAreLaidOut temps.globals allocations finals) (read : List FinalFn) (is_read : read ≡ finals) (globals : List DataObject) (are_globals : globals ≡ temps.globals) where
   same_assembly : gathered finals temps.globals ≡ gathered read globals
   same_assembly = ap (λ fs. gathered fs temps.globals) (sym is_read) ∙ ap (λ gs. gathered read gs) (sym are_globals)
@@ -113,8 +132,8 @@ assemblies_are_made keep selections prepared_fit have_frames fit_rooms fit near 
     let fits = fit temps allocations are (have_frames u temps prepared front.light front.small) in
     record {
       runs = keep u vm front.is_unit.lawful.typed code.code;
-      selection = selections vm code.selected temps code.are_selected code.prepared code.same_globals code.keeps;
-      tidy = are_tidy code.selected.functions temps.functions code.prepared;
+      selection = selections vm code.over_temps.selected temps code.over_temps.are_selected code.over_temps.prepared code.over_temps.same_globals code.over_temps.keeps;
+      tidy = are_tidy code.over_temps.selected.functions temps.functions code.over_temps.prepared;
       allocated = are_allocated temps allocations (rooms_of u) fits.code fits.fit prepared.split (fit_rooms u temps allocations prepared are);
       placing = placing_of temps.globals allocations made.finals;
       items = subst (λ x. HasItemsOf x temps (plans_of allocations) (placing_of temps.globals allocations made.finals)) (sym made.is_gathered)
@@ -145,5 +164,5 @@ made_of text allocator b front code are by assembly made words lawful = record {
 }
 
 -- an assembly with few words is not refused for its length
-pub never_too_long : OnlyMemoryIsShort → (asm : Assembly) (n : ℕ) → HasFewWords asm → IsFaultOf asm (CodeTooLong n) → ⊥
+pub never_too_long : OnlyMemoryIsShort → (asm : Assembly) (n : ℕ) → HasFewWords asm → IsAsmFault asm (CodeTooLong n) → ⊥
 never_too_long only asm n few fault = let no_memory : CodeTooLong n ≡ NoMemory = (only asm (CodeTooLong n) few fault).0 in cc

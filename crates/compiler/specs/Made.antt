@@ -6,8 +6,8 @@ use Rattle.alpha_items.specs.Words.{Words}
 use Rattle.c_typed_tree.specs.declared.units.TypedUnit.{TypedUnit}
 use Rattle.c_semantics.specs.Behaves.{rooms_of, run}
 use Rattle.mem_model.specs.World.{Rooms}
+use Rattle.mem_model.specs.Ending.{IsDefined}
 use Rattle.suifvm_ir.specs.declared.program.VmProgram.{VmProgram}
-use Rattle.lowering_theorem.specs.UnitLaws.{IsDefined}
 use Rattle.lowering_theorem.specs.Laws.{IsCodeOf, VmRunsTo}
 use Rattle.temp_ir.specs.Insns.{targets_of, flows_on_of}
 use Rattle.temp_ir.specs.Programs.{TempFn}

@@ -1,4 +1,7 @@
-//! What is made of a text.
+//! What is made of a text, and how much of it is kept.
+
+ghost use Rattle.std.specs.Prelude.{◌≡◌, Some};
+ghost use Rattle.compiler.specs.model.Parts.{PartsAreWhole, parts_of_built};
 
 use alloc_model::allocation::Allocation;
 use alpha_isa::image::Image;
@@ -25,4 +28,72 @@ pub struct Built {
     pub asm: Asm,
     /// The image of it.
     pub image: Image,
+}
+
+/// What is wanted of a text.
+#[derive(Clone, Copy, Debug, PartialEq, Eq)]
+pub(crate) enum Wanted {
+    /// All that is made, pass by pass.
+    Everything,
+    /// The image alone.
+    Image,
+}
+
+impl Wanted {
+    /// What no pass reads any more is kept where everything is wanted, and else let go.
+    pub(crate) fn keep<T: Drop>(self, value: T) -> Option<T>
+        ensures { self ≡ Wanted.Everything → result ≡ Some value }
+    {
+        match self {
+            Wanted::Everything => Some(value),
+            Wanted::Image => None,
+        }
+    }
+}
+
+/// The assembly of a program, with the program and the allocations of its functions, as far as they were kept.
+#[derive(Drop)]
+pub(crate) struct AssemblyParts {
+    pub(crate) temps: Option<TempProgram>,
+    pub(crate) allocations: Option<Vec<Allocation>>,
+    pub(crate) asm: Asm,
+}
+
+/// What was made of a text, as far as it was kept.
+#[derive(Drop)]
+pub(crate) struct Parts {
+    pub(crate) unit: Option<TranslationUnit>,
+    pub(crate) typed: Option<TypedUnit>,
+    pub(crate) vm: Option<VmProgram>,
+    pub(crate) temps: Option<TempProgram>,
+    pub(crate) allocations: Option<Vec<Allocation>>,
+    pub(crate) asm: Option<Asm>,
+    pub(crate) image: Image,
+}
+
+impl Parts {
+    /// All that was made, where all was kept.
+    pub(crate) fn into_built(self) -> Built
+        requires { PartsAreWhole self }
+        ensures { self ≡ parts_of_built result }
+    {
+        let Parts {
+            unit,
+            typed,
+            vm,
+            temps,
+            allocations,
+            asm,
+            image,
+        } = self;
+        Built {
+            unit: unit.unwrap(),
+            typed: typed.unwrap(),
+            vm: vm.unwrap(),
+            temps: temps.unwrap(),
+            allocations: allocations.unwrap(),
+            asm: asm.unwrap(),
+            image,
+        }
+    }
 }

@@ -1,33 +1,34 @@
 //! The passes, one after the other.
 
-ghost use Rattle.std.specs.Prelude.{◌≡◌, ℕ, ◌≤◌, length, IfOk, IfErr};
+ghost use Rattle.std.specs.Prelude.{◌≡◌, ℕ, ◌^◌, ◌≤◌, List, All, length, IfOk, IfErr};
 ghost use Rattle.bk_memory.specs.Shortage.{MemoryIsShort};
 ghost use Rattle.c_lexer.specs.Limits.{text_limit};
-ghost use Rattle.c_typed_tree.specs.Lawful.{IsLawful};
-ghost use Rattle.c_typed_tree.specs.Weight.{unit_weight};
 ghost use Rattle.c_semantics.specs.Behaves.{meaning};
 ghost use Rattle.alpha_isa.specs.Program as image;
 ghost use Rattle.alpha_isa.specs.Behave.{IsStack};
 ghost use Rattle.alpha_items.specs.Words.{Words};
 ghost use Rattle.alpha_asm.specs.Fault.{HasFewWords};
+ghost use Rattle.suifvm_ir.specs.Programs.{VmFunction, program_size};
 ghost use Rattle.plain_programs.specs.Allocations.{AreAllocationsOf};
 ghost use Rattle.same_behaviour.specs.Same.{Same};
 ghost use Rattle.front_end.specs.declared.fault.CompileFault.TheVariants.{NoMemory};
-ghost use Rattle.front_end.specs.Units.{HasNoUnit};
+ghost use Rattle.front_end.specs.Units.{IsUnitWithin, HasNoUnit};
 ghost use Rattle.compiler.specs.Made.{Made, AllocatesBy};
-ghost use Rattle.compiler.specs.model.Stages.{IsCodeWithin, CanBeLaidOut, IsAssemblyOf};
+ghost use Rattle.compiler.specs.Images.{IsImageOfText};
+ghost use Rattle.compiler.specs.model.Parts.{UnitHasText, HasAllocations, AreAssemblyPartsOf, ArePartsOf};
+ghost use Rattle.compiler.specs.model.Stages.{AreTempsOf, CanBeLaidOut, ProgramCanBeAssembled, IsAssemblyOf};
 
-use crate::built::Built;
-use crate::laws::{assemblies_are_made, code_can_be_laid_out, images_are_same};
+use crate::built::{AssemblyParts, Built, Parts, Wanted};
+use crate::laws::{assemblies_are_made, code_can_be_assembled, images_are_same};
 use alloc_model::allocation::Allocation;
 use alpha_asm::assemble::{AsmFault, assemble};
 use alpha_isa::image::Image;
 use alpha_items::asm::Asm;
 use alpha_select::select;
-use c_typed_tree::TypedUnit;
 use compile_options::{Allocator, Options};
 use front_end::{CompileFault, FrontEnd, read_unit};
 use lowering::lower;
+use plain_layouts::assemble_plain;
 use plain_programs::allocate;
 use program_passes::prepare;
 use program_rooms::words::words;
@@ -52,15 +53,59 @@ pub fn compile(alloc: Global, text: &[u8], options: &Options) -> Result<Built, C
     ensures same { IfOk result (λ b. (stack : ℕ) → IsStack stack → Same (meaning b.typed) b.image stack) }
     ensures fault { IfErr result (HasNoUnit text.now) }
 {
-    let FrontEnd { unit, typed } = read_unit(alloc, text)?;
-    let Code { vm, temps } = code_of(alloc, &typed)?;
-    let allocations = allocations_of(alloc, options.allocator, &temps)?;
-    code_can_be_laid_out();
-    let asm = assembly_of(alloc, &temps, allocations.as_slice())?;
+    let front = read_unit(alloc, text)?;
+    let parts = make(alloc, front, options.allocator, Wanted::Everything)?;
+    images_are_same();
+    Ok(parts.into_built())
+}
+
+/// The image that [`compile`] makes of a C text of at most 4,194,304 bytes, and nothing else: the text, and what is made
+/// on the way, are let go as soon as no pass reads them any more.
+///
+/// # Errors
+///
+/// Those of [`compile`], in the same order.
+pub fn compile_image(alloc: Global, text: Vec<u8>, options: &Options) -> Result<Image, CompileFault>
+    requires { length text.items ≤ text_limit }
+    ensures image { IfOk result (IsImageOfText text.items options.now.allocator) }
+    ensures fault { IfErr result (HasNoUnit text.items) }
+{
+    let front = read_unit(alloc, text.as_slice())?;
+    drop(text);
+    let parts = make(alloc, front, options.allocator, Wanted::Image)?;
+    images_are_same();
+    Ok(parts.image)
+}
+
+/// Makes one pass after the other of the unit of a text. What no pass reads any more is kept where it is wanted.
+#[tactic(auto, using(crate::proofs::Registers::unit_registers))]
+fn make(
+    alloc: Global,
+    front: FrontEnd,
+    allocator: Allocator,
+    wanted: Wanted,
+) -> Result<Parts, CompileFault>
+    requires { UnitHasText front.unit front.typed }
+    ensures made { IfOk result (λ parts. (text : List ℕ) → IsUnitWithin text front.unit front.typed →
+        ArePartsOf text allocator wanted parts) }
+    ensures fault { IfErr result (λ f. (f ≡ NoMemory) × MemoryIsShort) }
+{
+    let FrontEnd { unit, typed } = front;
+    let unit = wanted.keep(unit);
+    let vm = lower(alloc, &typed)?;
+    let typed = wanted.keep(typed);
+    let temps = temps_of(alloc, &vm)?;
+    let vm = wanted.keep(vm);
+    code_can_be_assembled();
+    let AssemblyParts {
+        temps,
+        allocations,
+        asm,
+    } = assembly_parts(alloc, temps, allocator, wanted)?;
     assemblies_are_made();
     let image = image_of(alloc, &asm)?;
-    images_are_same();
-    Ok(Built {
+    let asm = wanted.keep(asm);
+    Ok(Parts {
         unit,
         typed,
         vm,
@@ -71,23 +116,81 @@ pub fn compile(alloc: Global, text: &[u8], options: &Options) -> Result<Built, C
     })
 }
 
-/// The code of a unit: over virtual registers, and over temporaries.
-struct Code {
-    vm: VmProgram,
-    temps: TempProgram,
+/// Selects instructions, and prepares the functions for allocation.
+fn temps_of(alloc: Global, vm: &VmProgram) -> Result<TempProgram, AllocError>
+    requires size { program_size vm.now.functions ≤ 2 ^ 24 }
+    requires registers { All (λ (f : VmFunction). f.temps ≤ 2 ^ 24) vm.now.functions }
+    ensures { IfOk result (AreTempsOf vm.now) }
+{
+    let selected = select(alloc, vm)?;
+    let temps = prepare(alloc, selected)?;
+    Ok(temps)
 }
 
-/// Lowers a unit, selects instructions, and prepares the functions for allocation.
-#[tactic(auto, using(crate::proofs::Registers::unit_registers))]
-fn code_of(alloc: Global, unit: &TypedUnit) -> Result<Code, AllocError>
-    requires lawful { IsLawful unit.now }
-    requires light { unit_weight unit.now ≤ 131072 }
-    ensures { IfOk result (λ code. IsCodeWithin unit.now code.vm code.temps) }
+/// The assembly of a program, by allocations of its functions. Where the image alone is wanted, each function is let
+/// go with its allocation before the next one is allocated.
+fn assembly_parts(
+    alloc: Global,
+    temps: TempProgram,
+    allocator: Allocator,
+    wanted: Wanted,
+) -> Result<AssemblyParts, AllocError>
+    requires { ProgramCanBeAssembled temps }
+    ensures { IfOk result (AreAssemblyPartsOf temps allocator wanted) }
 {
-    let vm = lower(alloc, unit)?;
-    let selected = select(alloc, &vm)?;
-    let temps = prepare(alloc, selected)?;
-    Ok(Code { vm, temps })
+    match wanted {
+        Wanted::Everything => all_parts(alloc, temps, allocator),
+        Wanted::Image => asm_alone(alloc, temps, allocator),
+    }
+}
+
+/// The assembly of a program, the program, and the allocations of its functions.
+fn all_parts(
+    alloc: Global,
+    temps: TempProgram,
+    allocator: Allocator,
+) -> Result<AssemblyParts, AllocError>
+    requires { ProgramCanBeAssembled temps }
+    ensures { IfOk result (AreAssemblyPartsOf temps allocator Wanted.Everything) }
+{
+    let allocations = allocations_of(alloc, allocator, &temps)?;
+    let asm = assembly_of(alloc, &temps, allocations.as_slice())?;
+    Ok(AssemblyParts {
+        temps: Some(temps),
+        allocations: Some(allocations),
+        asm,
+    })
+}
+
+/// The assembly of a program alone.
+fn asm_alone(
+    alloc: Global,
+    temps: TempProgram,
+    allocator: Allocator,
+) -> Result<AssemblyParts, AllocError>
+    requires { ProgramCanBeAssembled temps }
+    ensures { IfOk result (AreAssemblyPartsOf temps allocator Wanted.Image) }
+{
+    let asm = assembly_in_turn(alloc, temps, allocator)?;
+    Ok(AssemblyParts {
+        temps: None,
+        allocations: None,
+        asm,
+    })
+}
+
+/// The assembly of a program, one function after the other, each of which is let go with its allocation.
+fn assembly_in_turn(
+    alloc: Global,
+    temps: TempProgram,
+    allocator: Allocator,
+) -> Result<Asm, AllocError>
+    requires { ProgramCanBeAssembled temps }
+    ensures { IfOk result (HasAllocations temps allocator) }
+{
+    match allocator {
+        Allocator::Plain => assemble_plain(alloc, temps),
+    }
 }
 
 /// An allocation for each function.

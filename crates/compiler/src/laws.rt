@@ -1,15 +1,15 @@
 //! What follows of what the passes give, by the laws of the layers below: each the contract of a function that does
 //! nothing.
 
-ghost use Rattle.compiler.specs.model.Stages.{CodeCanBeLaidOut, AssembliesAreMade, ImagesAreSame};
+ghost use Rattle.compiler.specs.model.Stages.{CodeCanBeAssembled, AssembliesAreMade, ImagesAreSame};
 
 use program_rooms::words;
 use program_rooms::words::words::allocations;
 use program_rooms::words::words::allocations::assemblies;
 
-/// The code of a unit within the limits can be laid out by an allocation for each of its functions.
-pub(crate) fn code_can_be_laid_out()
-    ensures { CodeCanBeLaidOut }
+/// The code of a unit within the limits can be laid out and gathered, by any allocations of its functions.
+pub(crate) fn code_can_be_assembled()
+    ensures { CodeCanBeAssembled }
 {
     prepared_laws::laws::prepared_functions_fit();
     prepared_laws::laws::prepared_functions_have_names();

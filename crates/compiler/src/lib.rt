@@ -1,7 +1,7 @@
 //! From the bytes of a C text to the words of an image.
 //!
 //! `compile` makes one pass after the other. What it made, pass by pass, is a `Built`; the image of it does what the C
-//! text means.
+//! text means. `compile_image` makes the image alone, and keeps nothing else.
 #![tactic(auto)]
 
 mod built;

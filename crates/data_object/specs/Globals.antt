@@ -4,7 +4,7 @@ use Rattle.data_object.specs.declared.DataObject.{DataObject}
 use Rattle.data_object.specs.declared.DataCell.{DataCell}
 use Rattle.data_object.specs.declared.DataCell.TheVariants.{Byte, AddressPart}
 use Rattle.data_object.specs.declared.TheConstants.{MOST_DATA}
-use Rattle.data_object.specs.Layout.{LieFrom}
+use Rattle.data_object.specs.Layout.{ObjectsLieFrom}
 
 -- a list of objects names an object with so many bytes at least
 abbrev pub Reaches : (plus : ℕ) → Option DataObject → Type 0
@@ -32,5 +32,5 @@ pub record IsLawfulObject (globals : List DataObject) (o : DataObject) : Type 0 
 -- the objects lie in order, there are fewer than 2 ^ 32 of them, and each is lawful
 pub record AreLawful (globals : List DataObject) : Type 0 where
   pub count : length globals < 2 ^ 32
-  pub layout : LieFrom 0 globals
+  pub layout : ObjectsLieFrom 0 globals
   pub objects : All (IsLawfulObject globals) globals

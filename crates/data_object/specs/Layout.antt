@@ -17,6 +17,6 @@ abbrev pub data_end : List DataObject → ℕ
 data_end globals = end_of (slice_get globals (length globals - 1))
 
 -- the objects lie one behind the other from an end on
-abbrev pub LieFrom : (end : ℕ) → List DataObject → Type 0
-LieFrom end [] = Unit {0}
-LieFrom end (o ∷ os) = (o.offset ≡ place_after end) × LieFrom (o.offset + o.size) os
+abbrev pub ObjectsLieFrom : (end : ℕ) → List DataObject → Type 0
+ObjectsLieFrom end [] = Unit {0}
+ObjectsLieFrom end (o ∷ os) = (o.offset ≡ place_after end) × ObjectsLieFrom (o.offset + o.size) os

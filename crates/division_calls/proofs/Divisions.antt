@@ -17,7 +17,7 @@ use Rattle.item_steps.proofs.Steps.{branches_step, read-same, read-other, steps_
 use Rattle.alpha_rt.specs.Routine as rt
 use Rattle.alpha_rt.specs.Code.{entry}
 use Rattle.alpha_rt.specs.Calls as calls
-use Rattle.alpha_rt.specs.Calls.{Returns, Does, Divides, scratch_size, state_behind}
+use Rattle.alpha_rt.specs.Calls.{Returns, RoutineDoes, Divides, scratch_size, state_behind}
 use Rattle.alpha_rt.specs.Items.{entry_label}
 use Rattle.alpha_rt.proofs.Unsigned.{divqu_divides, remqu_divides}
 use Rattle.alpha_rt.proofs.Signed.{divq_divides, remq_divides, divl_divides, reml_divides}
@@ -41,7 +41,7 @@ use Rattle.flat_memory.proofs.Objects.{others_may_change}
 use Rattle.flat_operations.specs.Contents.{ContentIs}
 use Rattle.flat_frames.specs.Frames.{FrameIs, is_written}
 use Rattle.frame_accesses.proofs.Runs.{stands, bytes-same, reached-same}
-use Rattle.frame_transfers.specs.Laws.{Call, FitsTheStack, StandsFor}
+use Rattle.frame_transfers.specs.Laws.{CallAt, FitsTheStack, StandsFor}
 use Rattle.call_stacks.specs.Items.{ItemSetting}
 use Rattle.call_stacks.specs.InstructionItemsLaws.{usable, HasOuter, ComesToItems, ActIsDone, store_behind}
 use Rattle.call_stacks.proofs.Runs.{usable-low}
@@ -65,7 +65,7 @@ routines-divide Divlu = divlu_divides
 routines-divide Remlu = remlu_divides
 
 -- a word that a division takes is an operand of its routine
-takes-operand : (r : DivisionRoutine) (n : ℕ) → takes r n ≡ true → rt.IsOperand (routine_of r) n
+takes-operand : (r : DivisionRoutine) (n : ℕ) → takes r n ≡ true → rt.IsRoutineOperand (routine_of r) n
 takes-operand Divq n e = refl
 takes-operand Remq n e = refl
 takes-operand Divqu n e = refl
@@ -75,7 +75,7 @@ takes-operand Reml n e = eqb-true (sign_extension w32 n) n e
 takes-operand Divlu n e = eqb-true (sign_extension w32 n) n e
 takes-operand Remlu n e = eqb-true (sign_extension w32 n) n e
 
-module _ (p : Program) (there : Labels) (g : ItemSetting) (rest : List AsmItem) (end : ℕ) (c : Call) (o : Outer) (held : Places) (s : State) (call : FitsTheStack c) (outer : HasOuter o s) (routines : RoutinesStand p there) (scratch : HasScratch p c s) (r : DivisionRoutine) (h : StandsFor p there (Branch Bsr 23 (entry_label (routine_of r)) ∷ rest) end c o.memory usable held s) where
+module _ (p : Program) (there : Labels) (g : ItemSetting) (rest : List AsmItem) (end : ℕ) (c : CallAt) (o : Outer) (held : Places) (s : State) (call : FitsTheStack c) (outer : HasOuter o s) (routines : RoutinesStand p there) (scratch : HasScratch p c s) (r : DivisionRoutine) (h : StandsFor p there (Branch Bsr 23 (entry_label (routine_of r)) ∷ rest) end c o.memory usable held s) where
   -- ---- the branch
 
   record Branched : Type 0 where
@@ -129,7 +129,7 @@ module _ (p : Program) (there : Labels) (g : ItemSetting) (rest : List AsmItem) 
       let lt = stack-within p s h.is_at.parts y (omega (arith, room)) (scratch.reached y (omega (arith, room)) (omega (arith, room))) in
       omega (arith, lt, room)
 
-  called : (b : Branched) → rt.IsOperand (routine_of r) (register b.to 24) → rt.IsOperand (routine_of r) (register b.to 25) → calls.IsCall p routines.word (routine_of r) b.to
+  called : (b : Branched) → rt.IsRoutineOperand (routine_of r) (register b.to 24) → rt.IsRoutineOperand (routine_of r) (register b.to 25) → calls.IsCall p routines.word (routine_of r) b.to
   called b first second =
       let sp = sp-is b in
       let room = scratch.room in
@@ -288,7 +288,7 @@ module _ (p : Program) (there : Labels) (g : ItemSetting) (rest : List AsmItem) 
 
   -- ---- by what the division gives
 
-  ended : (b : Branched) (e : rt.RoutineEnding) → Does p b.to e → ActIsDone p there g rest end c (store_behind [] (i.Divide r) held) (i.Divide r) s (writes (outcome_answer e) o)
+  ended : (b : Branched) (e : rt.RoutineEnding) → RoutineDoes p b.to e → ActIsDone p there g rest end c (store_behind [] (i.Divide r) held) (i.Divide r) s (writes (outcome_answer e) o)
   ended b (rt.Answers n) x = is-behind b n x
   ended b (rt.Traps code) x = record {
     steps = b.comes.steps + x.steps;
@@ -304,9 +304,9 @@ module _ (p : Program) (there : Labels) (g : ItemSetting) (rest : List AsmItem) 
       let b = branched in
       let left : register b.to 24 ≡ m = b.registers 24 (λ f. omega (arith, f)) (λ f. omega (arith, f)) ∙ first in
       let right : register b.to 25 ≡ n = b.registers 25 (λ f. omega (arith, f)) (λ f. omega (arith, f)) ∙ second in
-      let is = called b (subst (rt.IsOperand (routine_of r)) (sym left) (takes-operand r m both.0)) (subst (rt.IsOperand (routine_of r)) (sym right) (takes-operand r n both.1)) in
+      let is = called b (subst (rt.IsRoutineOperand (routine_of r)) (sym left) (takes-operand r m both.0)) (subst (rt.IsRoutineOperand (routine_of r)) (sym right) (takes-operand r n both.1)) in
       let done = routines-divide r p routines.word b.to is in
-      ended b (rt.outcome (routine_of r) m n) (subst (λ k. Does p b.to (rt.outcome (routine_of r) m k)) right (subst (λ k. Does p b.to (rt.outcome (routine_of r) k (register b.to 25))) left done))
+      ended b (rt.outcome (routine_of r) m n) (subst (λ k. RoutineDoes p b.to (rt.outcome (routine_of r) m k)) right (subst (λ k. RoutineDoes p b.to (rt.outcome (routine_of r) k (register b.to 25))) left done))
 
   contents-done : (u v : Content) → held (Reg 24) ≡ u → held (Reg 25) ≡ v → ActIsDone p there g rest end c (store_behind [] (i.Divide r) held) (i.Divide r) s (writes (division_answer r u v) o)
   contents-done (contents.Plain (Word m)) (contents.Plain (Word n)) e f =
@@ -318,6 +318,6 @@ module _ (p : Program) (there : Labels) (g : ItemSetting) (rest : List AsmItem) 
   contents-done (contents.Plain Unset) v e f = tt
   contents-done (Bundle cells) v e f = tt
 
-pub divisions_are_done : (p : Program) (there : Labels) (g : ItemSetting) (rest : List AsmItem) (end : ℕ) (c : Call) (o : Outer) (held : Places) (s : State) → FitsTheStack c → HasOuter o s → RoutinesStand p there → HasScratch p c s → (r : DivisionRoutine) → StandsFor p there (Branch Bsr 23 (entry_label (routine_of r)) ∷ rest) end c o.memory usable held s → ActIsDone p there g rest end c (store_behind [] (i.Divide r) held) (i.Divide r) s (writes (division_answer r (held (Reg 24)) (held (Reg 25))) o)
+pub divisions_are_done : (p : Program) (there : Labels) (g : ItemSetting) (rest : List AsmItem) (end : ℕ) (c : CallAt) (o : Outer) (held : Places) (s : State) → FitsTheStack c → HasOuter o s → RoutinesStand p there → HasScratch p c s → (r : DivisionRoutine) → StandsFor p there (Branch Bsr 23 (entry_label (routine_of r)) ∷ rest) end c o.memory usable held s → ActIsDone p there g rest end c (store_behind [] (i.Divide r) held) (i.Divide r) s (writes (division_answer r (held (Reg 24)) (held (Reg 25))) o)
 divisions_are_done p there g rest end c o held s call outer routines scratch r h =
     contents-done p there g rest end c o held s call outer routines scratch r h (held (Reg 24)) (held (Reg 25)) refl refl

@@ -8,7 +8,7 @@ use Rattle.alpha_items.specs.declared.item.AsmItem.TheVariants.{Branch}
 use Rattle.item_steps.specs.Standing.{Labels}
 use Rattle.alpha_rt.specs.Routine as rt
 use Rattle.alpha_rt.specs.Code.{entry}
-use Rattle.alpha_rt.specs.Calls.{StandsAt, scratch_size}
+use Rattle.alpha_rt.specs.Calls.{RoutinesStandAt, scratch_size}
 use Rattle.alpha_rt.specs.Items.{entry_label}
 use Rattle.mem_model.specs.World.{Outer}
 use Rattle.temp_ir.specs.declared.operation.DivisionRoutine.{DivisionRoutine}
@@ -17,18 +17,18 @@ use Rattle.alloc_model.specs.Effect.{routine_of, writes, division_answer}
 use Rattle.alloc_model.specs.Places.{Places, Reg}
 use Rattle.flat_memory.specs.Relation.{Nobody}
 use Rattle.flat_memory.specs.Machine.{is_reached}
-use Rattle.frame_transfers.specs.Laws.{Call, FitsTheStack, StandsFor}
+use Rattle.frame_transfers.specs.Laws.{CallAt, FitsTheStack, StandsFor}
 use Rattle.call_stacks.specs.Items.{ItemSetting}
 use Rattle.call_stacks.specs.InstructionItemsLaws.{usable, HasOuter, ActIsDone, store_behind}
 
 -- the routines stand in the text, and their labels at their entries
 pub record RoutinesStand (p : Program) (there : Labels) : Type 0 where
   pub word : ℕ
-  pub code_stands : StandsAt p word
+  pub code_stands : RoutinesStandAt p word
   pub labels : (r : rt.Routine) → there (entry_label r) ≡ word + entry r
 
 -- below the frame the stack has the scratch bytes of a routine, and is nobody's
-pub record HasScratch (p : Program) (c : Call) (s : State) : Type 0 where
+pub record HasScratch (p : Program) (c : CallAt) (s : State) : Type 0 where
   pub room : stack_start p + scratch_size ≤ c.sp
   pub free : (y : ℕ) → stack_start p ≤ y → y < c.sp → c.owner y ≡ Nobody
   pub reached : (y : ℕ) → stack_start p ≤ y → y < c.sp → is_reached p s y ≡ true
@@ -36,7 +36,7 @@ pub record HasScratch (p : Program) (c : Call) (s : State) : Type 0 where
 -- at the call of a routine the machine does what the division does with the contents of registers 24 and 25
 abbrev pub DivisionsAreDone : Type 0
 DivisionsAreDone =
-    (p : Program) (there : Labels) (g : ItemSetting) (rest : List AsmItem) (end : ℕ) (c : Call) (o : Outer)
+    (p : Program) (there : Labels) (g : ItemSetting) (rest : List AsmItem) (end : ℕ) (c : CallAt) (o : Outer)
     (held : Places)
     (s : State) → FitsTheStack c → HasOuter o s → RoutinesStand p there → HasScratch p c s → (r : DivisionRoutine) →
     StandsFor p there (Branch Bsr 23 (entry_label (routine_of r)) ∷ rest) end c o.memory usable held s →

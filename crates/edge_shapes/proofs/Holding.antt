@@ -19,7 +19,7 @@ use Rattle.alloc_model.specs.declared.allocation.Transfer.TheVariants.{Store, Lo
 use Rattle.alloc_model.specs.Effect.{Holder, Temp, Fixed, Incoming, Outgoing, holders_written, others_written}
 use Rattle.alloc_model.specs.Places.{Place, Reg, Slot, In, Out, home_of, places_written_at, is_ended, target_of, moved_temp, Plan, linear_number, transfers_at, registers_at}
 use Rattle.alloc_model.specs.Needs.{place_of, named_place}
-use Rattle.alloc_model.specs.Faithful.{Held, stands, forget, end_all, write_all, move_all, behind_insn, at_top, at_entry, at_start, before, given_registers, IsGiven, IsOwnPlace, IsStanding, IsTransfer, HasLists}
+use Rattle.alloc_model.specs.Faithful.{Held, stands, forget, end_all, write_all, move_all, behind_insn, at_top, at_entry, at_start, before, given_registers, IsGivenRegister, IsOwnPlace, IsStanding, IsTransfer, HasLists}
 use Rattle.function_items.specs.InstructionItemsLaws.{usable}
 
 -- ---- lists and tests
@@ -44,7 +44,7 @@ all-at P xss n h = ⊎_elim
 all-usable : All (λ r. usable r ≡ true) given_registers
 all-usable = All-from_recursion (λ r. usable r ≡ true) given_registers (refl, (refl, (refl, (refl, (refl, (refl, (refl, (refl, (refl, (refl, (refl, (refl, (refl, (refl, (refl, (refl, (refl, (refl, (refl, (refl, (refl, (refl, (refl, (refl, (refl, (refl, tt))))))))))))))))))))))))))
 
-given-usable : (r : ℕ) → IsGiven r → usable r ≡ true
+given-usable : (r : ℕ) → IsGivenRegister r → usable r ≡ true
 given-usable r h = All-contains (λ q. usable q ≡ true) given_registers r all-usable h
 
 argument-usable : (count r : ℕ) → Contains (argument_registers count) r → usable r ≡ true
@@ -88,16 +88,16 @@ knows-written [] ps h all knows = knows
 knows-written (n ∷ ns) [] h all knows = knows
 knows-written (n ∷ ns) (p ∷ ps) h all knows = knows-written ns ps (stands n p (forget n h)) all.1 (knows-stands usable n p (forget n h) (λ m q e. knows m q e.0) all.0)
 
-target-known : (temps : ℕ) (x : Transfer) → IsTransfer temps IsGiven x → known_place usable (target_of x) ≡ true
+target-known : (temps : ℕ) (x : Transfer) → IsTransfer temps IsGivenRegister x → known_place usable (target_of x) ≡ true
 target-known temps (Store t r) h = refl
-target-known temps (Load t r) h = given-usable r (All-head IsGiven r [] h.1)
-target-known temps (Shift t from to) h = given-usable to (All-head IsGiven to [] (All-tail IsGiven from (to ∷ []) h.1))
+target-known temps (Load t r) h = given-usable r (All-head IsGivenRegister r [] h.1)
+target-known temps (Shift t from to) h = given-usable to (All-head IsGivenRegister to [] (All-tail IsGivenRegister from (to ∷ []) h.1))
 
-knows-moved : (temps : ℕ) (xs : List Transfer) (h : Held) → All (IsTransfer temps IsGiven) xs → Knows usable h → Knows usable (move_all xs h)
+knows-moved : (temps : ℕ) (xs : List Transfer) (h : Held) → All (IsTransfer temps IsGivenRegister) xs → Knows usable h → Knows usable (move_all xs h)
 knows-moved temps [] h all knows = knows
 knows-moved temps (x ∷ xs) h all knows = knows-moved temps xs (stands (Temp (moved_temp x)) (target_of x) h)
-    (All-tail (IsTransfer temps IsGiven) x xs all)
-    (knows-stands usable (Temp (moved_temp x)) (target_of x) h knows (target-known temps x (All-head (IsTransfer temps IsGiven) x xs all)))
+    (All-tail (IsTransfer temps IsGivenRegister) x xs all)
+    (knows-stands usable (Temp (moved_temp x)) (target_of x) h knows (target-known temps x (All-head (IsTransfer temps IsGivenRegister) x xs all)))
 
 -- ---- behind an instruction
 
@@ -105,11 +105,11 @@ known-append : (ps qs : List Place) → AllKnown ps → AllKnown qs → AllKnown
 known-append [] qs h k = k
 known-append (p ∷ ps) qs h k = (h.0, known-append ps qs h.1 k)
 
-known-registers : (n : ℕ) (rs : List ℕ) → All IsGiven rs → AllKnown (map Reg (drop n rs))
+known-registers : (n : ℕ) (rs : List ℕ) → All IsGivenRegister rs → AllKnown (map Reg (drop n rs))
 known-registers zero [] all = tt
-known-registers zero (r ∷ rs) all = (given-usable r (All-head IsGiven r rs all), known-registers zero rs (All-tail IsGiven r rs all))
+known-registers zero (r ∷ rs) all = (given-usable r (All-head IsGivenRegister r rs all), known-registers zero rs (All-tail IsGivenRegister r rs all))
 known-registers (suc n) [] all = tt
-known-registers (suc n) (r ∷ rs) all = known-registers n rs (All-tail IsGiven r rs all)
+known-registers (suc n) (r ∷ rs) all = known-registers n rs (All-tail IsGivenRegister r rs all)
 
 others-known : (x : TempInsn) → AllKnown (map home_of (others_written x))
 others-known (i.Address op destination base plus) = tt
@@ -138,9 +138,9 @@ knows-behind : (a : Plan) → HasLists a → (block at : ℕ) (o : Option TempIn
 knows-behind a l block at None h knows = knows
 knows-behind a l block at (Some x) h knows = knows-written (holders_written x) (places_written_at rs x) (end_all (is_ended x) (move_all (transfers_at a block at) h))
     (known-append (map Reg (drop (length (reads_of x)) rs)) (map home_of (others_written x))
-    (known-registers (length (reads_of x)) rs (all-at IsGiven a.regs (linear_number a.function.blocks block at) l.given))
+    (known-registers (length (reads_of x)) rs (all-at IsGivenRegister a.regs (linear_number a.function.blocks block at) l.given))
     (others-known x))
-    (λ m q e. knows-moved a.temps (transfers_at a block at) h (all-at (IsTransfer a.temps IsGiven) a.at (linear_number a.function.blocks block at) l.transfers) knows m q e.0)
+    (λ m q e. knows-moved a.temps (transfers_at a block at) h (all-at (IsTransfer a.temps IsGivenRegister) a.at (linear_number a.function.blocks block at) l.transfers) knows m q e.0)
   where
     rs : List ℕ
     rs = registers_at a block at

@@ -1,5 +1,5 @@
-//! Runs each example of the folder `data/`, a C file on the input with its name, as `msc run` does, by its image, and as
-//! `msc vm` does, by its code over virtual registers, and prints how it ended and what it put.
+//! Runs each example of the folder `data/`, a C file on the input with its name, as `msc run` does, by its image, and
+//! as `msc vm` does, by its code over virtual registers, and prints how it ended and what it put.
 #![tactic(auto)]
 
 use anyhow::{Context, Result};

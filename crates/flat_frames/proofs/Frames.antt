@@ -13,7 +13,7 @@ use Rattle.flat_memory.proofs.Numbers.{numbers_come_back, low_bytes-length, low_
 use Rattle.flat_memory.proofs.Objects.{others_may_change}
 use Rattle.flat_operations.specs.Contents.{ContentIs}
 use Rattle.flat_frames.specs.Shapes.{FrameShape, argument_at, slot_at, IsPiece}
-use Rattle.flat_frames.specs.Frames.{word_in, put_word, FrameIs, KeepsFrames, IsWordOf, FrameAndMemory, RegistersAre, with_known, is_written_piece, is_written, KeepsUnwritten}
+use Rattle.flat_frames.specs.Frames.{word_in, put_word, FrameIs, KeepsFrames, WordIsOwned, FrameAndMemory, RegistersAre, with_known, is_written_piece, is_written, KeepsUnwritten}
 use Rattle.flat_frames.proofs.Shapes.{pieces_of}
 
 -- ---- words
@@ -24,7 +24,7 @@ put-word-out m a w y h =
     put-out (low_bytes 8 w) m a y (subst (λ k. (y < a) ⊎ (a + k ≤ y)) (sym n) h)
 
 -- bytes that another owner has
-put-word-other : (owner : Owners) (m : Bytes) (a w y : ℕ) (mine : Owner) → IsWordOf owner a mine → owner y ≢ mine → put_word m a w y ≡ m y
+put-word-other : (owner : Owners) (m : Bytes) (a w y : ℕ) (mine : Owner) → WordIsOwned owner a mine → owner y ≢ mine → put_word m a w y ≡ m y
 put-word-other owner m a w y mine is other = put-word-out m a w y (⊎_elim inl (λ above. ⊎_elim (λ below. absurd (clash above below)) inr (cases_lt y (a + 8))) (cases_lt y a))
   where
     clash : a ≤ y → y < a + 8 → ⊥
@@ -33,7 +33,7 @@ put-word-other owner m a w y mine is other = put-word-out m a w y (⊎_elim inl 
 word-same : (m k : Bytes) (b : ℕ) → ((y : ℕ) → b ≤ y → y < b + 8 → k y ≡ m y) → word_in k b ≡ word_in m b
 word-same m k b h = ap number_from (bytes_from-same m k b 8 h)
 
-pub words_are_kept : (owner : Owners) (m : Bytes) (a b w : ℕ) (mine other : Owner) → IsWordOf owner a mine → IsWordOf owner b other → mine ≢ other → word_in (put_word m a w) b ≡ word_in m b
+pub words_are_kept : (owner : Owners) (m : Bytes) (a b w : ℕ) (mine other : Owner) → WordIsOwned owner a mine → WordIsOwned owner b other → mine ≢ other → word_in (put_word m a w) b ≡ word_in m b
 words_are_kept owner m a b w mine other is there ne = word-same m (put_word m a w) b (λ y from to.
     let e : b + (y - b) ≡ y = omega arith in
     put-word-other owner m a w y mine is (λ f. ne (sym f ∙ ap owner (sym e) ∙ there.owned (y - b) (omega arith))))
@@ -44,7 +44,7 @@ word-put m a w small =
     ap number_from (subst (λ k. bytes_from (put_bytes m a (low_bytes 8 w)) a k ≡ low_bytes 8 w) n (bytes_from-put (low_bytes 8 w) m a)) ∙ numbers_come_back 8 w (omega arith)
 
 -- so are those that no instruction of a call writes
-pub unwritten-put : (owner : Owners) (depth : ℕ) (m : Bytes) (a w : ℕ) (mine : Owner) → IsWordOf owner a mine → is_written depth mine ≡ true → KeepsUnwritten owner depth m (put_word m a w)
+pub unwritten-put : (owner : Owners) (depth : ℕ) (m : Bytes) (a w : ℕ) (mine : Owner) → WordIsOwned owner a mine → is_written depth mine ≡ true → KeepsUnwritten owner depth m (put_word m a w)
 unwritten-put owner depth m a w mine is written y e = put-word-other owner m a w y mine is (λ f. clash (sym written ∙ ap (is_written depth) (sym f) ∙ e))
   where
     clash : true ≡ false → ⊥
@@ -64,7 +64,7 @@ own-written depth piece e = ap (λ b. b && is_written_piece piece) (eq-eqb depth
 
 module _ (xs : Extents) (owner : Owners) (m : Bytes) (sp depth own : ℕ) (s : FrameShape) (store : Places) (f : FrameIs xs owner m sp depth own s store) where
   -- a piece of the frame is a word of its owner
-  piece-word : (at : ℕ) (whose : Owner) → IsPiece s depth own at 8 whose → IsWordOf owner (sp + at) whose
+  piece-word : (at : ℕ) (whose : Owner) → IsPiece s depth own at 8 whose → WordIsOwned owner (sp + at) whose
   piece-word at whose p = record {
     owned = λ i lt.
         let e : sp + at + i ≡ sp + (at + i) = omega arith in
@@ -72,14 +72,14 @@ module _ (xs : Extents) (owner : Owners) (m : Bytes) (sp depth own : ℕ) (s : F
         ap owner e ∙ f.owned (at + i) (omega (arith, w)) ∙ p.owned i lt;
   }
 
-  pub slot-word : (t : ℕ) → t < s.temps → IsWordOf owner (sp + slot_at s t) (OfFrame depth (SlotPiece t))
+  pub slot-word : (t : ℕ) → t < s.temps → WordIsOwned owner (sp + slot_at s t) (OfFrame depth (SlotPiece t))
   slot-word t lt = piece-word (slot_at s t) (OfFrame depth (SlotPiece t)) ((pieces_of s depth own).slots t lt)
 
-  pub argument-word : (k : ℕ) → k < s.outgoing → IsWordOf owner (sp + argument_at k) (OfFrame depth (ArgumentPiece k))
+  pub argument-word : (k : ℕ) → k < s.outgoing → WordIsOwned owner (sp + argument_at k) (OfFrame depth (ArgumentPiece k))
   argument-word k lt = piece-word (argument_at k) (OfFrame depth (ArgumentPiece k)) ((pieces_of s depth own).arguments k lt)
 
   -- a word of the frame where bytes of objects alone change
-  frame-word : (k : Bytes) (a : ℕ) (q : FramePiece) → KeepsFrames owner m k → IsWordOf owner a (OfFrame depth q) → word_in k a ≡ word_in m a
+  frame-word : (k : Bytes) (a : ℕ) (q : FramePiece) → KeepsFrames owner m k → WordIsOwned owner a (OfFrame depth q) → word_in k a ≡ word_in m a
   frame-word k a q keeps is = word-same m k a (λ y from to.
       let e : a + (y - a) ≡ y = omega arith in
       keeps.same y (λ o g. no_object o (sym (ap owner (sym e) ∙ is.owned (y - a) (omega arith)) ∙ g)))
@@ -100,7 +100,7 @@ module _ (xs : Extents) (owner : Owners) (m : Bytes) (sp depth own : ℕ) (s : F
 
 module _ (xs : Extents) (memory : Memory) (owner : Owners) (m : Bytes) (sp depth own : ℕ) (s : FrameShape) (store : Places) (h : FrameAndMemory xs memory owner m sp depth own s store) where
   -- objects do not change by a word that a frame owns
-  memory-kept : (a w : ℕ) (q : FramePiece) → IsWordOf owner a (OfFrame depth q) → MemoryIs xs memory owner (put_word m a w)
+  memory-kept : (a w : ℕ) (q : FramePiece) → WordIsOwned owner a (OfFrame depth q) → MemoryIs xs memory owner (put_word m a w)
   memory-kept a w q is = others_may_change xs memory owner owner m (put_word m a w) h.memory_is (record {
     owners = λ y o live e. e;
     same = λ y o live e. put-word-other owner m a w y (OfFrame depth q) is (λ g. no_object o (sym g ∙ e));
@@ -132,7 +132,7 @@ module _ (xs : Extents) (memory : Memory) (owner : Owners) (m : Bytes) (sp depth
           subst (λ b. ContentIs xs (if b then c else store (Slot t)) (word_in (put_word m (sp + slot_at s t) w) (sp + slot_at s t))) (sym (eq-eqb t t refl))
           (subst (ContentIs xs c) (sym (word-put m (sp + slot_at s t) w small)) is)
 
-      other : (u : ℕ) → u < s.temps → u ≢ t → IsWordOf owner (sp + slot_at s t) (OfFrame depth (SlotPiece t)) → ContentIs xs (if u == t then c else store (Slot u)) (word_in (put_word m (sp + slot_at s t) w) (sp + slot_at s u))
+      other : (u : ℕ) → u < s.temps → u ≢ t → WordIsOwned owner (sp + slot_at s t) (OfFrame depth (SlotPiece t)) → ContentIs xs (if u == t then c else store (Slot u)) (word_in (put_word m (sp + slot_at s t) w) (sp + slot_at s u))
       other u ul ne mine =
           subst (λ b. ContentIs xs (if b then c else store (Slot u)) (word_in (put_word m (sp + slot_at s t) w) (sp + slot_at s u))) (sym (ne_eqb u t ne))
           (subst (ContentIs xs (store (Slot u))) (sym (words_are_kept owner m (sp + slot_at s t) (sp + slot_at s u) w (OfFrame depth (SlotPiece t)) (OfFrame depth (SlotPiece u)) mine (slot-word xs owner m sp depth own s store h.frame u ul) (λ e. let same : t ≡ u = cc in ne (sym same)))) (h.frame.slots u ul))
@@ -159,7 +159,7 @@ module _ (xs : Extents) (memory : Memory) (owner : Owners) (m : Bytes) (sp depth
           subst (λ b. ContentIs xs (if b then c else store (Out k)) (word_in (put_word m (sp + argument_at k) w) (sp + argument_at k))) (sym (eq-eqb k k refl))
           (subst (ContentIs xs c) (sym (word-put m (sp + argument_at k) w small)) is)
 
-      other : (j : ℕ) → j < s.outgoing → j ≢ k → IsWordOf owner (sp + argument_at k) (OfFrame depth (ArgumentPiece k)) → ContentIs xs (if j == k then c else store (Out j)) (word_in (put_word m (sp + argument_at k) w) (sp + argument_at j))
+      other : (j : ℕ) → j < s.outgoing → j ≢ k → WordIsOwned owner (sp + argument_at k) (OfFrame depth (ArgumentPiece k)) → ContentIs xs (if j == k then c else store (Out j)) (word_in (put_word m (sp + argument_at k) w) (sp + argument_at j))
       other j jl ne mine =
           subst (λ b. ContentIs xs (if b then c else store (Out j)) (word_in (put_word m (sp + argument_at k) w) (sp + argument_at j))) (sym (ne_eqb j k ne))
           (subst (ContentIs xs (store (Out j))) (sym (words_are_kept owner m (sp + argument_at k) (sp + argument_at j) w (OfFrame depth (ArgumentPiece k)) (OfFrame depth (ArgumentPiece j)) mine (argument-word xs owner m sp depth own s store h.frame j jl) (λ e. let same : k ≡ j = cc in ne (sym same)))) (h.frame.outgoing j jl))

@@ -54,12 +54,13 @@ FramesStay =
     FrameIs xs owner m sp depth own s store → KeepsFrames owner m k → FrameIs xs owner k sp depth own s store
 
 -- a word that is put where all bytes have one owner keeps the words that others own,
-pub record IsWordOf (owner : Owners) (a : ℕ) (whose : Owner) : Type 0 where
+pub record WordIsOwned (owner : Owners) (a : ℕ) (whose : Owner) : Type 0 where
   pub owned : (i : ℕ) → i < 8 → owner (a + i) ≡ whose
 
 abbrev pub WordsAreKept : Type 0
 WordsAreKept =
-    (owner : Owners) (m : Bytes) (a b w : ℕ) (mine other : Owner) → IsWordOf owner a mine → IsWordOf owner b other →
+    (owner : Owners) (m : Bytes) (a b w : ℕ) (mine other : Owner) → WordIsOwned owner a mine →
+    WordIsOwned owner b other →
     mine ≢ other → word_in (put_word m a w) b ≡ word_in m b
 
 -- and a frame with a word in a slot or an argument place stands for the call that holds its content there

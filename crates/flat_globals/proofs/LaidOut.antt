@@ -7,7 +7,7 @@ use native.Mathlib.Nat.{ℕ_set}
 use Rattle.std.specs.Prelude.{slice_get}
 use Rattle.data_object.specs.declared.DataObject.{DataObject}
 use Rattle.data_object.specs.declared.DataCell.TheVariants.{AddressPart}
-use Rattle.data_object.specs.Layout.{place_after, LieFrom}
+use Rattle.data_object.specs.Layout.{place_after, ObjectsLieFrom}
 use Rattle.data_object.specs.Globals.{Reaches, IsLawfulObject, AreLawful}
 use Rattle.flat_globals.specs.Globals.{AreLaidOut}
 use Rattle.flat_globals.proofs.Lists.{get-below, get-index}
@@ -19,7 +19,7 @@ reach-prop : (plus : ℕ) (o : Option DataObject) → IsProp (Reaches plus o)
 reach-prop plus None = λ a b. absurd a
 reach-prop plus (Some o) = le_prop
 
-lie-prop : (end : ℕ) (globals : List DataObject) → IsProp (LieFrom end globals)
+lie-prop : (end : ℕ) (globals : List DataObject) → IsProp (ObjectsLieFrom end globals)
 lie-prop end [] = λ a b. refl
 lie-prop end (o ∷ os) = ×_prop (ℕ_set o.offset (place_after end)) (lie-prop (o.offset + o.size) os)
 

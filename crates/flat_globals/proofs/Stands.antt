@@ -10,7 +10,7 @@ use Rattle.mem_model.specs.Memory.{Object, object_at, no_object}
 use Rattle.data_object.specs.declared.DataObject.{DataObject}
 use Rattle.data_object.specs.declared.DataCell.{DataCell}
 use Rattle.data_object.specs.declared.DataCell.TheVariants.{Byte, AddressPart}
-use Rattle.data_object.specs.Layout.{LieFrom}
+use Rattle.data_object.specs.Layout.{ObjectsLieFrom}
 use Rattle.data_object.specs.Globals.{Reaches}
 use Rattle.data_object.specs.Start.{memory_cell, start_object, start_memory}
 use Rattle.flat_memory.specs.Bytes.{Bytes, AreBytes, low_bytes}
@@ -25,7 +25,7 @@ record Lies (end : ℕ) (o : DataObject) : Type 0 where
   aligned : o.offset % 8 ≡ 0
   behind : end ≤ o.offset
 
-lies : (globals : List DataObject) (end k : ℕ) (o : DataObject) → LieFrom end globals → slice_get globals k ≡ Some o → Lies end o
+lies : (globals : List DataObject) (end k : ℕ) (o : DataObject) → ObjectsLieFrom end globals → slice_get globals k ≡ Some o → Lies end o
 lies [] end k o h e = absurd (cc)
 lies (x ∷ globals) end zero o h e =
     let is : x ≡ o = cc in
@@ -49,7 +49,7 @@ behind-range a y e le = ap (λ t. nat_le a y && t) (le-ltb y e le) ∙ none (nat
     none true = refl
     none false = refl
 
-owns : (start n : ℕ) (globals : List DataObject) (end k : ℕ) (o : DataObject) → LieFrom end globals → slice_get globals k ≡ Some o → (y : ℕ) → start + o.offset ≤ y → y < start + o.offset + o.size → owner_from start n globals y ≡ OfObject (n + k)
+owns : (start n : ℕ) (globals : List DataObject) (end k : ℕ) (o : DataObject) → ObjectsLieFrom end globals → slice_get globals k ≡ Some o → (y : ℕ) → start + o.offset ≤ y → y < start + o.offset + o.size → owner_from start n globals y ≡ OfObject (n + k)
 owns start n [] end k o h e y from to = absurd (cc)
 owns start n (x ∷ globals) end zero o h e y from to =
     let is : x ≡ o = cc in

@@ -6,7 +6,7 @@ use Rattle.alpha_isa.specs.State.{State}
 use Rattle.data_object.specs.declared.DataObject.{DataObject}
 use Rattle.data_object.specs.declared.DataCell.{DataCell}
 use Rattle.data_object.specs.declared.DataCell.TheVariants.{Byte, AddressPart}
-use Rattle.data_object.specs.Layout.{LieFrom}
+use Rattle.data_object.specs.Layout.{ObjectsLieFrom}
 use Rattle.data_object.specs.Globals.{Reaches, AreLawful}
 use Rattle.data_object.specs.Start.{start_memory}
 use Rattle.flat_memory.specs.Bytes.{AreBytes, low_bytes}
@@ -26,7 +26,7 @@ cell_byte globals start (AddressPart global plus part) =
 
 -- objects lie one behind the other, have no more cells than bytes, and hold addresses of objects that are there
 pub record AreLaidOut (globals : List DataObject) : Type 0 where
-  pub layout : LieFrom 0 globals
+  pub layout : ObjectsLieFrom 0 globals
   pub cells : (k : ℕ) (o : DataObject) → slice_get globals k ≡ Some o → length o.cells ≤ o.size
   pub reaches : (k : ℕ) (o : DataObject) → slice_get globals k ≡ Some o → (at global plus part : ℕ) →
       slice_get o.cells at ≡ Some (AddressPart global plus part) → Reaches plus (slice_get globals global)

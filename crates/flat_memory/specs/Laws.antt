@@ -106,8 +106,8 @@ MoreExtents xs ys = (o : ℕ) (e : Extent) → slice_get xs o ≡ Some e → sli
 abbrev pub ExtentsGrow : Type 0
 ExtentsGrow = (xs ys : Extents) → MoreExtents xs (xs ++ ys)
 
-abbrev pub ValuesStay : Type 0
-ValuesStay = (xs ys : Extents) (v : Value) (w : ℕ) → MoreExtents xs ys → ValueIs xs v w → ValueIs ys v w
+abbrev pub FlatValuesStay : Type 0
+FlatValuesStay = (xs ys : Extents) (v : Value) (w : ℕ) → MoreExtents xs ys → ValueIs xs v w → ValueIs ys v w
 
 abbrev pub CellsStay : Type 0
 CellsStay =
@@ -136,14 +136,14 @@ pub record AreNew (memory : Memory) (new : Owners) (extents : Extents) (sizes : 
   pub own : (k : ℕ) (e : Extent) → slice_get extents k ≡ Some e → (y : ℕ) → e.base ≤ y → y < e.base + e.size →
       new y ≡ OfObject (length memory + k)
 
-abbrev pub ObjectsBegin : Type 0
-ObjectsBegin =
+abbrev pub FlatObjectsBegin : Type 0
+FlatObjectsBegin =
     (xs : Extents) (memory : Memory) (old new : Owners) (m : Bytes) (extents : Extents) (sizes : List ℕ) →
     MemoryIs xs memory old m → KeepsOwners memory old new → AreNew memory new extents sizes →
     MemoryIs (xs ++ extents) (begin_objects memory sizes) new m
 
 -- objects end, and their bytes may be anyone's
-abbrev pub ObjectsEnd : Type 0
-ObjectsEnd =
+abbrev pub FlatObjectsEnd : Type 0
+FlatObjectsEnd =
     (xs : Extents) (memory : Memory) (old new : Owners) (m : Bytes) (first count : ℕ) → MemoryIs xs memory old m →
     KeepsOwners (end_objects memory first count) old new → MemoryIs xs (end_objects memory first count) new m

@@ -1,6 +1,6 @@
 //! Laws, each the contract of a function that does nothing.
 
-ghost use Rattle.flat_memory.specs.Laws.{BytesComeBack, NumbersComeBack, NumbersAreRead, PointersAreRead, ValuesHaveBytes, RowsAreThere, LoadsAreRead, RowsArePut, StoresArePut, CopiesArePut, ExtentsGrow, ValuesStay, CellsStay, OthersMayChange, ObjectsBegin, ObjectsEnd};
+ghost use Rattle.flat_memory.specs.Laws.{BytesComeBack, NumbersComeBack, NumbersAreRead, PointersAreRead, ValuesHaveBytes, RowsAreThere, LoadsAreRead, RowsArePut, StoresArePut, CopiesArePut, ExtentsGrow, FlatValuesStay, CellsStay, OthersMayChange, FlatObjectsBegin, FlatObjectsEnd};
 ghost use Rattle.flat_memory.specs.Examples.{ExampleStands};
 ghost use Rattle.flat_memory.specs.PointerLaws.{PointersMove, PointersAnswer};
 ghost use Rattle.flat_memory.specs.Machine.{LoadsReadBytes, StoresPutBytes, NumbersOfAccesses};
@@ -34,11 +34,11 @@ pub fn stores_are_put()
 /// Objects begin and end, and bytes that are no live object's may change.
 pub fn objects_begin_and_end()
     ensures grow { ExtentsGrow }
-    ensures values { ValuesStay }
+    ensures values { FlatValuesStay }
     ensures cells { CellsStay }
     ensures others { OthersMayChange }
-    ensures begin { ObjectsBegin }
-    ensures end { ObjectsEnd }
+    ensures begin { FlatObjectsBegin }
+    ensures end { FlatObjectsEnd }
 {}
 
 /// What the operators on pointers give, their addresses give as words.

@@ -32,15 +32,15 @@ ExtensionsCorrespond =
     EffectIs xs (extend_answer op c) (operation_effect (extend_op op) 0 x)
 
 -- a content that is moved by so many bytes
-abbrev pub MovesCorrespond : Type 0
-MovesCorrespond =
+abbrev pub FlatMovesCorrespond : Type 0
+FlatMovesCorrespond =
     (xs : Extents) (memory : Memory) (owner : Owners) (m : Bytes) → MemoryIs xs memory owner m →
     (c d : Content) (x : ℕ) (by : ℤ) → ContentIs xs c x → moved_content memory c by ≡ Some d →
     ContentIs xs d (word_at (x + word_from by))
 
 -- the test of a branch
-abbrev pub TestsCorrespond : Type 0
-TestsCorrespond =
+abbrev pub FlatTestsCorrespond : Type 0
+FlatTestsCorrespond =
     (xs : Extents) (memory : Memory) (owner : Owners) (m : Bytes) → MemoryIs xs memory owner m →
     (op : TempBranchOp) (c : Content) (x : ℕ) (b : Bool) → ContentIs xs c x → test_of op memory c ≡ Some b →
     is_taken (branch_op op) x ≡ b
@@ -60,8 +60,8 @@ pub record IsLoadOf (xs : Extents) (owner : Owners) (m : Bytes) (op : LoadOp) (a
   pub range : IsRangeAt owner pointer a (load_width op) (load_width op)
   pub content : ContentIs xs c (loaded_word op (number_from (bytes_from m a (load_width op))))
 
-abbrev pub LoadsCorrespond : Type 0
-LoadsCorrespond =
+abbrev pub FlatLoadsCorrespond : Type 0
+FlatLoadsCorrespond =
     (xs : Extents) (memory : Memory) (owner : Owners) (m : Bytes) → MemoryIs xs memory owner m →
     (op : LoadOp) (pointer c : Content) (x : ℕ) (plus : ℤ) → ContentIs xs pointer x →
     loaded_content memory op pointer plus ≡ Some c → IsLoadOf xs owner m op (word_at (x + word_from plus)) c
@@ -73,8 +73,8 @@ pub record IsStoreOf (xs : Extents) (new : Memory) (owner : Owners) (m : Bytes) 
     pub range : IsRangeAt owner pointer a (store_width op) (store_width op)
     pub memory : MemoryIs xs new owner (put_bytes m a (low_bytes (store_width op) w))
 
-abbrev pub StoresCorrespond : Type 0
-StoresCorrespond =
+abbrev pub FlatStoresCorrespond : Type 0
+FlatStoresCorrespond =
     (xs : Extents) (memory new : Memory) (owner : Owners) (m : Bytes) → MemoryIs xs memory owner m →
     (op : StoreOp) (value pointer : Content) (w x : ℕ) (plus : ℤ) → ContentIs xs value w → ContentIs xs pointer x →
     stored_memory memory op value pointer plus ≡ Some new →

@@ -12,8 +12,8 @@ use Rattle.machine_model.specs.Machine.{Config, Next, Goes, Over, go_on}
 use Rattle.machine_model.proofs.Peaks.{peak_rises}
 use Rattle.alloc_model.specs.Contents.{Content}
 use Rattle.alloc_model.specs.Places.{Places, placed_code}
-use Rattle.flat_steps.specs.Laws.{IsOver}
-use Rattle.flat_steps.specs.Builds.{Build, IsBuilt}
+use Rattle.flat_steps.specs.Laws.{RunIsOver}
+use Rattle.flat_steps.specs.Builds.{Build, BuildStands}
 use Rattle.flat_steps.specs.Matching.{Matches, FitsStack, StepIsDone, step_of}
 use Rattle.flat_steps.proofs.Steps.{steps_are_done}
 use Rattle.flat_runs.specs.Runs.{run_of, RunIsDone}
@@ -23,7 +23,7 @@ pub stays : (p : Program) (s : State) → Comes p s s
 unfolding step.exec
 stays p s = record { steps = 0; run = refl }
 
-over-from : (p : Program) (s t : State) (o : Outer) (h : step.Halt) → Comes p s t → IsOver p o h t → IsOver p o h s
+over-from : (p : Program) (s t : State) (o : Outer) (h : step.Halt) → Comes p s t → RunIsOver p o h t → RunIsOver p o h s
 over-from p s t o h c d = record {
   steps = c.steps + d.steps;
   last = d.last;
@@ -31,7 +31,7 @@ over-from p s t o h c d = record {
   output = d.output;
 }
 
-module _ (b : Build) (ok : IsBuilt b) where
+module _ (b : Build) (ok : BuildStands b) where
   -- what the machine does from where it came to
   carried : (s t : State) → Comes b.program s t → (x : Next Places) → RunIsDone b t x → RunIsDone b s x
   carried s t c (Goes d) h = record { to = h.to; comes = steps_add_up b.program s t h.to c h.comes; matches = h.matches }
@@ -56,5 +56,5 @@ module _ (b : Build) (ok : IsBuilt b) where
   runs_done zero k s m fits = record { to = s; comes = stays b.program s; matches = m }
   runs_done (suc n) k s m fits = onward n k s (step_of b k) (runs_done n) (steps_are_done b ok k s m (fits-first n (step_of b k) fits)) fits
 
-pub runs_are_done : (b : Build) → IsBuilt b → (n : ℕ) (k : Config Places) (s : State) → Matches b k s → FitsStack b (run_of b n k) → RunIsDone b s (run_of b n k)
+pub runs_are_done : (b : Build) → BuildStands b → (n : ℕ) (k : Config Places) (s : State) → Matches b k s → FitsStack b (run_of b n k) → RunIsDone b s (run_of b n k)
 runs_are_done b ok n k s m fits = runs_done b ok n k s m fits

@@ -10,8 +10,8 @@ use Rattle.machine_model.specs.Laws.{IsPrefix, KeepsOutput, next_world}
 use Rattle.machine_model.proofs.Outputs.{output_grows}
 use Rattle.alloc_model.specs.Contents.{Content}
 use Rattle.alloc_model.specs.Places.{Places, Plan, placed_code}
-use Rattle.flat_steps.specs.Laws.{IsOver}
-use Rattle.flat_steps.specs.Builds.{Build, IsBuilt}
+use Rattle.flat_steps.specs.Laws.{RunIsOver}
+use Rattle.flat_steps.specs.Builds.{Build, BuildStands}
 use Rattle.flat_steps.specs.Matching.{place_of, Matches, IsFollowed, FitsStack, StepIsDone, step_of}
 use Rattle.flat_steps.proofs.Steps.{steps_are_done}
 use Rattle.flat_runs.specs.Runs.{run_of, longest_of, turns_for, IsEndOf, IsFrontOf, BelongsTo}
@@ -57,13 +57,13 @@ less-times j m S le =
 
 -- ---- one step
 
-module _ (b : Build) (ok : IsBuilt b) (keeps : KeepsOutput Content Places (placed_code b.plans)) where
+module _ (b : Build) (ok : BuildStands b) (keeps : KeepsOutput Content Places (placed_code b.plans)) where
   -- turns are left for so many steps of the machine
   abbrev Enough : (m : ℕ) → Config Places → Type 0
   Enough m k = m * suc (longest_of b.plans) + longest_of b.plans < k.world.meter.turns + place_of b k.here.point
 
   -- the machine ends, and so it belongs to that end
-  at-end : (s : State) (e : Ending) (o : Outer) (h : step.Halt) (m : ℕ) → IsOver b.program o h s → ((last : State) → last.output ≡ o.output → IsEndOf h last e) → ((t : State) → IsPrefix t.output o.output → IsFrontOf t e) → (x : step.MachineNext) → step.exec b.program m s ≡ x → BelongsTo x e
+  at-end : (s : State) (e : Ending) (o : Outer) (h : step.Halt) (m : ℕ) → RunIsOver b.program o h s → ((last : State) → last.output ≡ o.output → IsEndOf h last e) → ((t : State) → IsPrefix t.output o.output → IsFrontOf t e) → (x : step.MachineNext) → step.exec b.program m s ≡ x → BelongsTo x e
   at-end s e o h m d ends fronts (step.Goes t) is =
       let before = goes-before b.program d.steps m s t d.last h is d.run in
       fronts t (subst (λ l. IsPrefix t.output l) d.output (front-of b.program m d.steps s (step.Goes t) (step.Over h d.last) (omega (arith, before)) is d.run))
@@ -132,7 +132,7 @@ module _ (b : Build) (ok : IsBuilt b) (keeps : KeepsOutput Content Places (place
   only-these e fits (suc n) k s was over m enough =
       belongs n e (only-these e fits n) k s was m enough (step_of b k) (steps_are_done b ok k s was (fits-end n (step_of b k) e over fits)) (step-one Content Places b.rooms (placed_code b.plans) k) over
 
-pub only_these_end : ((plans : List Plan) → KeepsOutput Content Places (placed_code plans)) → (b : Build) → IsBuilt b → (n : ℕ) (k : Config Places) (s : State) (e : Ending) → Matches b k s → run_of b n k ≡ Over e → FitsStack b (Over e) → (m : ℕ) → turns_for b.plans m ≤ k.world.meter.turns → BelongsTo (step.exec b.program m s) e
+pub only_these_end : ((plans : List Plan) → KeepsOutput Content Places (placed_code plans)) → (b : Build) → BuildStands b → (n : ℕ) (k : Config Places) (s : State) (e : Ending) → Matches b k s → run_of b n k ≡ Over e → FitsStack b (Over e) → (m : ℕ) → turns_for b.plans m ≤ k.world.meter.turns → BelongsTo (step.exec b.program m s) e
 only_these_end keeps b ok n k s e was over fits m enough =
     let each : turns_for b.plans m ≡ m * suc (longest_of b.plans) + suc (longest_of b.plans) = omega arith in
     only-these b ok (keeps b.plans) e fits n k s was over m (omega (arith, each, enough))

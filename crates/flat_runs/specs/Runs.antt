@@ -9,8 +9,8 @@ use Rattle.machine_model.specs.Laws.{IsPrefix}
 use Rattle.suifvm_ir.specs.Functions.{count_of}
 use Rattle.alloc_model.specs.Contents.{Content}
 use Rattle.alloc_model.specs.Places.{Places, Plan, placed_code}
-use Rattle.flat_steps.specs.Laws.{IsOver}
-use Rattle.flat_steps.specs.Builds.{Build, IsBuilt}
+use Rattle.flat_steps.specs.Laws.{RunIsOver}
+use Rattle.flat_steps.specs.Builds.{Build, BuildStands}
 use Rattle.flat_steps.specs.Matching.{Matches, FitsStack}
 
 abbrev pub run_of : Build → (steps : ℕ) → Config Places → Next Places
@@ -32,14 +32,14 @@ pub record HasWritten (b : Build) (bytes : List ℕ) (s : State) : Type 0 where
 
 abbrev pub RunIsDone : Build → State → Next Places → Type 0
 RunIsDone b s (Goes d) = ComesTo b d s
-RunIsDone b s (Over (Done w status)) = IsOver b.program w.outer (step.Done status) s
-RunIsDone b s (Over (Trap w code)) = IsOver b.program w.outer (step.Trap code) s
+RunIsDone b s (Over (Done w status)) = RunIsOver b.program w.outer (step.Done status) s
+RunIsDone b s (Over (Trap w code)) = RunIsOver b.program w.outer (step.Trap code) s
 RunIsDone b s (Over (Undefined w at)) = Unit {0}
 RunIsDone b s (Over (More w)) = HasWritten b w.outer.output s
 
 abbrev pub RunsAreDone : Type 0
 RunsAreDone =
-    (b : Build) → IsBuilt b → (n : ℕ) (k : Config Places) (s : State) → Matches b k s → FitsStack b (run_of b n k) →
+    (b : Build) → BuildStands b → (n : ℕ) (k : Config Places) (s : State) → Matches b k s → FitsStack b (run_of b n k) →
     RunIsDone b s (run_of b n k)
 
 -- ---- and nothing else
@@ -72,6 +72,6 @@ BelongsTo (step.Over h last) e = IsEndOf h last e
 
 abbrev pub OnlyTheseEnd : Type 0
 OnlyTheseEnd =
-    (b : Build) → IsBuilt b → (n : ℕ) (k : Config Places) (s : State) (e : Ending) → Matches b k s →
+    (b : Build) → BuildStands b → (n : ℕ) (k : Config Places) (s : State) (e : Ending) → Matches b k s →
     run_of b n k ≡ Over e → FitsStack b (Over e) → (m : ℕ) → turns_for b.plans m ≤ k.world.meter.turns →
     BelongsTo (step.exec b.program m s) e

@@ -31,7 +31,7 @@ use Rattle.flat_frames.proofs.Shapes.{pieces_of, frames_are_small}
 use Rattle.frame_accesses.specs.Laws.{IsAt}
 use Rattle.frame_accesses.proofs.Runs.{stands, bytes-same, reached-same, parts-same}
 use Rattle.frame_transfers.specs.Items.{items_of_transfers}
-use Rattle.frame_transfers.specs.Laws.{Call, StandsFor}
+use Rattle.frame_transfers.specs.Laws.{CallAt, StandsFor}
 use Rattle.call_parts.specs.Items.{entry_part}
 use Rattle.call_parts.specs.Laws.{IsFrameAt, EntryDone}
 use Rattle.call_parts.proofs.Entries.{entries_are_done}
@@ -42,7 +42,7 @@ use Rattle.flat_runs.specs.Entering.{extents_from}
 use Rattle.flat_runs.proofs.Begins.{get-behind, sizes-are, extent-of, size-of, before-whole}
 use Rattle.flat_runs.specs.Items.{block_items, blocks_items, exit_items}
 use Rattle.flat_runs.proofs.Edges.{label-passed}
-use Rattle.flat_runs.specs.Builds.{Build, FunctionIsBuilt, IsBuilt}
+use Rattle.flat_runs.specs.Builds.{Build, FunctionIsBuilt, BuildStands}
 use Rattle.flat_runs.specs.Matching.{items_from, FitsStack}
 use Rattle.flat_runs.proofs.Lists.{drop-some, stands-at, get-map}
 use Rattle.flat_runs.specs.Runs.{ComesTo}
@@ -93,7 +93,7 @@ or-first t u e = ap (λ z. z || u) e
 between : (a y e : ℕ) → a ≤ y → y < e → (nat_le a y && nat_lt y e) ≡ true
 between a y e le lt = ap (λ t. t && nat_lt y e) (le-leb a y le) ∙ lt-ltb y e lt
 
-module _ (b : Build) (main stack : ℕ) (globals : List DataObject) (ok : IsBuilt b) (g : IsBegun b main stack globals) (input : List ℕ) (turns : ℕ) (are-bytes : AreBytes input) (fits : FitsStack b (Goes (first_config b main (start_world globals input turns)))) (a : Plan) (is : slice_get b.plans main ≡ Some a) where
+module _ (b : Build) (main stack : ℕ) (globals : List DataObject) (ok : BuildStands b) (g : IsBegun b main stack globals) (input : List ℕ) (turns : ℕ) (are-bytes : AreBytes input) (fits : FitsStack b (Goes (first_config b main (start_world globals input turns)))) (a : Plan) (is : slice_get b.plans main ≡ Some a) where
   abbrev p : Program
   p = b.program
 
@@ -226,7 +226,7 @@ module _ (b : Build) (main stack : ℕ) (globals : List DataObject) (ok : IsBuil
   owner : Owners
   owner y = if nat_lt y sp then owner_of (data_start p) globals y else if nat_lt y b.start.top then owner_at shape 0 own (y - sp) else Nobody
 
-  abbrev D : Call
+  abbrev D : CallAt
   D = record {
     extents = b.globals ++ extents_from (sp + objects_at shape) shape.sizes;
     owner = owner;
@@ -405,7 +405,7 @@ module _ (b : Build) (main stack : ℕ) (globals : List DataObject) (ok : IsBuil
           };
         }
 
-pub starts_are_matched : (b : Build) (main stack : ℕ) (globals : List DataObject) → IsBuilt b → IsBegun b main stack globals → (input : List ℕ) (turns : ℕ) → AreBytes input → FitsStack b (Goes (first_config b main (start_world globals input turns))) → ComesTo b (first_config b main (start_world globals input turns)) (behave.start b.program stack input)
+pub starts_are_matched : (b : Build) (main stack : ℕ) (globals : List DataObject) → BuildStands b → IsBegun b main stack globals → (input : List ℕ) (turns : ℕ) → AreBytes input → FitsStack b (Goes (first_config b main (start_world globals input turns))) → ComesTo b (first_config b main (start_world globals input turns)) (behave.start b.program stack input)
 starts_are_matched b main stack globals ok g input turns bytes fits =
     let z = stands-at b.plans main g.main_there in
     let d = branched b main stack globals ok g input turns bytes fits z.one z.is in

@@ -14,7 +14,7 @@ use Rattle.alloc_model.specs.Temporaries.{start_world}
 use Rattle.alloc_model.specs.Places.{Places, placed_code}
 use Rattle.flat_memory.specs.Bytes.{AreBytes}
 use Rattle.instruction_items.specs.Items.{function_label}
-use Rattle.flat_runs.specs.Builds.{Build, IsBuilt}
+use Rattle.flat_runs.specs.Builds.{Build, BuildStands}
 use Rattle.flat_runs.specs.Matching.{FitsStack}
 use Rattle.flat_runs.specs.Runs.{ComesTo}
 use Rattle.flat_globals.specs.Globals.{AreLaidOut, DataIs, extents_of}
@@ -38,7 +38,7 @@ first_config b main w = start Content Places b.rooms (placed_code b.plans) main 
 
 abbrev pub StartsAreMatched : Type 0
 StartsAreMatched =
-    (b : Build) (main stack : ℕ) (globals : List DataObject) → IsBuilt b → IsBegun b main stack globals →
+    (b : Build) (main stack : ℕ) (globals : List DataObject) → BuildStands b → IsBegun b main stack globals →
     (input : List ℕ) (turns : ℕ) → AreBytes input →
     FitsStack b (Goes (first_config b main (start_world globals input turns))) →
     ComesTo b (first_config b main (start_world globals input turns)) (behave.start b.program stack input)

@@ -26,7 +26,7 @@ use Rattle.stack_rooms.proofs.Rooms.{frames_fill_stack, room_is_there}
 use Rattle.call_steps.proofs.Calls.{calls_are_done, returns_are_done, last_returns_are_done}
 use Rattle.edge_shapes.specs.Shapes.{shape_of}
 use Rattle.edge_shapes.proofs.FunctionShapesFits.{plans_fit}
-use Rattle.flat_steps.specs.Builds.{Build, IsBuilt}
+use Rattle.flat_steps.specs.Builds.{Build, BuildStands}
 use Rattle.flat_steps.specs.Matching.{items_from, WaitsFor, AreWaiting, rooms_of, Matches, FitsStack, StepIsDone}
 use Rattle.flat_steps.proofs.Lists.{get-below, stands-at, get-map, insn-is, width-fits}
 use Rattle.flat_steps.proofs.Points.{site-is}
@@ -38,7 +38,7 @@ frames-hold : (s : FrameShape) (gs : List Waiting) → frame_size s ≤ frames_s
 frames-hold s [] = omega arith
 frames-hold s (g ∷ gs) = omega arith
 
-module _ (b : Build) (ok : IsBuilt b) (k : Config Places) (s : State) (m : Matches b k s) where
+module _ (b : Build) (ok : BuildStands b) (k : Config Places) (s : State) (m : Matches b k s) where
   -- what stands there
   abbrev site : TempInsn → Site Content Places
   site x = placed_site (widest_call m.plan.function.blocks) (transfers_at m.plan k.here.point.block k.here.point.at) (registers_at m.plan k.here.point.block k.here.point.at) x

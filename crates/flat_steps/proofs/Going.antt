@@ -25,7 +25,7 @@ use Rattle.call_steps.proofs.Edges.{edges_are_done, ends_are_done, jumps_are_don
 use Rattle.edge_shapes.specs.Items.{top_transfers, end_transfers, insns_items, block_items, blocks_items, exit_items}
 use Rattle.edge_shapes.proofs.Fits.{targets_fit, ends_fit}
 use Rattle.edge_shapes.proofs.Tops.{tops_fit}
-use Rattle.flat_steps.specs.Builds.{Build, IsBuilt}
+use Rattle.flat_steps.specs.Builds.{Build, BuildStands}
 use Rattle.flat_steps.specs.Matching.{items_from, Matches, StepIsDone}
 use Rattle.flat_steps.proofs.Lists.{drop-some, drop-none, stands-at, count-behind}
 use Rattle.flat_steps.proofs.Points.{place-is}
@@ -46,7 +46,7 @@ both false q e = absurd (cc)
 blocks-begin : (a : Plan) (g : ItemSetting) (n block : ℕ) (insns : List TempInsn) (rest : List AsmItem) → slice_get a.function.blocks block ≡ Some insns → blocks_items a g n (drop block a.function.blocks) rest ≡ Label (g.block_label n) ∷ block_items a g n insns (blocks_items a g (suc n) (drop (suc block) a.function.blocks) rest)
 blocks-begin a g n block insns rest is = ap (λ l. blocks_items a g n l rest) (drop-some a.function.blocks block insns is)
 
-module _ (b : Build) (ok : IsBuilt b) (k : Config Places) (s : State) (m : Matches b k s) where
+module _ (b : Build) (ok : BuildStands b) (k : Config Places) (s : State) (m : Matches b k s) where
   -- ---- a jump
 
   pub jump-step : (block : ℕ) (there : slice_get m.insns k.here.point.at ≡ Some (i.Jump block)) (t : Meter) → IsMetered k.world.meter t → StepIsDone b k s (act_on Content Places b.rooms (placed_code b.plans) k t (placed_site (widest_call m.plan.function.blocks) (transfers_at m.plan k.here.point.block k.here.point.at) (registers_at m.plan k.here.point.block k.here.point.at) (i.Jump block)) ((placed_site (widest_call m.plan.function.blocks) (transfers_at m.plan k.here.point.block k.here.point.at) (registers_at m.plan k.here.point.block k.here.point.at) (i.Jump block)).does k.here.own [] k.world.outer))

@@ -14,7 +14,7 @@ use Rattle.edge_shapes.specs.Points.{is_local, PointIsLeft, PointIsDone}
 use Rattle.edge_shapes.proofs.Points.{points_are_done}
 use Rattle.stack_rooms.proofs.Rooms.{scratch_is_there}
 use Rattle.edge_shapes.specs.Items.{top_transfers, jump_transfers}
-use Rattle.flat_steps.specs.Builds.{Build, IsBuilt}
+use Rattle.flat_steps.specs.Builds.{Build, BuildStands}
 use Rattle.flat_steps.specs.Matching.{Matches, FitsStack, StepIsDone, step_of}
 use Rattle.flat_steps.proofs.Lists.{get-below}
 use Rattle.flat_steps.proofs.Points.{place-is, IsNoCall, no-call}
@@ -22,7 +22,7 @@ use Rattle.flat_steps.proofs.Meters.{IsMetered, rooms-fit}
 use Rattle.flat_steps.proofs.Naming.{names-there}
 use Rattle.flat_steps.proofs.Matched.{built, same-shape, few, is-insn, may, stated, rest, stands-plain, match-at, entered}
 
-module _ (b : Build) (ok : IsBuilt b) (k : Config Places) (s : State) (m : Matches b k s) (x : TempInsn) (there : slice_get m.insns k.here.point.at ≡ Some x) where
+module _ (b : Build) (ok : BuildStands b) (k : Config Places) (s : State) (m : Matches b k s) (x : TempInsn) (there : slice_get m.insns k.here.point.at ≡ Some x) where
   -- what stands there
   abbrev site : Site Content Places
   site = placed_site (widest_call m.plan.function.blocks) (transfers_at m.plan k.here.point.block k.here.point.at) (registers_at m.plan k.here.point.block k.here.point.at) x

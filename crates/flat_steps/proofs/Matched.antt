@@ -21,7 +21,7 @@ use Rattle.edge_shapes.specs.Items.{top_transfers, jump_transfers, end_transfers
 use Rattle.edge_shapes.specs.Shapes.{PlanFits}
 use Rattle.edge_shapes.proofs.FunctionShapesFits.{plans_fit}
 use Rattle.edge_shapes.proofs.Tops.{tops_fit}
-use Rattle.flat_steps.specs.Builds.{Build, FunctionIsBuilt, IsBuilt}
+use Rattle.flat_steps.specs.Builds.{Build, FunctionIsBuilt, BuildStands}
 use Rattle.flat_steps.specs.Matching.{items_from, Matches, IsFollowed}
 use Rattle.flat_steps.proofs.Lists.{drop-some, stands-at, insn-is}
 use Rattle.flat_steps.proofs.Meters.{IsMetered}
@@ -32,7 +32,7 @@ items_behind b a f block insns =
     items_of_transfers (b.setting f).shape (end_transfers a block insns)
     (blocks_items a (b.setting f) (suc block) (drop (suc block) a.function.blocks) (exit_items (b.setting f) (b.behind f)))
 
-module _ (b : Build) (ok : IsBuilt b) (k : Config Places) (s : State) (m : Matches b k s) where
+module _ (b : Build) (ok : BuildStands b) (k : Config Places) (s : State) (m : Matches b k s) where
   pub built : FunctionIsBuilt b k.here.point.function m.plan
   built = ok.functions k.here.point.function m.plan m.is_in.plan
 

@@ -8,11 +8,11 @@ use Rattle.temp_ir.specs.declared.insn.TempInsn.{TempInsn}
 use Rattle.temp_ir.specs.declared.insn.TempInsn.TheVariants as i
 use Rattle.alloc_model.specs.Places.{Places}
 use Rattle.stack_rooms.specs.Laws.{IsThere}
-use Rattle.flat_steps.specs.Builds.{Build, any_call, IsBuilt}
+use Rattle.flat_steps.specs.Builds.{Build, any_call, BuildStands}
 use Rattle.flat_steps.specs.Matching.{Matches}
 use Rattle.flat_steps.proofs.Matched.{same-shape}
 
-pub names-there : (b : Build) (ok : IsBuilt b) (k : Config Places) (s : State) (m : Matches b k s) (x : TempInsn) → IsThere b.program (b.setting k.here.point.function) (any_call b k.here.point.function) x → IsThere b.program (b.setting k.here.point.function) m.call x
+pub names-there : (b : Build) (ok : BuildStands b) (k : Config Places) (s : State) (m : Matches b k s) (x : TempInsn) → IsThere b.program (b.setting k.here.point.function) (any_call b k.here.point.function) x → IsThere b.program (b.setting k.here.point.function) m.call x
 names-there b ok k s m (i.ObjectAddress d (Global n) plus) h = record {
   extent = h.extent;
   made = m.globals n h.extent h.made;

@@ -16,9 +16,9 @@ use Rattle.alloc_model.specs.Temporaries.{is_left_at, site_or_next, site_in}
 use Rattle.alloc_model.specs.Places.{Plan, linear_number, transfers_at, registers_at, placed_site, placed_site_in, placed_code}
 use Rattle.edge_shapes.specs.Points.{is_local}
 use Rattle.flat_steps.specs.Builds.{Build}
-use Rattle.flat_steps.specs.Matching.{IsIn, place_in, place_of}
+use Rattle.flat_steps.specs.Matching.{StandsInPlan, place_in, place_of}
 
-pub site-is : (b : Build) (p : Point) (a : Plan) (insns : List TempInsn) → IsIn b p a insns → (placed_code b.plans).site p ≡ site_or_next (placed_site (widest_call a.function.blocks) (transfers_at a p.block p.at) (registers_at a p.block p.at)) p.block (is_left_at insns p.at) (slice_get insns p.at)
+pub site-is : (b : Build) (p : Point) (a : Plan) (insns : List TempInsn) → StandsInPlan b p a insns → (placed_code b.plans).site p ≡ site_or_next (placed_site (widest_call a.function.blocks) (transfers_at a p.block p.at) (registers_at a p.block p.at)) p.block (is_left_at insns p.at) (slice_get insns p.at)
 site-is b p a insns h =
     ap (λ o. placed_site_in o p) h.plan
     ∙ ap (λ o. site_in (λ at. placed_site (widest_call a.function.blocks) (transfers_at a p.block at) (registers_at a p.block at)) p.block p.at o) h.block

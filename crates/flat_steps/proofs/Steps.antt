@@ -14,7 +14,7 @@ use Rattle.alloc_model.specs.Temporaries.{is_left_at, site_or_next}
 use Rattle.alloc_model.specs.Places.{Places, edge_transfers, transfers_at, registers_at, placed_site, placed_code}
 use Rattle.edge_shapes.specs.Points.{is_local}
 use Rattle.edge_shapes.specs.Items.{top_transfers, jump_transfers}
-use Rattle.flat_steps.specs.Builds.{Build, IsBuilt}
+use Rattle.flat_steps.specs.Builds.{Build, BuildStands}
 use Rattle.flat_steps.specs.Matching.{Matches, FitsStack, StepIsDone, step_of}
 use Rattle.flat_steps.proofs.Lists.{none-stands, one-stands}
 use Rattle.flat_steps.proofs.Points.{site-is}
@@ -24,7 +24,7 @@ use Rattle.flat_steps.proofs.Local.{local-step}
 use Rattle.flat_steps.proofs.Going.{jump-step, end-step}
 use Rattle.flat_steps.proofs.Calling.{call-step, return-step}
 
-module _ (b : Build) (ok : IsBuilt b) (k : Config Places) (s : State) (m : Matches b k s) (fits : FitsStack b (step_of b k)) where
+module _ (b : Build) (ok : BuildStands b) (k : Config Places) (s : State) (m : Matches b k s) (fits : FitsStack b (step_of b k)) where
   abbrev site : TempInsn → Site Content Places
   site x = placed_site (widest_call m.plan.function.blocks) (transfers_at m.plan k.here.point.block k.here.point.at) (registers_at m.plan k.here.point.block k.here.point.at) x
 
@@ -65,7 +65,7 @@ module _ (b : Build) (ok : IsBuilt b) (k : Config Places) (s : State) (m : Match
   at-place None e fit = end-step b ok k s m e (is_left_at m.insns k.here.point.at) refl
   at-place (Some x) e fit = turned x e (turn_if (takes_turn x) k.world.meter) refl fit
 
-pub steps_are_done : (b : Build) → IsBuilt b → (k : Config Places) (s : State) → Matches b k s → FitsStack b (step_of b k) → StepIsDone b k s (step_of b k)
+pub steps_are_done : (b : Build) → BuildStands b → (k : Config Places) (s : State) → Matches b k s → FitsStack b (step_of b k) → StepIsDone b k s (step_of b k)
 steps_are_done b ok k s m fits =
     subst (λ z. FitsStack b (step_at Content Places b.rooms (placed_code b.plans) k z) → StepIsDone b k s (step_at Content Places b.rooms (placed_code b.plans) k z)) (sym (site-is b k.here.point m.plan m.insns m.is_in))
     (at-place b ok k s m fits (slice_get m.insns k.here.point.at) refl) fits

@@ -16,7 +16,7 @@ use Rattle.alloc_model.specs.Places.{Plan, edge_transfers}
 use Rattle.alloc_model.specs.Faithful.{Faithful}
 use Rattle.flat_memory.specs.Relation.{Extents, Nobody}
 use Rattle.flat_frames.specs.Shapes.{frame_size}
-use Rattle.frame_transfers.specs.Laws.{Call}
+use Rattle.frame_transfers.specs.Laws.{CallAt}
 use Rattle.stack_rooms.specs.Items.{ItemSetting}
 use Rattle.stack_rooms.specs.Laws.{IsThere}
 use Rattle.call_steps.specs.Stacks.{Start}
@@ -62,7 +62,7 @@ pub record Build : Type 0 where
   pub globals : Extents
 
 -- what any call of a function has
-abbrev pub any_call : Build → (function : ℕ) → Call
+abbrev pub any_call : Build → (function : ℕ) → CallAt
 any_call b f = record {
   extents = b.globals;
   owner = λ y. Nobody;
@@ -87,7 +87,7 @@ pub record FunctionIsBuilt (b : Build) (f : ℕ) (a : Plan) : Type 0 where
       insn_at a.function.blocks block at ≡ Some (i.Call function arguments) → function < length b.plans
 
 -- so do all functions and the division routines; a run ends behind its first call
-pub record IsBuilt (b : Build) : Type 0 where
+pub record BuildStands (b : Build) : Type 0 where
   pub functions : (f : ℕ) (a : Plan) → slice_get b.plans f ≡ Some a → FunctionIsBuilt b f a
   pub routines : RoutinesStand b.program b.there
   pub ending : b.start.behind ≡ ending_items

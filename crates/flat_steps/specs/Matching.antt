@@ -17,17 +17,17 @@ use Rattle.alloc_model.specs.Contents.{Content}
 use Rattle.alloc_model.specs.Places.{Places, Plan, linear_number, transfers_at, do_all, placed_code}
 use Rattle.flat_memory.specs.Laws.{MoreExtents}
 use Rattle.frame_transfers.specs.Items.{items_of_transfers}
-use Rattle.frame_transfers.specs.Laws.{Call, FitsTheStack, StandsFor}
-use Rattle.stack_rooms.specs.Laws.{usable, HasOuter, IsOver}
+use Rattle.frame_transfers.specs.Laws.{CallAt, FitsTheStack, StandsFor}
+use Rattle.stack_rooms.specs.Laws.{usable, HasOuter, RunIsOver}
 use Rattle.call_steps.specs.Stacks.{Waiting, StackIs}
 use Rattle.edge_shapes.specs.Items.{insns_items, end_transfers, blocks_items, exit_items}
 use Rattle.edge_shapes.specs.Shapes.{shape_of}
-use Rattle.flat_steps.specs.Builds.{Build, IsBuilt}
+use Rattle.flat_steps.specs.Builds.{Build, BuildStands}
 
 -- ---- places
 
 -- a point stands in a block of a plan, or at its end
-pub record IsIn (b : Build) (p : Point) (a : Plan) (insns : List TempInsn) : Type 0 where
+pub record StandsInPlan (b : Build) (p : Point) (a : Plan) (insns : List TempInsn) : Type 0 where
   pub plan : slice_get b.plans p.function ≡ Some a
   pub block : slice_get a.function.blocks p.block ≡ Some insns
   pub within : p.at ≤ length insns
@@ -46,7 +46,7 @@ items_from b a p insns =
 pub record WaitsFor (b : Build) (f : Frame Places) (g : Waiting) : Type 0 where
   pub plan : Plan
   pub insns : List TempInsn
-  pub is_in : IsIn b f.point plan insns
+  pub is_in : StandsInPlan b f.point plan insns
   pub function : ℕ
   pub arguments : ℕ
   pub stands : slice_get insns f.point.at ≡ Some (i.Call function arguments)
@@ -69,11 +69,11 @@ rooms_of rooms (f ∷ fs) = room_of rooms f.point.function + rooms_of rooms fs
 -- ---- the machine stands for a run
 
 pub record Matches (b : Build) (k : Config Places) (s : State) : Type 0 where
-  pub call : Call
+  pub call : CallAt
   pub waiting : List Waiting
   pub plan : Plan
   pub insns : List TempInsn
-  pub is_in : IsIn b k.here.point plan insns
+  pub is_in : StandsInPlan b k.here.point plan insns
   pub shape : call.shape ≡ shape_of plan
   pub own : call.own ≡ k.here.own
   pub is_call : FitsTheStack call
@@ -111,8 +111,8 @@ FitsStack b n = stack_start b.program + (next_world n).meter.peak ≤ b.start.to
 -- the machine does what a step comes to, unless that is Undefined
 abbrev pub StepIsDone : Build → Config Places → State → Next Places → Type 0
 StepIsDone b k s (Goes d) = IsFollowed b k d s
-StepIsDone b k s (Over (Done w status)) = IsOver b.program w.outer (step.Done status) s
-StepIsDone b k s (Over (Trap w code)) = IsOver b.program w.outer (step.Trap code) s
+StepIsDone b k s (Over (Done w status)) = RunIsOver b.program w.outer (step.Done status) s
+StepIsDone b k s (Over (Trap w code)) = RunIsOver b.program w.outer (step.Trap code) s
 StepIsDone b k s (Over (Undefined w at)) = Unit {0}
 StepIsDone b k s (Over (More w)) = (k.world.meter.turns ≡ 0) × (w.outer.output ≡ s.output)
 
@@ -121,5 +121,5 @@ step_of b k = machine.step Content Places b.rooms (placed_code b.plans) k
 
 abbrev pub StepsAreDone : Type 0
 StepsAreDone =
-    (b : Build) → IsBuilt b → (k : Config Places) (s : State) → Matches b k s → FitsStack b (step_of b k) →
+    (b : Build) → BuildStands b → (k : Config Places) (s : State) → Matches b k s → FitsStack b (step_of b k) →
     StepIsDone b k s (step_of b k)

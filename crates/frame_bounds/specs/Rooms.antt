@@ -7,8 +7,8 @@ use Rattle.frame_emitter.specs.Shapes.{shape_of}
 
 -- a room is 256 bytes, 64 for each unit of the weight of its function, and those of its memory locals, each up to a
 -- multiple of 8
-abbrev pub FramesFitRooms : Type 0
-FramesFitRooms =
+abbrev pub PlansFitRooms : Type 0
+PlansFitRooms =
     (a : Plan) (weight bytes : ℕ) → a.temps ≤ 7 * weight + 16 → widest_call a.function.blocks ≤ weight →
     objects_size a.function.sizes ≤ bytes → frame_size (shape_of a) + 32 ≤ 256 + 64 * weight + bytes
 

@@ -1,6 +1,6 @@
 //! Laws of frames and items, each the contract of a function that does nothing.
 
-ghost use Rattle.frame_bounds.specs.Rooms.{FramesFitRooms, FramesAreFew, FramesAreWhole, ObjectsAreAligned};
+ghost use Rattle.frame_bounds.specs.Rooms.{PlansFitRooms, FramesAreFew, FramesAreWhole, ObjectsAreAligned};
 ghost use Rattle.frame_bounds.specs.Near.{NearPlansAreTheSame, NearShapesAreTheSame};
 ghost use Rattle.frame_bounds.specs.Fronts.{ItemsStandInFront};
 
@@ -9,7 +9,7 @@ ghost use Rattle.frame_bounds.specs.Fronts.{ItemsStandInFront};
 /// objects. A frame has at most the bytes of its slots, of the arguments of the widest call and of its objects and 64
 /// more, up to a multiple of 16, and is one; each object begins at a multiple of 8.
 pub fn frames_fit_rooms()
-    ensures rooms { FramesFitRooms }
+    ensures rooms { PlansFitRooms }
     ensures few { FramesAreFew }
     ensures whole { FramesAreWhole }
     ensures aligned { ObjectsAreAligned }

@@ -4,7 +4,7 @@ use Rattle.std.specs.Prelude.{◌&&◌, ◌==◌, nat_le, IsTrue, ◌↔◌, sli
 use Rattle.std.proofs.lemmas.Bool.{le-leb, lt-leb, eq-eqb, ne_eqb, leb-true, eqb-true, and_parts, and_from}
 use Rattle.std.proofs.lemmas.List.{at_drop_more, at_drop_all}
 use Rattle.data_object.specs.declared.DataObject.{DataObject}
-use Rattle.data_object.specs.Layout.{place_after, LieFrom, end_of, data_end}
+use Rattle.data_object.specs.Layout.{place_after, ObjectsLieFrom, end_of, data_end}
 use Rattle.suifvm_ir.specs.declared.function.MemoryLocal.{MemoryLocal}
 use Rattle.flat_frames.specs.Shapes.{objects_size}
 use Rattle.frame_checks.specs.model.Storage.{lie_from, are_small_from}
@@ -128,15 +128,15 @@ lie-if end (x ∷ xs) h =
 end-next : (x y : DataObject) (xs : List DataObject) → data_end (x ∷ y ∷ xs) ≡ data_end (y ∷ xs)
 end-next x y xs = let e : suc (suc (length xs)) - 1 ≡ suc (suc (length xs) - 1) = omega arith in ap (λ k. end_of (slice_get (x ∷ y ∷ xs) k)) e
 
-later : (end : ℕ) (y : DataObject) (xs : List DataObject) → LieFrom end (y ∷ xs) → data_end (y ∷ xs) ≤ most → LieWithin end (y ∷ xs)
+later : (end : ℕ) (y : DataObject) (xs : List DataObject) → ObjectsLieFrom end (y ∷ xs) → data_end (y ∷ xs) ≤ most → LieWithin end (y ∷ xs)
 later end y [] h last = (h.0, last)
 later end y (z ∷ xs) h last = (h.0, later (y.offset + y.size) z xs h.1 (subst (λ n. n ≤ most) (end-next y z xs) last))
 
-lies-within : (end : ℕ) (xs : List DataObject) → LieFrom end xs → end ≤ most → data_end xs ≤ most → LieWithin end xs
+lies-within : (end : ℕ) (xs : List DataObject) → ObjectsLieFrom end xs → end ≤ most → data_end xs ≤ most → LieWithin end xs
 lies-within end [] h le last = le
 lies-within end (x ∷ xs) h le last = later end x xs h last
 
-within-lies : (end : ℕ) (xs : List DataObject) → LieWithin end xs → LieFrom end xs
+within-lies : (end : ℕ) (xs : List DataObject) → LieWithin end xs → ObjectsLieFrom end xs
 within-lies end [] h = tt
 within-lies end (x ∷ xs) h = (h.0, within-lies (x.offset + x.size) xs h.1)
 
@@ -144,7 +144,7 @@ within-last : (end : ℕ) (x : DataObject) (xs : List DataObject) → LieWithin 
 within-last end x [] h = h.1
 within-last end x (y ∷ xs) h = subst (λ n. n ≤ most) (sym (end-next x y xs)) (within-last (x.offset + x.size) y xs h.1)
 
-pub lie_decides : (xs : List DataObject) → IsTrue (lie_from 0 xs) ↔ (LieFrom 0 xs × (data_end xs ≤ most))
+pub lie_decides : (xs : List DataObject) → IsTrue (lie_from 0 xs) ↔ (ObjectsLieFrom 0 xs × (data_end xs ≤ most))
 lie_decides xs = (
   λ e. let h = lie-from 0 xs e (omega arith) in (within-lies 0 xs h, last xs h),
   λ h. lie-if 0 xs (lies-within 0 xs h.0 (omega arith) h.1),

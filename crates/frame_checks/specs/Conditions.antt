@@ -1,9 +1,9 @@
--- When a function with an allocation can be laid out, as far as that goes by numbers. That the allocation is faithful is
--- no part of it.
+-- When a function with an allocation can be laid out, as far as that goes by numbers. That the allocation is faithful
+-- is no part of it.
 use Rattle.std.specs.Prelude.{ℕ, ◌+◌, ◌-◌, ◌^◌, ◌<◌, ◌≤◌, List, map, length}
 use Rattle.data_object.specs.declared.DataObject.{DataObject}
 use Rattle.data_object.specs.declared.TheConstants.{MOST_DATA}
-use Rattle.data_object.specs.Layout.{LieFrom, data_end}
+use Rattle.data_object.specs.Layout.{ObjectsLieFrom, data_end}
 use Rattle.suifvm_ir.specs.Functions.{AllInsns}
 use Rattle.alloc_model.specs.declared.allocation.Allocation.{Allocation}
 use Rattle.alloc_model.specs.Effect.{widest_call}
@@ -18,7 +18,7 @@ pub record CanBeLaidOut (a : Allocation) (globals : List DataObject) (number fir
   -- its blocks and its exit part have labels of 32 bits
   pub labels : first_label + length a.func.blocks < 2 ^ 32 - 1
   -- the objects of static storage lie one behind the other, with no more bytes than data may have
-  pub layout : LieFrom 0 globals
+  pub layout : ObjectsLieFrom 0 globals
   pub data_size : data_end globals ≤ MOST_DATA
   -- each object that it names is there, with a number from 0 to its size added to its address
   pub names : AllInsns (NamesObjects globals a.func.objects) a.func.blocks

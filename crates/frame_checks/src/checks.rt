@@ -2,7 +2,7 @@
 
 ghost use Rattle.std.specs.Prelude.{◌≡◌, ◌+◌, ◌-◌, ◌<◌, ◌≤◌, ◌^◌, ◌↔◌, length, map, IsTrue};
 ghost use Rattle.std.specs.Bool.{OnTrue};
-ghost use Rattle.data_object.specs.Layout.{LieFrom, data_end};
+ghost use Rattle.data_object.specs.Layout.{ObjectsLieFrom, data_end};
 ghost use Rattle.suifvm_ir.specs.Functions.{AllInsns};
 ghost use Rattle.alloc_model.specs.Effect.{widest_call};
 ghost use Rattle.flat_frames.specs.Shapes.{objects_size};
@@ -63,7 +63,7 @@ pub fn can_be_laid_out(
     ensures own { OnTrue result (256 + number < first_label) }
     ensures calls { OnTrue result (AllInsns (CallsBelow first_label) a.now.func.blocks) }
     ensures labels { OnTrue result (first_label + length a.now.func.blocks < 2 ^ 32 - 1) }
-    ensures layout { OnTrue result (LieFrom 0 globals.now) }
+    ensures layout { OnTrue result (ObjectsLieFrom 0 globals.now) }
     ensures data_size { OnTrue result (data_end globals.now ≤ MOST_DATA) }
     ensures names { OnTrue result (AllInsns (NamesObjects globals.now a.now.func.objects) a.now.func.blocks) }
     ensures objects { OnTrue result (objects_size (map (λ o. o.size) a.now.func.objects) ≤ MOST_DATA) }

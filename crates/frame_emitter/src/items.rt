@@ -2,7 +2,7 @@
 
 ghost use Rattle.std.specs.Prelude.{◌≡◌, ◌<◌, [], ◌∷◌, reverse, OnOk};
 ghost use Rattle.alpha_isa.specs.declared.insn.Fields.TheVariants as fields;
-ghost use Rattle.alpha_isa.specs.Lawful.{IsLawful};
+ghost use Rattle.alpha_isa.specs.Lawful.{AreLawfulFields};
 ghost use Rattle.alpha_items.specs.declared.item.AsmItem.TheVariants as item;
 
 use alpha_isa::insn::{BranchOp, Fields, Insn32, MemoryOp};
@@ -53,7 +53,7 @@ impl FrameItems {
 
     /// An instruction that stands as it is.
     pub fn plain(&mut self, fields: Fields) -> Result<(), AllocError>
-        requires { IsLawful fields }
+        requires { AreLawfulFields fields }
         ensures { OnOk result (self.new ≡ item.Plain fields ∷ self.old) }
     {
         self.put(AsmItem::Plain(Insn32 { fields }))

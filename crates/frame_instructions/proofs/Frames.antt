@@ -21,7 +21,7 @@ use Rattle.flat_frames.proofs.Shapes.{pieces_of}
 use Rattle.flat_frames.proofs.Frames.{unwritten-put, own-written, argument-word, arguments_are_put}
 use Rattle.frame_accesses.specs.Items.{frame_load, frame_store, frame_address}
 use Rattle.frame_accesses.proofs.Runs.{stands, frame_loads, frame_stores, frame_addresses, bytes-same, reached-same, parts-same}
-use Rattle.frame_transfers.specs.Laws.{Call, FitsTheStack, StandsFor, KnowsValues, IsWritable, HasDone}
+use Rattle.frame_transfers.specs.Laws.{CallAt, FitsTheStack, StandsFor, KnowsValues, IsWritable, HasDone}
 use Rattle.frame_instructions.specs.Laws.{GivesRegister}
 use Rattle.frame_instructions.specs.FrameLaws.{IsArgument, address_content}
 use Rattle.frame_instructions.proofs.Runs.{gives}
@@ -32,7 +32,7 @@ before-whole sizes zero = refl
 before-whole [] (suc k) = refl
 before-whole (n ∷ sizes) (suc k) = let h = before-whole sizes k in omega (arith, h)
 
-module _ (p : Program) (there : Labels) (rest : List AsmItem) (end : ℕ) (c : Call) (m : memory.Memory) (known : ℕ → Bool) (store : Places) (s : State) (call : FitsTheStack c) (knows : KnowsValues known) where
+module _ (p : Program) (there : Labels) (rest : List AsmItem) (end : ℕ) (c : CallAt) (m : memory.Memory) (known : ℕ → Bool) (store : Places) (s : State) (call : FitsTheStack c) (knows : KnowsValues known) where
   -- ---- arguments
 
   pub arguments_are_written : (r k : ℕ) → StandsFor p there (frame_store r (argument_at k) ++ rest) end c m known store s → known r ≡ true → k < c.shape.outgoing → HasDone p there rest end c m known (put place_eq (Out k) (store (Reg r)) store) s

@@ -23,13 +23,13 @@ use Rattle.flat_memory.specs.Machine.{memory_bytes}
 use Rattle.flat_operations.specs.Contents.{ContentIs, EffectIs}
 use Rattle.flat_operations.proofs.Operations.{operations_correspond, extensions_correspond}
 use Rattle.frame_accesses.proofs.Runs.{stands}
-use Rattle.frame_transfers.specs.Laws.{Call, StandsFor, KnowsValues, IsWritable}
+use Rattle.frame_transfers.specs.Laws.{CallAt, StandsFor, KnowsValues, IsWritable}
 use Rattle.frame_instructions.specs.Laws.{StandsIn}
 use Rattle.frame_instructions.specs.OperationLaws.{IsSecond, DoesAnswer}
 use Rattle.frame_instructions.proofs.Runs.{stands-in, written-gives}
 use Rattle.frame_instructions.proofs.Words.{given-below}
 
-module _ (p : Program) (there : Labels) (rest : List AsmItem) (end : ℕ) (c : Call) (m : memory.Memory) (known : ℕ → Bool) (store : Places) (s : State) (knows : KnowsValues known) where
+module _ (p : Program) (there : Labels) (rest : List AsmItem) (end : ℕ) (c : CallAt) (m : memory.Memory) (known : ℕ → Bool) (store : Places) (s : State) (knows : KnowsValues known) where
   second-is : (items : List AsmItem) (right : Operand) (b : Content) → StandsFor p there items end c m known store s → IsSecond known store right b → ContentIs c.extents b (operand s right)
   second-is items (isa.Reg r) b h is = stands-in p there rest end c m known store s knows items r b h is
   second-is items (isa.Literal n) b h is = subst (λ z. ContentIs c.extents z n) (sym is.1) refl

@@ -33,11 +33,11 @@ use Rattle.flat_frames.specs.Frames.{FrameAndMemory}
 use Rattle.flat_frames.proofs.Frames.{unwritten-objects, frames_stay, registers_are_put}
 use Rattle.frame_accesses.specs.Laws.{HasCome}
 use Rattle.frame_accesses.proofs.Runs.{stands, word-written, bytes-same, reached-same, parts-same}
-use Rattle.frame_transfers.specs.Laws.{Call, StandsFor, KnowsValues, IsWritable, HasDone}
+use Rattle.frame_transfers.specs.Laws.{CallAt, StandsFor, KnowsValues, IsWritable, HasDone}
 use Rattle.frame_transfers.proofs.Runs.{frame-with_register, knows-more, kept-same, unsaved-other}
 use Rattle.frame_instructions.specs.Laws.{StandsIn, GivesRegister, BranchIsDone}
 
-module _ (p : Program) (there : Labels) (rest : List AsmItem) (end : ℕ) (c : Call) (m : memory.Memory) (known : ℕ → Bool) (store : Places) (s : State) (knows : KnowsValues known) where
+module _ (p : Program) (there : Labels) (rest : List AsmItem) (end : ℕ) (c : CallAt) (m : memory.Memory) (known : ℕ → Bool) (store : Places) (s : State) (knows : KnowsValues known) where
   -- a state in which a register has a word for a content
   pub gives : (items : List AsmItem) (h : StandsFor p there items end c m known store s) (r : ℕ) (content : Content) → IsWritable c.shape r → (t : State) → HasCome p there rest end s t → ContentIs c.extents content (register t r) → ((q : ℕ) → q ≢ r → q ≢ 29 → register t q ≡ register s q) → memory_bytes p t ≡ memory_bytes p s → GivesRegister p there rest end c m known store s r content
   gives items h r content value t come is others bytes = record {

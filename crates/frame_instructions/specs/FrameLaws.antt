@@ -16,20 +16,20 @@ use Rattle.flat_operations.specs.Contents.{ContentIs}
 use Rattle.flat_frames.specs.Shapes.{frame_size, argument_at, object_at}
 use Rattle.flat_frames.specs.Frames.{word_in}
 use Rattle.frame_accesses.specs.Items.{frame_load, frame_store, frame_address}
-use Rattle.frame_transfers.specs.Laws.{Call, FitsTheStack, StandsFor, KnowsValues, IsWritable, HasDone}
+use Rattle.frame_transfers.specs.Laws.{CallAt, FitsTheStack, StandsFor, KnowsValues, IsWritable, HasDone}
 use Rattle.frame_instructions.specs.Laws.{GivesRegister}
 
 -- an argument of the next call is written
 abbrev pub ArgumentsAreWritten : Type 0
 ArgumentsAreWritten =
-    (p : Program) (there : Labels) (rest : List AsmItem) (end : ℕ) (c : Call) (m : memory.Memory) (known : ℕ → Bool)
+    (p : Program) (there : Labels) (rest : List AsmItem) (end : ℕ) (c : CallAt) (m : memory.Memory) (known : ℕ → Bool)
     (store : Places) (s : State) → FitsTheStack c → KnowsValues known →
     (r k : ℕ) → StandsFor p there (frame_store r (argument_at k) ++ rest) end c m known store s →
     known r ≡ true → k < c.shape.outgoing →
     HasDone p there rest end c m known (put place_eq (Out k) (store (Reg r)) store) s
 
 -- an argument of this call stands above its frame, where the caller wrote it
-pub record IsArgument (c : Call) (k : ℕ) (content : Content) (p : Program) (s : State) : Type 0 where
+pub record IsArgument (c : CallAt) (k : ℕ) (content : Content) (p : Program) (s : State) : Type 0 where
   pub depth : ℕ
   pub owned : (i : ℕ) → i < 8 →
       c.owner (c.sp + (frame_size c.shape + argument_at k) + i) ≡ OfFrame depth (ArgumentPiece k)
@@ -39,7 +39,7 @@ pub record IsArgument (c : Call) (k : ℕ) (content : Content) (p : Program) (s 
 
 abbrev pub ArgumentsAreRead : Type 0
 ArgumentsAreRead =
-    (p : Program) (there : Labels) (rest : List AsmItem) (end : ℕ) (c : Call) (m : memory.Memory) (known : ℕ → Bool)
+    (p : Program) (there : Labels) (rest : List AsmItem) (end : ℕ) (c : CallAt) (m : memory.Memory) (known : ℕ → Bool)
     (store : Places) (s : State) → FitsTheStack c → KnowsValues known →
     (r k : ℕ) → StandsFor p there (frame_load r (frame_size c.shape + argument_at k) ++ rest) end c m known store s →
     IsWritable c.shape r → IsArgument c k (store (In k)) p s →
@@ -51,7 +51,7 @@ address_content o plus = Plain (Address (record { object = o; offset = pos plus 
 
 abbrev pub LocalsHaveAddresses : Type 0
 LocalsHaveAddresses =
-    (p : Program) (there : Labels) (rest : List AsmItem) (end : ℕ) (c : Call) (m : memory.Memory) (known : ℕ → Bool)
+    (p : Program) (there : Labels) (rest : List AsmItem) (end : ℕ) (c : CallAt) (m : memory.Memory) (known : ℕ → Bool)
     (store : Places) (s : State) → FitsTheStack c → KnowsValues known →
     (r k n plus : ℕ) → StandsFor p there (frame_address r (object_at c.shape k + plus) ++ rest) end c m known store s →
     IsWritable c.shape r → slice_get c.shape.sizes k ≡ Some n → plus ≤ n →
@@ -59,7 +59,7 @@ LocalsHaveAddresses =
 
 abbrev pub GlobalsHaveAddresses : Type 0
 GlobalsHaveAddresses =
-    (p : Program) (there : Labels) (rest : List AsmItem) (end : ℕ) (c : Call) (m : memory.Memory) (known : ℕ → Bool)
+    (p : Program) (there : Labels) (rest : List AsmItem) (end : ℕ) (c : CallAt) (m : memory.Memory) (known : ℕ → Bool)
     (store : Places) (s : State) → FitsTheStack c → KnowsValues known →
     (r k offset plus : ℕ) (e : Extent) →
     StandsFor p there (DataAddress r (offset + plus) ∷ rest) end c m known store s →

@@ -20,22 +20,22 @@ use Rattle.alloc_model.specs.Contents.{Content, word, moved_by, moved_content, l
 use Rattle.alloc_model.specs.Stores.{put}
 use Rattle.alloc_model.specs.Places.{Places, Reg, place_eq}
 use Rattle.flat_frames.specs.Frames.{with_known}
-use Rattle.frame_transfers.specs.Laws.{Call, FitsTheStack, StandsFor, KnowsValues, IsWritable, IsKept, HasDone}
+use Rattle.frame_transfers.specs.Laws.{CallAt, FitsTheStack, StandsFor, KnowsValues, IsWritable, IsKept, HasDone}
 
 -- a content stands in a register: that of a known one, or zero in register 31
 abbrev pub StandsIn : (known : ℕ → Bool) → Places → (register : ℕ) → Content → Type 0
 StandsIn known store r c = ((known r ≡ true) × (c ≡ store (Reg r))) ⊎ ((r ≡ 31) × (c ≡ word 0))
 
 -- a register holds another content behind some items
-abbrev pub GivesRegister : Program → Labels → List AsmItem → ℕ → Call → memory.Memory → (ℕ → Bool) → Places → State →
+abbrev pub GivesRegister : Program → Labels → List AsmItem → ℕ → CallAt → memory.Memory → (ℕ → Bool) → Places → State →
     (register : ℕ) → Content → Type 0
 GivesRegister p there rest end c m known store s r content =
     HasDone p there rest end c m (with_known known r) (put place_eq (Reg r) content store) s
 
 -- a load through a pointer
-abbrev pub LoadsAreDone : Type 0
-LoadsAreDone =
-    (p : Program) (there : Labels) (rest : List AsmItem) (end : ℕ) (c : Call) (m : memory.Memory) (known : ℕ → Bool)
+abbrev pub FrameLoadsAreDone : Type 0
+FrameLoadsAreDone =
+    (p : Program) (there : Labels) (rest : List AsmItem) (end : ℕ) (c : CallAt) (m : memory.Memory) (known : ℕ → Bool)
     (store : Places) (s : State) → FitsTheStack c → KnowsValues known →
     (op : LoadOp) (r pointer : ℕ) (plus : ℤ) (content : Content) →
     StandsFor p there (Plain (Memory (load_op op) r pointer plus) ∷ rest) end c m known store s →
@@ -43,9 +43,9 @@ LoadsAreDone =
     GivesRegister p there rest end c m known store s r content
 
 -- a store
-abbrev pub StoresAreDone : Type 0
-StoresAreDone =
-    (p : Program) (there : Labels) (rest : List AsmItem) (end : ℕ) (c : Call) (m : memory.Memory) (known : ℕ → Bool)
+abbrev pub FrameStoresAreDone : Type 0
+FrameStoresAreDone =
+    (p : Program) (there : Labels) (rest : List AsmItem) (end : ℕ) (c : CallAt) (m : memory.Memory) (known : ℕ → Bool)
     (store : Places) (s : State) → FitsTheStack c → KnowsValues known →
     (op : StoreOp) (r pointer : ℕ) (plus : ℤ) (value : Content) (new : memory.Memory) →
     StandsFor p there (Plain (Memory (store_op op) r pointer plus) ∷ rest) end c m known store s →
@@ -55,7 +55,7 @@ StoresAreDone =
 -- a word or a pointer that is moved by so many bytes
 abbrev pub MovesAreDone : Type 0
 MovesAreDone =
-    (p : Program) (there : Labels) (rest : List AsmItem) (end : ℕ) (c : Call) (m : memory.Memory) (known : ℕ → Bool)
+    (p : Program) (there : Labels) (rest : List AsmItem) (end : ℕ) (c : CallAt) (m : memory.Memory) (known : ℕ → Bool)
     (store : Places) (s : State) → FitsTheStack c → KnowsValues known →
     (op : AddressOp) (r base : ℕ) (plus : ℤ) (value content : Content) →
     StandsFor p there (Plain (Memory (address_op op) r base plus) ∷ rest) end c m known store s →
@@ -65,14 +65,14 @@ MovesAreDone =
 -- a register that is set to a number
 abbrev pub SetsAreDone : Type 0
 SetsAreDone =
-    (p : Program) (there : Labels) (rest : List AsmItem) (end : ℕ) (c : Call) (m : memory.Memory) (known : ℕ → Bool)
+    (p : Program) (there : Labels) (rest : List AsmItem) (end : ℕ) (c : CallAt) (m : memory.Memory) (known : ℕ → Bool)
     (store : Places) (s : State) → FitsTheStack c → KnowsValues known →
     (r : ℕ) (number : ℤ) → StandsFor p there (Plain (Memory Lda r 31 number) ∷ rest) end c m known store s →
     IsWritable c.shape r → IsDisplacement number →
     GivesRegister p there rest end c m known store s r (word (word_from number))
 
 -- a branch is taken or passed, and what the call holds is as before, but for register 28
-pub record BranchIsDone (p : Program) (there : Labels) (rest : List AsmItem) (end : ℕ) (c : Call) (m : memory.Memory)
+pub record BranchIsDone (p : Program) (there : Labels) (rest : List AsmItem) (end : ℕ) (c : CallAt) (m : memory.Memory)
     (known : ℕ → Bool) (store : Places) (l : ℕ) (taken : Bool) (s : State) : Type 0 where
   pub to : State
   pub comes : Comes p s to
@@ -87,7 +87,7 @@ pub record BranchIsDone (p : Program) (there : Labels) (rest : List AsmItem) (en
 
 abbrev pub BranchesAreDone : Type 0
 BranchesAreDone =
-    (p : Program) (there : Labels) (rest : List AsmItem) (end : ℕ) (c : Call) (m : memory.Memory) (known : ℕ → Bool)
+    (p : Program) (there : Labels) (rest : List AsmItem) (end : ℕ) (c : CallAt) (m : memory.Memory) (known : ℕ → Bool)
     (store : Places) (s : State) → FitsTheStack c → KnowsValues known → ((r : ℕ) → known r ≡ true → r < 28) →
     (op : TempBranchOp) (r l : ℕ) (taken : Bool) →
     StandsFor p there (Branch (branch_op op) r l ∷ rest) end c m known store s →

@@ -15,7 +15,7 @@ use Rattle.temp_ir.specs.declared.operation.ExtendOp.{ExtendOp}
 use Rattle.temp_ir.specs.Operations.{operate_op, extend_op}
 use Rattle.alloc_model.specs.Contents.{Content, word, ContentAnswer, Gives, TrapsWith, Fails, operate_answer, extend_answer}
 use Rattle.alloc_model.specs.Places.{Places}
-use Rattle.frame_transfers.specs.Laws.{Call, FitsTheStack, StandsFor, KnowsValues, IsWritable}
+use Rattle.frame_transfers.specs.Laws.{CallAt, FitsTheStack, StandsFor, KnowsValues, IsWritable}
 use Rattle.frame_instructions.specs.Laws.{StandsIn, GivesRegister}
 
 -- a second operand is a number below 256, or a register
@@ -24,7 +24,7 @@ IsSecond known store (isa.Reg r) c = StandsIn known store r c
 IsSecond known store (isa.Literal n) c = (n < 256) × (c ≡ word n)
 
 -- an operation gives its answer, or traps as that does
-abbrev pub DoesAnswer : Program → Labels → List AsmItem → ℕ → Call → memory.Memory → (ℕ → Bool) → Places → State →
+abbrev pub DoesAnswer : Program → Labels → List AsmItem → ℕ → CallAt → memory.Memory → (ℕ → Bool) → Places → State →
     (register : ℕ) → ContentAnswer → Type 0
 DoesAnswer p there rest end c m known store s r (Gives content) =
     GivesRegister p there rest end c m known store s r content
@@ -33,7 +33,7 @@ DoesAnswer p there rest end c m known store s r Fails = Unit {0}
 
 abbrev pub OperationsAreDone : Type 0
 OperationsAreDone =
-    (p : Program) (there : Labels) (rest : List AsmItem) (end : ℕ) (c : Call) (m : memory.Memory) (known : ℕ → Bool)
+    (p : Program) (there : Labels) (rest : List AsmItem) (end : ℕ) (c : CallAt) (m : memory.Memory) (known : ℕ → Bool)
     (store : Places) (s : State) → FitsTheStack c → KnowsValues known →
     (op : Operation) (left r : ℕ) (right : Operand) (a b : Content) →
     StandsFor p there (Plain (fields.Operate (operate_op op) left right r) ∷ rest) end c m known store s →
@@ -42,7 +42,7 @@ OperationsAreDone =
 
 abbrev pub ExtensionsAreDone : Type 0
 ExtensionsAreDone =
-    (p : Program) (there : Labels) (rest : List AsmItem) (end : ℕ) (c : Call) (m : memory.Memory) (known : ℕ → Bool)
+    (p : Program) (there : Labels) (rest : List AsmItem) (end : ℕ) (c : CallAt) (m : memory.Memory) (known : ℕ → Bool)
     (store : Places) (s : State) → FitsTheStack c → KnowsValues known →
     (op : ExtendOp) (r : ℕ) (right : Operand) (b : Content) →
     StandsFor p there (Plain (fields.Operate (extend_op op) 31 right r) ∷ rest) end c m known store s →

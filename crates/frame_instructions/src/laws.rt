@@ -1,13 +1,13 @@
 //! Laws, each the contract of a function that does nothing.
 
-ghost use Rattle.frame_instructions.specs.Laws.{LoadsAreDone, StoresAreDone, MovesAreDone, SetsAreDone, BranchesAreDone};
+ghost use Rattle.frame_instructions.specs.Laws.{FrameLoadsAreDone, FrameStoresAreDone, MovesAreDone, SetsAreDone, BranchesAreDone};
 ghost use Rattle.frame_instructions.specs.OperationLaws.{OperationsAreDone, ExtensionsAreDone};
 ghost use Rattle.frame_instructions.specs.FrameLaws.{ArgumentsAreWritten, ArgumentsAreRead, LocalsHaveAddresses, GlobalsHaveAddresses};
 
 /// The machine loads and stores through pointers, moves words and pointers, and sets registers to numbers.
 pub fn accesses_are_done()
-    ensures loads { LoadsAreDone }
-    ensures stores { StoresAreDone }
+    ensures loads { FrameLoadsAreDone }
+    ensures stores { FrameStoresAreDone }
     ensures moves { MovesAreDone }
     ensures sets { SetsAreDone }
 {}

@@ -31,7 +31,7 @@ use Rattle.call_parts.specs.Items.{lower_stack, raise_stack, save_if, save_regis
 use Rattle.instruction_items.specs.Items.{ItemSetting, function_label, insn_items}
 use Rattle.frame_emitter.specs.Items.{jump_transfers, top_transfers, end_transfers, point_items, insns_items, block_items, blocks_items, exit_items, function_items}
 use Rattle.frame_emitter.specs.Settings.{setting_of}
-use Rattle.frame_labels.specs.Labels.{IsCalled, UsesOnly}
+use Rattle.frame_labels.specs.Labels.{IsCalledAt, UsesOnly}
 
 routine-label : (r : DivisionRoutine) → (1 ≤ entry_label (routine_of r)) × (entry_label (routine_of r) ≤ 8)
 routine-label Divq = (omega arith, omega arith)
@@ -92,7 +92,7 @@ module _ (a : Plan) (globals : List DataObject) (first : ℕ) where
 
   -- what is known of an instruction
   abbrev IsKnown : TempInsn → Type 0
-  IsKnown x = GoesToBlocks targets_of (length a.function.blocks) x × ((f n : ℕ) → x ≡ i.Call f n → IsCalled a (function_label f))
+  IsKnown x = GoesToBlocks targets_of (length a.function.blocks) x × ((f n : ℕ) → x ≡ i.Call f n → IsCalledAt a (function_label f))
 
   insn-uses : (rs : List ℕ) (x : TempInsn) (rest : List AsmItem) → IsKnown x → All P rest → All P (insn_items g rs x ++ rest)
   insn-uses rs (i.Address op d base plus) rest k h = put _ rest tt h

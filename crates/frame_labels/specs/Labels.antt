@@ -28,7 +28,7 @@ LabelsDiffer =
     (a : Plan) (first number : ℕ) → function_label number < first → AllPairs (λ l m. l ≢ m) (own_labels a first number)
 
 -- a function is called at this label
-pub record IsCalled (a : Plan) (label : ℕ) : Type 0 where
+pub record IsCalledAt (a : Plan) (label : ℕ) : Type 0 where
   pub block : ℕ
   pub at : ℕ
   pub function : ℕ
@@ -39,7 +39,7 @@ pub record IsCalled (a : Plan) (label : ℕ) : Type 0 where
 -- labels that may be used: those of blocks and of the exit part, of the division routines, and of called functions
 abbrev pub IsUsable : Plan → (first label : ℕ) → Type 0
 IsUsable a first l =
-    ((first ≤ l) × (l ≤ first + length a.function.blocks)) ⊎ (((1 ≤ l) × (l ≤ 8)) ⊎ IsCalled a l)
+    ((first ≤ l) × (l ≤ first + length a.function.blocks)) ⊎ (((1 ≤ l) × (l ≤ 8)) ⊎ IsCalledAt a l)
 
 abbrev pub UsesOnly : Plan → (first : ℕ) → AsmItem → Type 0
 UsesOnly a first i = IfSome (label_used i) (IsUsable a first)

@@ -7,7 +7,7 @@ use Rattle.std.proofs.lemmas.List.Sums.{sum_by-cons}
 use Rattle.std.proofs.lemmas.Option.{slice_get-map, slice_get_within, get_or_from_slice_get}
 use Rattle.std.proofs.lemmas.List.Elements.{All-from_recursion, All-tail, All-contains}
 use Rattle.data_object.specs.declared.DataObject.{DataObject}
-use Rattle.data_object.specs.Layout.{end_of, data_end, LieFrom}
+use Rattle.data_object.specs.Layout.{end_of, data_end, ObjectsLieFrom}
 use Rattle.suifvm_ir.specs.declared.function.MemoryLocal.{MemoryLocal}
 use Rattle.suifvm_ir.specs.declared.insn.VmObject.{VmObject}
 use Rattle.suifvm_ir.specs.declared.insn.VmObject.TheVariants.{Global, Local}
@@ -21,7 +21,7 @@ use Rattle.alloc_model.specs.declared.allocation.Transfer.{Transfer}
 use Rattle.alloc_model.specs.declared.allocation.Transfer.TheVariants.{Store, Load, Shift}
 use Rattle.alloc_model.specs.Effect.{width_of, widest_in, widest_call}
 use Rattle.alloc_model.specs.Places.{Plan, plan_of}
-use Rattle.alloc_model.specs.Faithful.{given_registers, IsGiven, IsGivenOrScratch, IsTransfer, HasLists}
+use Rattle.alloc_model.specs.Faithful.{given_registers, IsGivenRegister, IsGivenOrScratch, IsTransfer, HasLists}
 use Rattle.flat_frames.specs.Shapes.{frame_size, object_at, objects_size}
 use Rattle.flat_frames.proofs.Shapes.{pieces_of}
 use Rattle.instruction_items.specs.Items.{ItemSetting}
@@ -56,7 +56,7 @@ all-small = All-from_recursion (λ r. r < 32) (28 ∷ given_registers) (lit< tt,
 scratch-small : (r : ℕ) → IsGivenOrScratch r → r < 32
 scratch-small r h = All-contains (λ q. q < 32) (28 ∷ given_registers) r all-small h
 
-given-small : (r : ℕ) → IsGiven r → r < 32
+given-small : (r : ℕ) → IsGivenRegister r → r < 32
 given-small r h = All-contains (λ q. q < 32) given_registers r (All-tail (λ q. q < 32) 28 given_registers all-small) h
 
 is-move : (temps : ℕ) (Allowed : ℕ → Type 0) → ((r : ℕ) → Allowed r → r < 32) → (x : Transfer) → IsTransfer temps Allowed x → IsMove temps x
@@ -121,7 +121,7 @@ last-step o p ps =
     let e : length (o ∷ p ∷ ps) - 1 ≡ suc (length (p ∷ ps) - 1) = omega arith in
     ap (λ n. end_of (slice_get (o ∷ p ∷ ps) n)) e
 
-rises : (end : ℕ) (o : DataObject) (os : List DataObject) → LieFrom end (o ∷ os) → o.offset + o.size ≤ data_end (o ∷ os)
+rises : (end : ℕ) (o : DataObject) (os : List DataObject) → ObjectsLieFrom end (o ∷ os) → o.offset + o.size ≤ data_end (o ∷ os)
 rises end o [] h = omega arith
 rises end o (p ∷ ps) h =
     let more = rises (o.offset + o.size) p ps h.1 in
@@ -129,7 +129,7 @@ rises end o (p ∷ ps) h =
     let e = last-step o p ps in
     omega (arith, more, at, e)
 
-global-within : (end : ℕ) (os : List DataObject) (k : ℕ) (o : DataObject) → LieFrom end os → slice_get os k ≡ Some o → o.offset + o.size ≤ data_end os
+global-within : (end : ℕ) (os : List DataObject) (k : ℕ) (o : DataObject) → ObjectsLieFrom end os → slice_get os k ≡ Some o → o.offset + o.size ≤ data_end os
 global-within end [] k o h e = let clash : ⊥ = cc in absurd clash
 global-within end (q ∷ os) zero o h e =
     let same : q ≡ o = cc in
@@ -147,7 +147,7 @@ global-within end (q ∷ p ∷ ps) (suc k) o h e =
 abbrev pub IsKnown : (first count : ℕ) → List DataObject → List MemoryLocal → TempInsn → Type 0
 IsKnown first count globals objects x = CallsBelow first x × NamesObjects globals objects x × GoesToBlocks targets_of count x
 
-module _ (p : Plan) (globals : List DataObject) (objects : List MemoryLocal) (first count : ℕ) (labels : first + count < 2 ^ 32) (laid : LieFrom 0 globals) (data_small : data_end globals ≤ 2 ^ 26)
+module _ (p : Plan) (globals : List DataObject) (objects : List MemoryLocal) (first count : ℕ) (labels : first + count < 2 ^ 32) (laid : ObjectsLieFrom 0 globals) (data_small : data_end globals ≤ 2 ^ 26)
     (sizes : p.function.sizes ≡ map (λ o. o.size) objects) (small : frame_size (shape_of p) ≤ 2 ^ 29) where
   abbrev pub g : ItemSetting
   g = setting_of p globals first
@@ -256,7 +256,7 @@ frame-small : (p : Plan) → widest_call p.function.blocks ≤ 2 ^ 24 → p.temp
 frame-small p wide temps objects = omega (arith, wide, temps, objects)
 
 pub sound_of : (a : Allocation) (globals : List DataObject) (first : ℕ) (l : FrameLayout) → HasLists (plan_of a)
-    → AllInsns (CallsBelow first) a.func.blocks → first + length a.func.blocks < 2 ^ 32 - 1 → LieFrom 0 globals → data_end globals ≤ 2 ^ 26
+    → AllInsns (CallsBelow first) a.func.blocks → first + length a.func.blocks < 2 ^ 32 - 1 → ObjectsLieFrom 0 globals → data_end globals ≤ 2 ^ 26
     → AllInsns (NamesObjects globals a.func.objects) a.func.blocks → objects_size (map (λ o. o.size) a.func.objects) ≤ 2 ^ 26 → a.func.temps ≤ 2 ^ 24 → widest_call a.func.blocks ≤ 2 ^ 24
     → l.allocation.now ≡ a → l.blocks.now ≡ near_blocks a.func.blocks → l.first_label ≡ first
     → setting_in l ≡ setting_of (with_blocks (plan_of a) (near_blocks a.func.blocks)) globals first → IsSound l
@@ -275,13 +275,13 @@ sound_of a globals first l lists calls labels laid data_small names objects temp
     (frame-small p (omega (arith, near_wide, wide)) temps objects) bs known in
     record {
       moves = subst (λ z. All (All (IsMove z.func.temps)) z.at) (sym is_a)
-          (all-same (All (IsTransfer a.func.temps IsGiven)) (All (IsMove a.func.temps))
-          (λ xs h. all-same (IsTransfer a.func.temps IsGiven) (IsMove a.func.temps) (is-move a.func.temps IsGiven given-small) xs h) a.at lists.transfers);
+          (all-same (All (IsTransfer a.func.temps IsGivenRegister)) (All (IsMove a.func.temps))
+          (λ xs h. all-same (IsTransfer a.func.temps IsGivenRegister) (IsMove a.func.temps) (is-move a.func.temps IsGivenRegister given-small) xs h) a.at lists.transfers);
       edge_moves = subst (λ z. All (λ e. All (IsMove z.func.temps) e.code) z.edges) (sym is_a)
           (all-same (λ e. All (IsTransfer a.func.temps IsGivenOrScratch) e.code) (λ e. All (IsMove a.func.temps) e.code)
           (λ e h. all-same (IsTransfer a.func.temps IsGivenOrScratch) (IsMove a.func.temps) (is-move a.func.temps IsGivenOrScratch scratch-small) e.code h) a.edges lists.edge_transfers);
       registers = subst (λ z. All (All (λ r. r < 32)) z.regs) (sym is_a)
-          (all-same (All IsGiven) (All (λ r. r < 32)) (λ rs h. all-same IsGiven (λ r. r < 32) given-small rs h) a.regs lists.given);
+          (all-same (All IsGivenRegister) (All (λ r. r < 32)) (λ rs h. all-same IsGivenRegister (λ r. r < 32) given-small rs h) a.regs lists.given);
       fit = subst (λ z. All (All (IsFit z)) l.blocks.now) (sym is_setting)
           (subst (λ z. All (All (IsFit (setting_of p globals first))) z) (sym is_blocks) fits);
       jumps = subst (λ z. All (λ insns. All (GoesNext insns) insns) z) (sym is_blocks) (all_go bs a.func.straight);

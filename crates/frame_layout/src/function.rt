@@ -2,7 +2,7 @@
 
 ghost use Rattle.std.specs.Prelude.{◌≡◌, ◌+◌, ◌-◌, ◌<◌, ◌≤◌, ◌^◌, [], ◌∷◌, length, map, IfOk};
 ghost use Rattle.alpha_items.specs.declared.item.AsmItem.TheVariants as item;
-ghost use Rattle.data_object.specs.Layout.{LieFrom, data_end};
+ghost use Rattle.data_object.specs.Layout.{ObjectsLieFrom, data_end};
 ghost use Rattle.suifvm_ir.specs.Functions.{AllInsns, count_of};
 ghost use Rattle.alloc_model.specs.Effect.{widest_call};
 ghost use Rattle.alloc_model.specs.Places.{plan_of};
@@ -113,7 +113,7 @@ pub fn finalise(
     requires own { 256 + number < first_label }
     requires calls { AllInsns (CallsBelow first_label) a.now.func.blocks }
     requires labels { first_label + length a.now.func.blocks < 2 ^ 32 - 1 }
-    requires layout { LieFrom 0 globals.now }
+    requires layout { ObjectsLieFrom 0 globals.now }
     requires data_size { data_end globals.now ≤ MOST_DATA }
     requires names { AllInsns (NamesObjects globals.now a.now.func.objects) a.now.func.blocks }
     requires objects { objects_size (map (λ o. o.size) a.now.func.objects) ≤ MOST_DATA }

@@ -16,7 +16,7 @@ use Rattle.temp_ir.specs.declared.insn.SecondOperand.{SecondOperand}
 use Rattle.temp_ir.specs.declared.insn.SecondOperand.TheVariants as operand
 use Rattle.temp_ir.specs.Fixed.{register_number}
 use Rattle.temp_ir.specs.Operations.{operate_op, extend_op}
-use Rattle.alloc_model.specs.Faithful.{given_registers, IsGiven, IsGivenOrScratch}
+use Rattle.alloc_model.specs.Faithful.{given_registers, IsGivenRegister, IsGivenOrScratch}
 use Rattle.instruction_items.specs.Items.{source_register, operand_at}
 use Rattle.instruction_items.specs.Laws.{IsSmallOperand}
 
@@ -28,19 +28,19 @@ all-small = All-from_recursion (λ r. r < 32) (28 ∷ given_registers) (lit< tt,
 pub scratch_small : (r : ℕ) → IsGivenOrScratch r → r < 32
 scratch_small r h = All-contains (λ q. q < 32) (28 ∷ given_registers) r all-small h
 
-pub given_small : (r : ℕ) → IsGiven r → r < 32
+pub given_small : (r : ℕ) → IsGivenRegister r → r < 32
 given_small r h = All-contains (λ q. q < 32) given_registers r (All-tail (λ q. q < 32) 28 given_registers all-small) h
 
-pub stated_small : (rs : List ℕ) (k : ℕ) → All IsGiven rs → slice_index rs k < 32
+pub stated_small : (rs : List ℕ) (k : ℕ) → All IsGivenRegister rs → slice_index rs k < 32
 stated_small [] k h = omega arith
-stated_small (r ∷ rs) zero h = given_small r (All-head IsGiven r rs h)
-stated_small (r ∷ rs) (suc k) h = stated_small rs k (All-tail IsGiven r rs h)
+stated_small (r ∷ rs) zero h = given_small r (All-head IsGivenRegister r rs h)
+stated_small (r ∷ rs) (suc k) h = stated_small rs k (All-tail IsGivenRegister r rs h)
 
-pub source_small : (s : FirstOperand) (rs : List ℕ) → All IsGiven rs → source_register s rs < 32
+pub source_small : (s : FirstOperand) (rs : List ℕ) → All IsGivenRegister rs → source_register s rs < 32
 source_small source.Zero rs h = omega arith
 source_small (source.Temp t) rs h = stated_small rs 0 h
 
-pub operand_small : (x : SecondOperand) (rs : List ℕ) (k : ℕ) → All IsGiven rs → IsSmallOperand x → IsOperand (operand_at x rs k)
+pub operand_small : (x : SecondOperand) (rs : List ℕ) (k : ℕ) → All IsGivenRegister rs → IsSmallOperand x → IsOperand (operand_at x rs k)
 operand_small (operand.Temp t) rs k h small = stated_small rs k h
 operand_small (operand.Literal n) rs k h small = small
 

@@ -10,7 +10,7 @@ use Rattle.alpha_isa.specs.declared.insn.MemoryOp.{MemoryOp}
 use Rattle.alpha_isa.specs.declared.insn.MemoryOp.TheVariants.{Ldq, Stq, Lda, Ldah}
 use Rattle.alpha_isa.specs.declared.insn.Operand.TheVariants.{Reg}
 use Rattle.alpha_isa.specs.declared.insn.OperateOp.TheVariants.{Bis}
-use Rattle.alpha_isa.specs.Lawful.{IsLawful, IsDisplacement}
+use Rattle.alpha_isa.specs.Lawful.{AreLawfulFields, IsDisplacement}
 use Rattle.alpha_items.specs.declared.item.AsmItem.{AsmItem}
 use Rattle.alpha_items.specs.declared.item.AsmItem.TheVariants.{Label, Plain}
 use Rattle.alpha_items.specs.Items.{IsItem}
@@ -28,7 +28,7 @@ use Rattle.alloc_model.specs.declared.allocation.EdgeCode.{EdgeCode}
 use Rattle.alloc_model.specs.Effect.{behind}
 use Rattle.alloc_model.specs.Places.{Plan, code_in, edge_transfers, transfers_at, registers_at, linear_number}
 use Rattle.alloc_model.specs.Temporaries.{flows_out}
-use Rattle.alloc_model.specs.Faithful.{IsGiven, IsGivenOrScratch, IsTransfer}
+use Rattle.alloc_model.specs.Faithful.{IsGivenRegister, IsGivenOrScratch, IsTransfer}
 use Rattle.flat_frames.specs.Shapes.{FrameShape, frame_size, return_at, saved_at, slot_at, argument_at, object_at}
 use Rattle.frame_accesses.specs.Items.{near_size, frame_item, frame_load, frame_store, register_move}
 use Rattle.frame_transfers.specs.Items.{transfer_items, items_of_transfers}
@@ -67,7 +67,7 @@ code-moves temps q (e ∷ es) h =
     (all-moves temps IsGivenOrScratch scratch_small e.code (All-head (λ z. All (IsTransfer temps IsGivenOrScratch) z.code) e es h))
     (code-moves temps q es (All-tail (λ z. All (IsTransfer temps IsGivenOrScratch) z.code) e es h))
 
-service-lawful : (s : Service) → IsLawful (Pal (service_function s))
+service-lawful : (s : Service) → AreLawfulFields (Pal (service_function s))
 service-lawful End = refl
 service-lawful PutByte = refl
 service-lawful GetByte = refl
@@ -111,7 +111,7 @@ module _ (a : Plan) (g : ItemSetting) (size : ℕ) (registers : HasRegisters a) 
   transfers-in [] rest m h = h
   transfers-in (x ∷ xs) rest m h = transfer-in x (items_of_transfers g.shape xs rest) (All-head (IsMove a.temps) x xs m) (transfers-in xs rest (All-tail (IsMove a.temps) x xs m) h)
 
-  insn-in : (rs : List ℕ) (x : TempInsn) (rest : List AsmItem) → All IsGiven rs → IsInRange g size x → All P rest → All P (insn_items g rs x ++ rest)
+  insn-in : (rs : List ℕ) (x : TempInsn) (rest : List AsmItem) → All IsGivenRegister rs → IsInRange g size x → All P rest → All P (insn_items g rs x ++ rest)
   insn-in rs (i.Address op d base plus) rest m k h = memory _ _ _ _ rest (stated_small rs _ m) (source_small base rs m) k h
   insn-in rs (i.ObjectAddress d (Global o) plus) rest m k h = put _ rest (stated_small rs 0 m, k) h
   insn-in rs (i.ObjectAddress d (Local o) plus) rest m k h = frame-in Lda (slice_index rs 0) (object_at g.shape o + plus) rest (stated_small rs 0 m) k h
@@ -135,7 +135,7 @@ module _ (a : Plan) (g : ItemSetting) (size : ℕ) (registers : HasRegisters a) 
   -- ---- points
 
   at-moves : (block at : ℕ) → All (IsMove a.temps) (transfers_at a block at)
-  at-moves block at = all-moves a.temps IsGiven given_small (transfers_at a block at) (all_at (IsTransfer a.temps IsGiven) a.at (linear_number a.function.blocks block at) registers.transfers)
+  at-moves block at = all-moves a.temps IsGivenRegister given_small (transfers_at a block at) (all_at (IsTransfer a.temps IsGivenRegister) a.at (linear_number a.function.blocks block at) registers.transfers)
 
   edge-moves : (from to : ℕ) → All (IsMove a.temps) (edge_transfers a from to)
   edge-moves from to = code-moves a.temps (λ e. (e.from == from) && (e.to == to)) a.edges registers.edge_transfers
@@ -175,7 +175,7 @@ module _ (a : Plan) (g : ItemSetting) (size : ℕ) (registers : HasRegisters a) 
       let body = insn_items g (registers_at a block at) x ++ rest in
       transfers-in (transfers_at a block at) (items_of_transfers g.shape (jump_transfers a block x) body) (at-moves block at)
       (transfers-in (jump_transfers a block x) body (jump-moves block x)
-      (insn-in (registers_at a block at) x rest (all_at IsGiven a.regs (linear_number a.function.blocks block at) registers.given) k h))
+      (insn-in (registers_at a block at) x rest (all_at IsGivenRegister a.regs (linear_number a.function.blocks block at) registers.given) k h))
 
   insns-in : (block at : ℕ) (insns : List TempInsn) (rest : List AsmItem) → All (IsInRange g size) insns → All P rest → All P (insns_items a g block at insns rest)
   insns-in block at [] rest k h = h

@@ -6,7 +6,7 @@ use Rattle.std.proofs.lemmas.Bool.{leb-true}
 use Rattle.std.proofs.lemmas.Option.{slice_get-map}
 use Rattle.std.proofs.lemmas.List.Elements.{All-tail}
 use Rattle.data_object.specs.declared.DataObject.{DataObject}
-use Rattle.data_object.specs.Layout.{end_of, data_end, LieFrom}
+use Rattle.data_object.specs.Layout.{end_of, data_end, ObjectsLieFrom}
 use Rattle.suifvm_ir.specs.declared.function.MemoryLocal.{MemoryLocal}
 use Rattle.suifvm_ir.specs.declared.insn.VmObject.{VmObject}
 use Rattle.suifvm_ir.specs.declared.insn.VmObject.TheVariants.{Global, Local}
@@ -22,7 +22,7 @@ use Rattle.instruction_items.specs.Items.{ItemSetting}
 use Rattle.frame_layout.specs.Shapes.{shape_of}
 use Rattle.frame_layout.specs.Settings.{place_in, near_insn, near_blocks, near_plan, setting_of}
 use Rattle.frame_layout.specs.Names.{NamesObjects}
-use Rattle.frame_ranges.specs.Ranges.{IsInRange, IsSmall}
+use Rattle.frame_ranges.specs.Ranges.{IsInRange, HasSmallNumbers}
 
 all-map : {X Y : Type 0} (P : X → Type 0) (Q : Y → Type 0) (f : X → Y) → ((x : X) → P x → Q (f x)) → (xs : List X) → All P xs → All Q (map f xs)
 all-map P Q f h [] all k d lt = absurd (omega (arith, lt))
@@ -34,7 +34,7 @@ last-step o p ps =
     let e : length (o ∷ p ∷ ps) - 1 ≡ suc (length (p ∷ ps) - 1) = omega arith in
     ap (λ n. end_of (slice_get (o ∷ p ∷ ps) n)) e
 
-rises : (end : ℕ) (o : DataObject) (os : List DataObject) → LieFrom end (o ∷ os) → o.offset + o.size ≤ data_end (o ∷ os)
+rises : (end : ℕ) (o : DataObject) (os : List DataObject) → ObjectsLieFrom end (o ∷ os) → o.offset + o.size ≤ data_end (o ∷ os)
 rises end o [] h = omega arith
 rises end o (p ∷ ps) h =
     let more = rises (o.offset + o.size) p ps h.1 in
@@ -42,7 +42,7 @@ rises end o (p ∷ ps) h =
     let e = last-step o p ps in
     omega (arith, more, at, e)
 
-global-within : (end : ℕ) (os : List DataObject) (k : ℕ) (o : DataObject) → LieFrom end os → slice_get os k ≡ Some o → o.offset + o.size ≤ data_end os
+global-within : (end : ℕ) (os : List DataObject) (k : ℕ) (o : DataObject) → ObjectsLieFrom end os → slice_get os k ≡ Some o → o.offset + o.size ≤ data_end os
 global-within end [] k o h e = let clash : ⊥ = cc in absurd clash
 global-within end (q ∷ os) zero o h e =
     let same : q ≡ o = cc in
@@ -54,7 +54,7 @@ global-within end (q ∷ p ∷ ps) (suc k) o h e =
     let s = last-step q p ps in
     omega (arith, more, s)
 
-module _ (a : Allocation) (globals : List DataObject) (first : ℕ) (laid : LieFrom 0 globals) (small : frame_size (shape_of (near_plan (plan_of a))) ≤ 2 ^ 29) where
+module _ (a : Allocation) (globals : List DataObject) (first : ℕ) (laid : ObjectsLieFrom 0 globals) (small : frame_size (shape_of (near_plan (plan_of a))) ≤ 2 ^ 29) where
   abbrev pub p : Plan
   p = near_plan (plan_of a)
 
@@ -81,7 +81,7 @@ module _ (a : Allocation) (globals : List DataObject) (first : ℕ) (laid : LieF
   place-fits (Global k) d plus h = global-fits (slice_get globals k) k plus refl h
   place-fits (Local k) d plus h = local-fits (slice_get a.func.objects k) k plus refl h
 
-  fits : (x : TempInsn) → NamesObjects globals a.func.objects x × IsSmall x → IsInRange g (data_end globals) (near_insn x)
+  fits : (x : TempInsn) → NamesObjects globals a.func.objects x × HasSmallNumbers x → IsInRange g (data_end globals) (near_insn x)
   fits (i.Address op d base plus) h = h.1
   fits (i.ObjectAddress d place plus) h = place-fits place d plus h.0
   fits (i.Load op d p plus) h = h.1
@@ -101,11 +101,11 @@ module _ (a : Allocation) (globals : List DataObject) (first : ℕ) (laid : LieF
   fits (i.Return v) h = tt
   fits i.Mark h = tt
 
-pub numbers_fit : (a : Allocation) (globals : List DataObject) (first : ℕ) → LieFrom 0 globals → AllInsns (NamesObjects globals a.func.objects) a.func.blocks → AllInsns IsSmall a.func.blocks
+pub numbers_fit : (a : Allocation) (globals : List DataObject) (first : ℕ) → ObjectsLieFrom 0 globals → AllInsns (NamesObjects globals a.func.objects) a.func.blocks → AllInsns HasSmallNumbers a.func.blocks
     → frame_size (shape_of (near_plan (plan_of a))) ≤ 2 ^ 29
     → AllInsns (IsInRange (setting_of (near_plan (plan_of a)) globals first) (data_end globals)) (near_blocks a.func.blocks)
 numbers_fit a globals first laid names smalls small =
     let Q = IsInRange (setting_of (near_plan (plan_of a)) globals first) (data_end globals) in
-    all-map (All (λ x. NamesObjects globals a.func.objects x × IsSmall x)) (All Q) (map near_insn)
-    (λ insns known. all-map (λ x. NamesObjects globals a.func.objects x × IsSmall x) Q near_insn (fits a globals first laid small) insns known) a.func.blocks
+    all-map (All (λ x. NamesObjects globals a.func.objects x × HasSmallNumbers x)) (All Q) (map near_insn)
+    (λ insns known. all-map (λ x. NamesObjects globals a.func.objects x × HasSmallNumbers x) Q near_insn (fits a globals first laid small) insns known) a.func.blocks
     (λ k d lt j x inside. (names k d lt j x inside, smalls k d lt j x inside))

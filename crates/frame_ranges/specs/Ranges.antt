@@ -4,14 +4,14 @@ use Rattle.alpha_isa.specs.Lawful.{IsDisplacement}
 use Rattle.alpha_items.specs.declared.item.AsmItem.{AsmItem}
 use Rattle.alpha_items.specs.Items.{IsItem}
 use Rattle.data_object.specs.declared.DataObject.{DataObject}
-use Rattle.data_object.specs.Layout.{LieFrom, data_end}
+use Rattle.data_object.specs.Layout.{ObjectsLieFrom, data_end}
 use Rattle.suifvm_ir.specs.declared.insn.VmObject.TheVariants.{Global, Local}
 use Rattle.suifvm_ir.specs.Functions.{AllInsns}
 use Rattle.temp_ir.specs.declared.insn.TempInsn.{TempInsn}
 use Rattle.temp_ir.specs.declared.insn.TempInsn.TheVariants as i
 use Rattle.alloc_model.specs.declared.allocation.Allocation.{Allocation}
 use Rattle.alloc_model.specs.Places.{Plan, plan_of}
-use Rattle.alloc_model.specs.Faithful.{IsGiven, IsGivenOrScratch, IsTransfer}
+use Rattle.alloc_model.specs.Faithful.{IsGivenRegister, IsGivenOrScratch, IsTransfer}
 use Rattle.flat_frames.specs.Shapes.{frame_size, object_at}
 use Rattle.instruction_items.specs.Items.{ItemSetting}
 use Rattle.instruction_items.specs.Laws.{IsSmallOperand}
@@ -36,9 +36,9 @@ IsInRange g size _ = Unit {0}
 
 -- the registers and temporaries of an allocation are some that it may name
 pub record HasRegisters (a : Plan) : Type 0 where
-  pub transfers : All (All (IsTransfer a.temps IsGiven)) a.at
+  pub transfers : All (All (IsTransfer a.temps IsGivenRegister)) a.at
   pub edge_transfers : All (λ e. All (IsTransfer a.temps IsGivenOrScratch) e.code) a.edges
-  pub given : All (All IsGiven) a.regs
+  pub given : All (All IsGivenRegister) a.regs
 
 abbrev pub ItemsAreInRange : Type 0
 ItemsAreInRange =
@@ -49,20 +49,20 @@ ItemsAreInRange =
 -- ---- from what is asked of a function that is laid out
 
 -- the numbers that an instruction holds as code have their ranges
-abbrev pub IsSmall : TempInsn → Type 0
-IsSmall (i.Address op destination base plus) = IsDisplacement plus
-IsSmall (i.Load op destination pointer plus) = IsDisplacement plus
-IsSmall (i.Store op value pointer plus) = IsDisplacement plus
-IsSmall (i.Operate op destination left right) = IsSmallOperand right
-IsSmall (i.Extend op destination source) = IsSmallOperand source
-IsSmall (i.SetFixed register number) = IsDisplacement number
-IsSmall _ = Unit {0}
+abbrev pub HasSmallNumbers : TempInsn → Type 0
+HasSmallNumbers (i.Address op destination base plus) = IsDisplacement plus
+HasSmallNumbers (i.Load op destination pointer plus) = IsDisplacement plus
+HasSmallNumbers (i.Store op value pointer plus) = IsDisplacement plus
+HasSmallNumbers (i.Operate op destination left right) = IsSmallOperand right
+HasSmallNumbers (i.Extend op destination source) = IsSmallOperand source
+HasSmallNumbers (i.SetFixed register number) = IsDisplacement number
+HasSmallNumbers _ = Unit {0}
 
 -- so they fit, in the data of the objects of static storage
 abbrev pub NumbersFit : Type 0
 NumbersFit =
-    (a : Allocation) (globals : List DataObject) (first : ℕ) → LieFrom 0 globals →
-    AllInsns (NamesObjects globals a.func.objects) a.func.blocks → AllInsns IsSmall a.func.blocks →
+    (a : Allocation) (globals : List DataObject) (first : ℕ) → ObjectsLieFrom 0 globals →
+    AllInsns (NamesObjects globals a.func.objects) a.func.blocks → AllInsns HasSmallNumbers a.func.blocks →
     frame_size (shape_of (near_plan (plan_of a))) ≤ 2 ^ 29 →
     AllInsns (IsInRange (setting_of (near_plan (plan_of a)) globals first) (data_end globals))
     (near_blocks a.func.blocks)

@@ -24,7 +24,7 @@ use Rattle.flat_frames.proofs.Frames.{unwritten-put, own-written, slot-word, slo
 use Rattle.frame_accesses.specs.Laws.{IsOffset, IsValueRegister}
 use Rattle.frame_accesses.proofs.Runs.{frame_loads, frame_stores, register_moves, stays}
 use Rattle.frame_transfers.specs.Items.{transfer_items, items_of_transfers}
-use Rattle.frame_transfers.specs.Laws.{Call, FitsTheStack, StandsFor, KnowsValues, known_after, known_behind, CanTransfer, CanTransferAll, IsWritable, IsKept, HasDone}
+use Rattle.frame_transfers.specs.Laws.{CallAt, FitsTheStack, StandsFor, KnowsValues, known_after, known_behind, CanTransfer, CanTransferAll, IsWritable, IsKept, HasDone}
 
 -- a register more holds a content
 pub frame-with_register : (xs : Extents) (memory : Memory) (owner : Owners) (m : Bytes) (sp depth own : ℕ) (s : FrameShape) (store : Places) (r : ℕ) (c : Content) → FrameAndMemory xs memory owner m sp depth own s store → FrameAndMemory xs memory owner m sp depth own s (put place_eq (Reg r) c store)
@@ -46,7 +46,7 @@ knows-more known r knows value q e = ⊎_elim
     (or_cases (q == r) (known q) e)
 
 -- where no byte has changed
-pub kept-same : (p : Program) (c : Call) (s t : State) → ((y : ℕ) → is_reached p t y ≡ is_reached p s y) → memory_bytes p t ≡ memory_bytes p s → ((q : ℕ) → 9 ≤ q → q < 16 → c.shape.saves q ≡ false → register t q ≡ register s q) → IsKept p c s t
+pub kept-same : (p : Program) (c : CallAt) (s t : State) → ((y : ℕ) → is_reached p t y ≡ is_reached p s y) → memory_bytes p t ≡ memory_bytes p s → ((q : ℕ) → 9 ≤ q → q < 16 → c.shape.saves q ≡ false → register t q ≡ register s q) → IsKept p c s t
 kept-same p c s t reach same registers = record { reach = reach; bytes = λ y e. ap (λ (m : Bytes). m y) same; registers = registers }
 
 -- a register that is not saved is none that is written
@@ -56,10 +56,10 @@ unsaved-other s r q w from to e same = clash (sym (ap s.saves same ∙ w.saved (
     clash : true ≡ false → ⊥
     clash f = cc
 
-pub kept-through : (p : Program) (c : Call) (s t u : State) → IsKept p c s t → IsKept p c t u → IsKept p c s u
+pub kept-through : (p : Program) (c : CallAt) (s t u : State) → IsKept p c s t → IsKept p c t u → IsKept p c s u
 kept-through p c s t u a b = record { reach = λ y. b.reach y ∙ a.reach y; bytes = λ y e. b.bytes y e ∙ a.bytes y e; registers = λ q from to e. b.registers q from to e ∙ a.registers q from to e }
 
-module _ (p : Program) (there : Labels) (rest : List AsmItem) (end : ℕ) (c : Call) (memory : Memory) (call : FitsTheStack c) where
+module _ (p : Program) (there : Labels) (rest : List AsmItem) (end : ℕ) (c : CallAt) (memory : Memory) (call : FitsTheStack c) where
   -- the slot of a temporary may be accessed
   record SlotReached (t : ℕ) (s : State) : Type 0 where
     offset : IsOffset s (slot_at c.shape t)
@@ -162,7 +162,7 @@ module _ (p : Program) (there : Labels) (rest : List AsmItem) (end : ℕ) (c : C
       }
 
 -- several transfers
-pub transfers_are_done : (p : Program) (there : Labels) (rest : List AsmItem) (end : ℕ) (c : Call) (memory : Memory) → FitsTheStack c → (xs : List Transfer) (known : ℕ → Bool) (store : Places) (s : State) → KnowsValues known → CanTransferAll c.shape known xs → StandsFor p there (items_of_transfers c.shape xs rest) end c memory known store s → HasDone p there rest end c memory (known_behind xs known) (do_all xs store) s
+pub transfers_are_done : (p : Program) (there : Labels) (rest : List AsmItem) (end : ℕ) (c : CallAt) (memory : Memory) → FitsTheStack c → (xs : List Transfer) (known : ℕ → Bool) (store : Places) (s : State) → KnowsValues known → CanTransferAll c.shape known xs → StandsFor p there (items_of_transfers c.shape xs rest) end c memory known store s → HasDone p there rest end c memory (known_behind xs known) (do_all xs store) s
 transfers_are_done p there rest end c memory call [] known store s knows can h =
     record { to = s; comes = stays p s; stands = h; knows = knows; input = refl; output = refl; kept = kept-same p c s s (λ y. refl) refl (λ q from to e. refl) }
 transfers_are_done p there rest end c memory call (x ∷ xs) known store s knows can h =

@@ -18,7 +18,7 @@ use Rattle.frame_transfers.specs.Items.{items_of_transfers}
 
 -- whose bytes there are, and where the frame of a call stands: at an address and a depth, with the number of its first
 -- object and a shape
-pub record Call : Type 0 where
+pub record CallAt : Type 0 where
   pub extents : Extents
   pub owner : Owners
   pub sp : ℕ
@@ -27,12 +27,12 @@ pub record Call : Type 0 where
   pub shape : FrameShape
 
 -- a frame that the stack may hold
-pub record FitsTheStack (c : Call) : Type 0 where
+pub record FitsTheStack (c : CallAt) : Type 0 where
   pub small : c.sp + frame_size c.shape < 2 ^ 64
   pub near : frame_size c.shape < 2147450880
 
 -- the machine stands at the first of some items, and for a call with what it holds, where a memory is as it is
-pub record StandsFor (p : Program) (there : Labels) (items : List AsmItem) (end : ℕ) (c : Call) (memory : Memory)
+pub record StandsFor (p : Program) (there : Labels) (items : List AsmItem) (end : ℕ) (c : CallAt) (memory : Memory)
     (known : ℕ → Bool) (store : Places) (s : State) : Type 0 where
   pub word : ℕ
   pub is_at : IsAt p there word items end s
@@ -72,13 +72,13 @@ CanTransferAll s known (x ∷ xs) = CanTransfer s known x × CanTransferAll s (k
 
 -- what may be accessed is as before, and so are the bytes that no instruction of the call writes, and the registers of
 -- the caller that the function does not save
-pub record IsKept (p : Program) (c : Call) (s t : State) : Type 0 where
+pub record IsKept (p : Program) (c : CallAt) (s t : State) : Type 0 where
   pub reach : (y : ℕ) → is_reached p t y ≡ is_reached p s y
   pub bytes : KeepsUnwritten c.owner c.depth (memory_bytes p s) (memory_bytes p t)
   pub registers : (q : ℕ) → 9 ≤ q → q < 16 → c.shape.saves q ≡ false → register t q ≡ register s q
 
 -- the machine has come to other items, for other contents of the call
-pub record HasDone (p : Program) (there : Labels) (rest : List AsmItem) (end : ℕ) (c : Call) (memory : Memory)
+pub record HasDone (p : Program) (there : Labels) (rest : List AsmItem) (end : ℕ) (c : CallAt) (memory : Memory)
     (known : ℕ → Bool) (store : Places) (s : State) : Type 0 where
   pub to : State
   pub comes : Comes p s to
@@ -90,7 +90,7 @@ pub record HasDone (p : Program) (there : Labels) (rest : List AsmItem) (end : �
 
 abbrev pub TransfersAreDone : Type 0
 TransfersAreDone =
-    (p : Program) (there : Labels) (rest : List AsmItem) (end : ℕ) (c : Call) (memory : Memory) → FitsTheStack c →
+    (p : Program) (there : Labels) (rest : List AsmItem) (end : ℕ) (c : CallAt) (memory : Memory) → FitsTheStack c →
     (xs : List Transfer) (known : ℕ → Bool) (store : Places) (s : State) → KnowsValues known →
     CanTransferAll c.shape known xs →
     StandsFor p there (items_of_transfers c.shape xs rest) end c memory known store s →

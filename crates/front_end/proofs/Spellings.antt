@@ -1,5 +1,5 @@
 -- In the tree of a text the names of functions are identifiers, and the literals in initialisers hold bytes.
-use Rattle.std.proofs.Common.{ℕ, List, ◌∷◌, IsTrue, Some, refl, All}
+use Rattle.std.proofs.Common.{ℕ, List, IsTrue, Some, refl, All}
 use Rattle.std.proofs.lemmas.List.Elements.{All-head, All-tail, All-weaker}
 use Rattle.c_tree.specs.declared.declarations.FunctionEnd.TheVariants as f
 use Rattle.c_tree.specs.declared.declarations.External.{External}
@@ -7,7 +7,7 @@ use Rattle.c_tree.specs.declared.declarations.External.TheVariants as x
 use Rattle.c_tree.specs.declared.declarations.Init.{Init}
 use Rattle.c_tree.specs.declared.declarations.TranslationUnit.{TranslationUnit}
 use Rattle.c_typed_tree.specs.declared.units.TypedUnit.{TypedUnit}
-use Rattle.c_typed_tree.specs.Lawful.{is_identifier, IsLawful}
+use Rattle.c_typed_tree.specs.Lawful.{is_identifier, IsLawfulUnit}
 use Rattle.c_parser.specs.Reading.{IsRead}
 use Rattle.c_text_bytes.specs.Cells.{AreBytes}
 use Rattle.c_identifier_laws.specs.Identifiers.{HasIdentifier}
@@ -39,5 +39,5 @@ spelled t tree bytes read = record {
   initialisers = λ init there. held there (read_bytes t tree bytes read);
 }
 
-pub is_unit : (t : List ℕ) (tree : TranslationUnit) (typed : TypedUnit) → AreBytes t → IsRead t tree → IsTyped tree typed → (HasSpellings tree → IsLawful typed) → IsUnitOf t tree typed
+pub is_unit : (t : List ℕ) (tree : TranslationUnit) (typed : TypedUnit) → AreBytes t → IsRead t tree → IsTyped tree typed → (HasSpellings tree → IsLawfulUnit typed) → IsUnitOf t tree typed
 is_unit t tree typed bytes read is lawful = record { read = read; typed = is; lawful = lawful (spelled t tree bytes read) }

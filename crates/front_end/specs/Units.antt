@@ -10,7 +10,7 @@ use Rattle.c_type_faults.specs.declared.faults.Kind.{Kind}
 use Rattle.c_type_faults.specs.Faults.{head}
 use Rattle.c_types.specs.CUnits.{faults_of}
 use Rattle.c_typed_tree.specs.declared.units.TypedUnit.{TypedUnit}
-use Rattle.c_typed_tree.specs.Lawful.{IsLawful}
+use Rattle.c_typed_tree.specs.Lawful.{IsLawfulUnit}
 use Rattle.c_typed_tree.specs.Weight.{unit_weight}
 use Rattle.c_typed_tree.specs.Rooms.{data_size}
 use Rattle.c_types.specs.Units.{IsTyped}
@@ -24,7 +24,7 @@ use Rattle.front_end.specs.Limits.{most_weight, most_data}
 pub record IsUnitOf (text : List ℕ) (tree : TranslationUnit) (unit : TypedUnit) : Type 0 where
   pub read : IsRead text tree
   pub typed : IsTyped tree unit
-  pub lawful : IsLawful unit
+  pub lawful : IsLawfulUnit unit
 
 -- which is within the limits of weight and of data
 pub record IsUnitWithin (text : List ℕ) (tree : TranslationUnit) (unit : TypedUnit) : Type 0 where

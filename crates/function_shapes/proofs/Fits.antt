@@ -8,7 +8,7 @@ use Rattle.temp_ir.specs.Fixed.{has_number}
 use Rattle.alloc_model.specs.declared.allocation.Transfer.{Transfer}
 use Rattle.alloc_model.specs.declared.allocation.Transfer.TheVariants.{Store, Load, Shift}
 use Rattle.alloc_model.specs.Places.{Plan, linear_number, transfers_at, registers_at}
-use Rattle.alloc_model.specs.Faithful.{given_registers, IsGiven, named_registers, IsTransfer, HasLists}
+use Rattle.alloc_model.specs.Faithful.{given_registers, IsGivenRegister, named_registers, IsTransfer, HasLists}
 use Rattle.flat_frames.specs.Shapes.{FrameShape}
 use Rattle.placed_steps.specs.Laws.{usable, MayHold, AllMayHold}
 use Rattle.placed_steps.specs.Points.{MayTransfer, AllMayTransfer}
@@ -18,7 +18,7 @@ use Rattle.function_shapes.specs.Shapes.{names_in, shape_of, PlanFits}
 all-usable : All (λ r. usable r ≡ true) given_registers
 all-usable = All-from_recursion (λ r. usable r ≡ true) given_registers (refl, (refl, (refl, (refl, (refl, (refl, (refl, (refl, (refl, (refl, (refl, (refl, (refl, (refl, (refl, (refl, (refl, (refl, (refl, (refl, (refl, (refl, (refl, (refl, (refl, (refl, tt))))))))))))))))))))))))))
 
-given-usable : (r : ℕ) → IsGiven r → usable r ≡ true
+given-usable : (r : ℕ) → IsGivenRegister r → usable r ≡ true
 given-usable r h = All-contains (λ q. usable q ≡ true) given_registers r all-usable h
 
 -- ---- tests of lists
@@ -45,29 +45,29 @@ index-past (x ∷ xs) (suc n) d le = index-past xs n d (omega (arith, le))
 
 -- ---- a frame that saves what is named
 
-may-hold : (s : FrameShape) (r : ℕ) → IsGiven r → s.saves r ≡ true → MayHold s r
+may-hold : (s : FrameShape) (r : ℕ) → IsGivenRegister r → s.saves r ≡ true → MayHold s r
 may-hold s r given saved = record { usable_one = given-usable r given; saved = λ from to. saved }
 
-may-transfer : (s : FrameShape) (x : Transfer) → ((r : ℕ) → has_number (named_registers x) r ≡ true → s.saves r ≡ true) → IsTransfer s.temps IsGiven x → MayTransfer s x
-may-transfer s (Store t r) cover h = (h.0, may-hold s r (All-head IsGiven r [] h.1) (cover r (number-here r [])))
-may-transfer s (Load t r) cover h = (h.0, may-hold s r (All-head IsGiven r [] h.1) (cover r (number-here r [])))
+may-transfer : (s : FrameShape) (x : Transfer) → ((r : ℕ) → has_number (named_registers x) r ≡ true → s.saves r ≡ true) → IsTransfer s.temps IsGivenRegister x → MayTransfer s x
+may-transfer s (Store t r) cover h = (h.0, may-hold s r (All-head IsGivenRegister r [] h.1) (cover r (number-here r [])))
+may-transfer s (Load t r) cover h = (h.0, may-hold s r (All-head IsGivenRegister r [] h.1) (cover r (number-here r [])))
 may-transfer s (Shift t from to) cover h = (
-  may-hold s from (All-head IsGiven from (to ∷ []) h.1) (cover from (number-here from (to ∷ []))),
-  may-hold s to (All-head IsGiven to [] (All-tail IsGiven from (to ∷ []) h.1)) (cover to (or-right (from == to) (has_number (to ∷ []) to) (number-here to []))),
+  may-hold s from (All-head IsGivenRegister from (to ∷ []) h.1) (cover from (number-here from (to ∷ []))),
+  may-hold s to (All-head IsGivenRegister to [] (All-tail IsGivenRegister from (to ∷ []) h.1)) (cover to (or-right (from == to) (has_number (to ∷ []) to) (number-here to []))),
 )
 
-all-may-transfer : (s : FrameShape) (xs : List Transfer) → ((r : ℕ) → names_in xs r ≡ true → s.saves r ≡ true) → All (IsTransfer s.temps IsGiven) xs → AllMayTransfer s xs
+all-may-transfer : (s : FrameShape) (xs : List Transfer) → ((r : ℕ) → names_in xs r ≡ true → s.saves r ≡ true) → All (IsTransfer s.temps IsGivenRegister) xs → AllMayTransfer s xs
 all-may-transfer s [] cover h = tt
 all-may-transfer s (x ∷ xs) cover h = (
-  may-transfer s x (λ r e. cover r (or-left (has_number (named_registers x) r) (names_in xs r) e)) (All-head (IsTransfer s.temps IsGiven) x xs h),
-  all-may-transfer s xs (λ r e. cover r (or-right (has_number (named_registers x) r) (names_in xs r) e)) (All-tail (IsTransfer s.temps IsGiven) x xs h),
+  may-transfer s x (λ r e. cover r (or-left (has_number (named_registers x) r) (names_in xs r) e)) (All-head (IsTransfer s.temps IsGivenRegister) x xs h),
+  all-may-transfer s xs (λ r e. cover r (or-right (has_number (named_registers x) r) (names_in xs r) e)) (All-tail (IsTransfer s.temps IsGivenRegister) x xs h),
 )
 
-all-may-hold : (s : FrameShape) (rs : List ℕ) → ((r : ℕ) → has_number rs r ≡ true → s.saves r ≡ true) → All IsGiven rs → AllMayHold s rs
+all-may-hold : (s : FrameShape) (rs : List ℕ) → ((r : ℕ) → has_number rs r ≡ true → s.saves r ≡ true) → All IsGivenRegister rs → AllMayHold s rs
 all-may-hold s [] cover h = tt
 all-may-hold s (r ∷ rs) cover h = (
-  may-hold s r (All-head IsGiven r rs h) (cover r (number-here r rs)),
-  all-may-hold s rs (λ q e. cover q (or-right (r == q) (has_number rs q) e)) (All-tail IsGiven r rs h),
+  may-hold s r (All-head IsGivenRegister r rs h) (cover r (number-here r rs)),
+  all-may-hold s rs (λ q e. cover q (or-right (r == q) (has_number rs q) e)) (All-tail IsGivenRegister r rs h),
 )
 
 -- ---- a plan

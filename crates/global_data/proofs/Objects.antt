@@ -7,7 +7,7 @@ use Rattle.alpha_items.specs.declared.item.Fix.{Fix}
 use Rattle.data_object.specs.declared.DataObject.{DataObject}
 use Rattle.data_object.specs.declared.DataCell.{DataCell}
 use Rattle.data_object.specs.declared.DataCell.TheVariants.{Byte, AddressPart}
-use Rattle.data_object.specs.Layout.{LieFrom}
+use Rattle.data_object.specs.Layout.{ObjectsLieFrom}
 use Rattle.flat_memory.specs.Bytes.{AreBytes}
 use Rattle.flat_globals.specs.Globals.{offset_of}
 use Rattle.flat_globals.proofs.Lists.{map-size, replicate-size}
@@ -17,7 +17,7 @@ use Rattle.global_data.proofs.Fixes.{OfEach, OfSome, each-append, some-first, so
 
 -- ---- where objects lie
 
-pub behind-of : (globals : List DataObject) (end k : ℕ) (o : DataObject) → LieFrom end globals → slice_get globals k ≡ Some o → end ≤ o.offset
+pub behind-of : (globals : List DataObject) (end k : ℕ) (o : DataObject) → ObjectsLieFrom end globals → slice_get globals k ≡ Some o → end ≤ o.offset
 behind-of [] end k o h e = absurd (cc)
 behind-of (x ∷ globals) end zero o h e =
     let is : x ≡ o = cc in
@@ -28,7 +28,7 @@ behind-of (x ∷ globals) end (suc k) o h e =
     let later = behind-of globals (x.offset + x.size) k o h.1 e in
     omega (arith, at, later)
 
-before-other : (globals : List DataObject) (end j k : ℕ) (o q : DataObject) → LieFrom end globals → slice_get globals j ≡ Some o → slice_get globals k ≡ Some q → j < k → o.offset + o.size ≤ q.offset
+before-other : (globals : List DataObject) (end j k : ℕ) (o q : DataObject) → ObjectsLieFrom end globals → slice_get globals j ≡ Some o → slice_get globals k ≡ Some q → j < k → o.offset + o.size ≤ q.offset
 before-other [] end j k o q h e f lt = absurd (cc)
 before-other (x ∷ globals) end j zero o q h e f lt = absurd (omega (arith, lt))
 before-other (x ∷ globals) end zero (suc k) o q h e f lt =
@@ -37,7 +37,7 @@ before-other (x ∷ globals) end zero (suc k) o q h e f lt =
 before-other (x ∷ globals) end (suc j) (suc k) o q h e f lt = before-other globals (x.offset + x.size) j k o q h.1 e f (omega (arith, lt))
 
 -- a byte lies in one object
-pub same-object : (globals : List DataObject) (end j k y : ℕ) (o q : DataObject) → LieFrom end globals → slice_get globals j ≡ Some o → slice_get globals k ≡ Some q → o.offset ≤ y → y < o.offset + o.size → q.offset ≤ y → y < q.offset + q.size → j ≡ k
+pub same-object : (globals : List DataObject) (end j k y : ℕ) (o q : DataObject) → ObjectsLieFrom end globals → slice_get globals j ≡ Some o → slice_get globals k ≡ Some q → o.offset ≤ y → y < o.offset + o.size → q.offset ≤ y → y < q.offset + q.size → j ≡ k
 same-object globals end j k y o q h e f a b c d = ⊎_elim
     (λ lt. let z = before-other globals end j k o q h e f lt in absurd (omega (arith, z, b, c)))
     (λ le. ⊎_elim
@@ -67,7 +67,7 @@ zero-at o at le =
 
 -- ---- in the data
 
-pub global-byte : (globals : List DataObject) (end k : ℕ) (o : DataObject) → LieFrom end globals → ((n : ℕ) (x : DataObject) → slice_get globals n ≡ Some x → length x.cells ≤ x.size) → slice_get globals k ≡ Some o → (at : ℕ) → at < o.size → slice_index (bytes_from_end end globals) (o.offset + at - end) ≡ slice_index (object_bytes o) at
+pub global-byte : (globals : List DataObject) (end k : ℕ) (o : DataObject) → ObjectsLieFrom end globals → ((n : ℕ) (x : DataObject) → slice_get globals n ≡ Some x → length x.cells ≤ x.size) → slice_get globals k ≡ Some o → (at : ℕ) → at < o.size → slice_index (bytes_from_end end globals) (o.offset + at - end) ≡ slice_index (object_bytes o) at
 global-byte [] end k o h small e at lt = absurd (cc)
 global-byte (x ∷ globals) end zero o h small e at lt =
     let is : x ≡ o = cc in
@@ -94,7 +94,7 @@ global-byte (x ∷ globals) end (suc k) o h small e at lt =
     ∙ ap (slice_index (bytes_from_end (x.offset + x.size) globals)) sum
     ∙ global-byte globals (x.offset + x.size) k o h.1 (λ n y f. small (suc n) y f) e at lt
 
-pub global-length : (globals : List DataObject) (end k : ℕ) (o : DataObject) → LieFrom end globals → ((n : ℕ) (x : DataObject) → slice_get globals n ≡ Some x → length x.cells ≤ x.size) → slice_get globals k ≡ Some o → o.offset + o.size ≤ end + length (bytes_from_end end globals)
+pub global-length : (globals : List DataObject) (end k : ℕ) (o : DataObject) → ObjectsLieFrom end globals → ((n : ℕ) (x : DataObject) → slice_get globals n ≡ Some x → length x.cells ≤ x.size) → slice_get globals k ≡ Some o → o.offset + o.size ≤ end + length (bytes_from_end end globals)
 global-length [] end k o h small e = absurd (cc)
 global-length (x ∷ globals) end zero o h small e =
     let is : x ≡ o = cc in

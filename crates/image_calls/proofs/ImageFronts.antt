@@ -7,11 +7,11 @@ use Rattle.alpha_isa.specs.ImageFormat.{IsImage}
 use Rattle.alpha_image.specs.ImageFault.{image_fault}
 use Rattle.alpha_image.specs.declared.read.ImageFault.{ImageFault}
 use Rattle.alpha_image.specs.declared.read.ImageFault.TheVariants as fault
-use Rattle.alpha_image.specs.ReadImage.{IsFault}
+use Rattle.alpha_image.specs.ReadImage.{IsImageFault}
 use Rattle.alpha_image.proofs.ImageFronts.{front_fault}
 use Rattle.alpha_image.proofs.ImageLaws.{longest}
 use Rattle.image_calls.specs.model.Causes.{outcome_of_image_fault}
-use Rattle.image_calls.specs.RunImage.{RefusesBytes, Holds}
+use Rattle.image_calls.specs.RunImage.{RefusesBytes, HoldsImage}
 use Rattle.image_calls.specs.model.ImageLimit.{image_limit}
 use Rattle.call_outcomes.specs.FromFile.{IsCause, IsFront, text_of}
 use Rattle.call_outcomes.specs.Output.{file_faults_after}
@@ -34,12 +34,12 @@ fault_told : (told : Option Shelf) (name bytes : List ℕ) (at : ℕ) → IfSome
 fault_told None name bytes at front e = tt
 fault_told (Some shelf) name bytes at front e = fault_is (file_of shelf name) bytes at front e
 
-pub image_told : (told : Option Shelf) (name bytes : List ℕ) (p : Program) → IfSome told (λ shelf. IsFront image_limit (file_of shelf name) bytes) → IsImage bytes p → Holds (text_of told name) p
+pub image_told : (told : Option Shelf) (name bytes : List ℕ) (p : Program) → IfSome told (λ shelf. IsFront image_limit (file_of shelf name) bytes) → IsImage bytes p → HoldsImage (text_of told name) p
 image_told None name bytes p front is = tt
 image_told (Some shelf) name bytes p front is = image_is (file_of shelf name) bytes p front is
 
 -- why there is no image in a file
-pub bytes_cause : (told : Option Shelf) (name bytes : List ℕ) (f : ImageFault) → IfSome told (λ shelf. IsFront image_limit (file_of shelf name) bytes) → IsFault f bytes → IsCause (RefusesBytes (text_of told name)) (outcome_of_image_fault f)
+pub bytes_cause : (told : Option Shelf) (name bytes : List ℕ) (f : ImageFault) → IfSome told (λ shelf. IsFront image_limit (file_of shelf name) bytes) → IsImageFault f bytes → IsCause (RefusesBytes (text_of told name)) (outcome_of_image_fault f)
 bytes_cause told name bytes (fault.BadImage at) front e = fault_told told name bytes at front e
 bytes_cause told name bytes fault.NoMemory front e = inl e.1
 

@@ -1,3 +1,4 @@
 pub mod ImageFronts
 pub mod MigrateImages
 pub mod RunImages
+pub mod ExecuteImages

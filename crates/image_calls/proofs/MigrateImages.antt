@@ -10,7 +10,7 @@ use Rattle.call_outcomes.specs.FromFile.{IsCause}
 use Rattle.image_calls.specs.RunImage.{RefusesBytes}
 use Rattle.image_calls.specs.MigrateImage.{Migrates}
 
-no_refusal : (bytes : List ℕ) (at : ℕ) → image_fault bytes ≡ None → image_fault bytes ≡ Some at → ⊥
+pub no_refusal : (bytes : List ℕ) (at : ℕ) → image_fault bytes ≡ None → image_fault bytes ≡ Some at → ⊥
 no_refusal bytes at none some = cc
 
 by_cause : (bytes : List ℕ) (answer : Outcome) → image_fault bytes ≡ None → answer ≢ FileFault → IsCause (RefusesBytes (Some bytes)) answer → (answer ≡ Built) ⊎ (answer ≡ NoMemory)

@@ -1,4 +1,5 @@
 pub mod WriteImage
 pub mod RunImage
+pub mod ExecuteImage
 pub mod MigrateImage
 pub mod model

@@ -5,7 +5,7 @@ use Rattle.alpha_isa.specs.Behave.{behave_a}
 use Rattle.call_outcomes.specs.declared.outcome.Outcome.{Outcome}
 use Rattle.call_outcomes.specs.FromFile.{Does}
 use Rattle.image_calls.specs.WriteImage.{WritesImage}
-use Rattle.image_calls.specs.RunImage.{RefusesBytes, Holds}
+use Rattle.image_calls.specs.RunImage.{RefusesBytes, HoldsImage}
 
 -- The image with its zeros cut, which behaves as the image does, on every stack and input, in every number of steps.
 pub record IsMigrated (p q : Program) : Type 0 where
@@ -18,4 +18,4 @@ WritesMigrated p answer old new = (q : Program) × IsMigrated p q × WritesImage
 
 -- What `migrate` answers for bytes, where they are told, and what the output took.
 abbrev pub Migrates : Option (List ℕ) → Outcome → Option (List ℕ) → Option (List ℕ) → Type 0
-Migrates bytes = Does (RefusesBytes bytes) (Holds bytes) WritesMigrated
+Migrates bytes = Does (RefusesBytes bytes) (HoldsImage bytes) WritesMigrated

@@ -5,7 +5,8 @@ use Rattle.alpha_isa.specs.Program.{Program}
 use Rattle.alpha_isa.specs.ImageFormat.{IsImage}
 use Rattle.alpha_run.specs.declared.ending.Ending.{Ending}
 use Rattle.alpha_run.specs.declared.ending.Ending.TheVariants as ending
-use Rattle.alpha_run.specs.Run.{Traffic, MachineBehaves}
+use Rattle.alpha_run.specs.Run.{MachineBehaves}
+use Rattle.bk_io.specs.Outside.{Traffic}
 use Rattle.alpha_image.specs.ImageFault.{image_fault}
 use Rattle.call_outcomes.specs.declared.outcome.Outcome.{Outcome}
 use Rattle.call_outcomes.specs.declared.outcome.Outcome.TheVariants.{Ran, Trapped, Stuck, Budget, InputFault, WriteFault, BadImage, NoMemory}
@@ -22,15 +23,15 @@ outcome_of_ending budget ending.InputFault = InputFault
 outcome_of_ending budget ending.WriteFault = WriteFault
 
 -- the run of an image on its stack and within its steps, on the input that is left, where it is told
-abbrev pub RunsBy : MachineLimits → Program → Ending → Traffic → Traffic → Type 0
-RunsBy limits p e before after =
+abbrev pub ImageRunsBy : MachineLimits → Program → Ending → Traffic → Traffic → Type 0
+ImageRunsBy limits p e before after =
     (input : List ℕ) → before.left ≡ Some input → MachineBehaves p limits.stack input limits.budget e before after
 
 -- what is answered for an image: how its run ends, or want of memory, before anything is read or put
 abbrev pub RunsImage : MachineLimits → Program → Outcome → Traffic → Traffic → Type 0
 RunsImage limits p answer before after =
     ((answer ≡ NoMemory) × (after ≡ before) × MemoryIsShort)
-    ⊎ ((e : Ending) × (answer ≡ outcome_of_ending limits.budget e) × RunsBy limits p e before after)
+    ⊎ ((e : Ending) × (answer ≡ outcome_of_ending limits.budget e) × ImageRunsBy limits p e before after)
 
 -- why bytes are no image, where they are told
 abbrev pub RefusesBytes : Option (List ℕ) → Outcome → Type 0
@@ -38,9 +39,9 @@ RefusesBytes bytes (BadImage at) = IfSome bytes (λ b. image_fault b ≡ Some at
 RefusesBytes bytes _ = ⊥
 
 -- the image of the bytes, where they are told
-abbrev pub Holds : Option (List ℕ) → Program → Type 0
-Holds bytes p = IfSome bytes (λ b. IsImage b p)
+abbrev pub HoldsImage : Option (List ℕ) → Program → Type 0
+HoldsImage bytes p = IfSome bytes (λ b. IsImage b p)
 
 -- What `exec` answers for bytes, where they are told.
 abbrev pub Executes : MachineLimits → Option (List ℕ) → Outcome → Traffic → Traffic → Type 0
-Executes limits bytes = Does (RefusesBytes bytes) (Holds bytes) (RunsImage limits)
+Executes limits bytes = Does (RefusesBytes bytes) (HoldsImage bytes) (RunsImage limits)

@@ -5,7 +5,7 @@ ghost use Rattle.bk_io.specs.Shelf.{is_due, after_call};
 ghost use Rattle.call_outcomes.specs.FromFile.{text_of, IsCause};
 ghost use Rattle.call_outcomes.specs.Output.{file_faults_unless};
 ghost use Rattle.image_calls.specs.model.Causes as spec;
-ghost use Rattle.image_calls.specs.RunImage.{RefusesBytes, Holds};
+ghost use Rattle.image_calls.specs.RunImage.{RefusesBytes, HoldsImage};
 
 use alpha_image::{ImageFault, read_image};
 use alpha_isa::image::Image;
@@ -33,7 +33,7 @@ pub(crate) fn image_in_file<F: Files>(
     files: &mut F,
     name: &str,
 ) -> Result<Image, Outcome>
-    ensures image { IfOk result (Holds (text_of (F.told files.old) name.now)) }
+    ensures image { IfOk result (HoldsImage (text_of (F.told files.old) name.now)) }
     ensures cause { IfErr result (IsCause (RefusesBytes (text_of (F.told files.old) name.now))) }
     ensures due { IfSome (F.told files.old)
         (λ shelf. IsErrOf result Outcome.FileFault ↔ IsTrue (is_due shelf name.now)) }

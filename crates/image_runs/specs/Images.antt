@@ -10,7 +10,7 @@ use Rattle.alloc_model.specs.declared.allocation.Allocation.{Allocation}
 use Rattle.alloc_model.specs.Temporaries.{code_of, main_of, TempsEnd}
 use Rattle.alloc_model.specs.Places.{plan_of, functions_of}
 use Rattle.flat_memory.specs.Bytes.{AreBytes}
-use Rattle.flat_starts.specs.Builds.{Build, IsBuilt}
+use Rattle.flat_starts.specs.Builds.{Build, BuildStands}
 use Rattle.flat_starts.specs.Runs.{turns_for}
 use Rattle.flat_starts.specs.Starts.{IsBegun}
 
@@ -18,7 +18,7 @@ use Rattle.flat_starts.specs.Starts.{IsBegun}
 pub record IsImageOf (b : Build) (program : TempProgram) (allocations : List Allocation) (stack : ℕ) : Type 0 where
   pub plans : b.plans ≡ map plan_of allocations
   pub functions : map code_of program.functions ≡ functions_of (map plan_of allocations)
-  pub built : IsBuilt b
+  pub built : BuildStands b
   pub begun : IsBegun b (main_of program.functions) stack program.globals
 
 -- in some number of steps the image does what an ending is: it ends with the same output and status or code, or has

@@ -49,7 +49,7 @@ use Rattle.flat_frames.specs.Shapes.{FrameShape, frame_size, argument_at, object
 use Rattle.flat_frames.specs.Frames.{word_in, FrameAndMemory, with_known}
 use Rattle.frame_accesses.specs.Items.{frame_load, frame_store, frame_address, register_move}
 use Rattle.frame_accesses.proofs.Runs.{stands, bytes-same, reached-same, parts-same}
-use Rattle.frame_transfers.specs.Laws.{Call, FitsTheStack, StandsFor, KnowsValues, IsWritable, HasDone}
+use Rattle.frame_transfers.specs.Laws.{CallAt, FitsTheStack, StandsFor, KnowsValues, IsWritable, HasDone}
 use Rattle.frame_transfers.proofs.Runs.{transfers_are_done, kept-same}
 use Rattle.frame_instructions.specs.Laws.{StandsIn, GivesRegister}
 use Rattle.frame_instructions.specs.FrameLaws.{address_content}
@@ -144,7 +144,7 @@ three-registers (a ∷ b ∷ []) e = absurd (omega (arith, e))
 three-registers (a ∷ b ∷ d ∷ []) e = (a, b, d, refl)
 three-registers (a ∷ b ∷ d ∷ f ∷ rs) e = absurd (omega (arith, e))
 
-module _ (p : Program) (there : Labels) (g : ItemSetting) (rest : List AsmItem) (end : ℕ) (c : Call) (o : Outer) (store : Places) (s : State) (call : FitsTheStack c) (shape : g.shape ≡ c.shape) (args : ArgumentsAre c store (memory_bytes p s)) (outer : HasOuter o s) where
+module _ (p : Program) (there : Labels) (g : ItemSetting) (rest : List AsmItem) (end : ℕ) (c : CallAt) (o : Outer) (store : Places) (s : State) (call : FitsTheStack c) (shape : g.shape ≡ c.shape) (args : ArgumentsAre c store (memory_bytes p s)) (outer : HasOuter o s) where
   -- the machine stands at items, and does what an act is
   abbrev Here : List AsmItem → Type 0
   Here items = StandsFor p there (items ++ rest) end c o.memory usable store s
@@ -289,7 +289,7 @@ module _ (p : Program) (there : Labels) (g : ItemSetting) (rest : List AsmItem) 
 -- ---- unconditional branches
 
 -- a branch that links no register has come to its label, whatever the call holds
-pub jumps_are_done : (p : Program) (there : Labels) (rest : List AsmItem) (end : ℕ) (c : Call) (o : Outer) (store : Places) (s : State) → HasOuter o s → (l : ℕ) → StandsFor p there (Branch Br 31 l ∷ rest) end c o.memory usable store s → IsAtLabel p there l c o store s
+pub jumps_are_done : (p : Program) (there : Labels) (rest : List AsmItem) (end : ℕ) (c : CallAt) (o : Outer) (store : Places) (s : State) → HasOuter o s → (l : ℕ) → StandsFor p there (Branch Br 31 l ∷ rest) end c o.memory usable store s → IsAtLabel p there l c o store s
 jumps_are_done p there rest end c o store s outer l h =
     let d = branches_step p there h.word Br 31 l rest end s (stands p there h.word (Branch Br 31 l) rest end s h.is_at) (omega arith) in
     let same = λ (q : ℕ) (ne : q ≢ 28). d.registers q ne ∙ read-lost 31 q (word_address d.next) s refl in

@@ -29,7 +29,7 @@ use Rattle.flat_operations.specs.Contents.{ContentIs}
 use Rattle.flat_frames.specs.Frames.{FrameAndMemory, RegistersAre}
 use Rattle.flat_frames.proofs.Frames.{registers_are_put}
 use Rattle.frame_accesses.proofs.Runs.{stands, bytes-same, reached-same, parts-same}
-use Rattle.frame_transfers.specs.Laws.{Call, StandsFor}
+use Rattle.frame_transfers.specs.Laws.{CallAt, StandsFor}
 use Rattle.frame_transfers.proofs.Runs.{frame-with_register, kept-same}
 use Rattle.instruction_items.specs.Items.{ItemSetting}
 use Rattle.instruction_items.specs.Laws.{usable, HasOuter, ComesToItems, ActIsDone, store_behind}
@@ -60,7 +60,7 @@ bytes-io : (p : Program) (s : State) (input output : List ℕ) → memory_bytes 
 unfolding memory_bytes
 bytes-io p s input output = refl
 
-module _ (p : Program) (there : Labels) (g : ItemSetting) (rest : List AsmItem) (end : ℕ) (c : Call) (o : Outer) (store : Places) (s : State) (outer : HasOuter o s) where
+module _ (p : Program) (there : Labels) (g : ItemSetting) (rest : List AsmItem) (end : ℕ) (c : CallAt) (o : Outer) (store : Places) (s : State) (outer : HasOuter o s) where
   abbrev Serves : ℕ → Type 0
   Serves function = StandsFor p there (Plain (fields.Pal function) ∷ rest) end c o.memory usable store s
 

@@ -28,7 +28,7 @@ use Rattle.flat_memory.specs.Machine.{memory_bytes}
 use Rattle.flat_operations.specs.Contents.{ContentIs}
 use Rattle.flat_frames.specs.Shapes.{FrameShape, frame_size, argument_at}
 use Rattle.flat_frames.specs.Frames.{word_in}
-use Rattle.frame_transfers.specs.Laws.{Call, FitsTheStack, StandsFor, IsKept}
+use Rattle.frame_transfers.specs.Laws.{CallAt, FitsTheStack, StandsFor, IsKept}
 use Rattle.instruction_items.specs.Items.{ItemSetting, insn_items}
 
 -- the registers in which values may stand: all but 26, which has the return address, and the scratch registers 28 and
@@ -57,7 +57,7 @@ IsSmallOperand (operand.Temp t) = Unit {0}
 IsSmallOperand (operand.Literal n) = n < 256
 
 -- an object of static storage lies where the setting has it
-pub record IsGlobal (p : Program) (g : ItemSetting) (c : Call) (k plus : ℕ) : Type 0 where
+pub record IsGlobal (p : Program) (g : ItemSetting) (c : CallAt) (k plus : ℕ) : Type 0 where
   pub extent : Extent
   pub made : slice_get c.extents k ≡ Some extent
   pub sound : IsExtent extent
@@ -65,13 +65,13 @@ pub record IsGlobal (p : Program) (g : ItemSetting) (c : Call) (k plus : ℕ) : 
   pub within : plus ≤ extent.size
   pub near : data_start p + (g.global_at k + plus) < 2147450880
 
-pub record IsNearLocal (c : Call) (k plus : ℕ) : Type 0 where
+pub record IsNearLocal (c : CallAt) (k plus : ℕ) : Type 0 where
   pub size : ℕ
   pub made : slice_get c.shape.sizes k ≡ Some size
   pub within : plus ≤ size
 
 -- what an instruction names is there, and its numbers fit
-abbrev pub IsThere : Program → ItemSetting → Call → TempInsn → Type 0
+abbrev pub IsThere : Program → ItemSetting → CallAt → TempInsn → Type 0
 IsThere p g c (i.ObjectAddress destination (Global k) plus) = IsGlobal p g c k plus
 IsThere p g c (i.ObjectAddress destination (Local k) plus) = IsNearLocal c k plus
 IsThere p g c (i.Operate op destination left right) = IsSmallOperand right
@@ -80,7 +80,7 @@ IsThere p g c (i.SetFixed register number) = IsDisplacement number
 IsThere p g c _ = Unit {0}
 
 -- an argument of this call stands above its frame, in a place that the caller owns, unless nothing is held there
-pub record IsHeldArgument (c : Call) (k : ℕ) (content : Content) (m : Bytes) : Type 0 where
+pub record IsHeldArgument (c : CallAt) (k : ℕ) (content : Content) (m : Bytes) : Type 0 where
   pub caller : ℕ
   pub above : c.depth ≡ caller + 1
   pub owned : (j : ℕ) → j < 8 →
@@ -89,11 +89,11 @@ pub record IsHeldArgument (c : Call) (k : ℕ) (content : Content) (m : Bytes) :
   pub near : frame_size c.shape + argument_at k < 2147450880
   pub is : ContentIs c.extents content (word_in m (c.sp + (frame_size c.shape + argument_at k)))
 
-abbrev pub ArgumentIs : Call → (k : ℕ) → Content → Bytes → Type 0
+abbrev pub ArgumentIs : CallAt → (k : ℕ) → Content → Bytes → Type 0
 ArgumentIs c k (Plain Unset) m = Unit {0}
 ArgumentIs c k content m = IsHeldArgument c k content m
 
-abbrev pub ArgumentsAre : Call → Places → Bytes → Type 0
+abbrev pub ArgumentsAre : CallAt → Places → Bytes → Type 0
 ArgumentsAre c store m = (k : ℕ) → ArgumentIs c k (store (In k)) m
 
 -- the input and the output of a machine are those of the outer part of a world, whose input is of bytes
@@ -105,7 +105,7 @@ pub record HasOuter (o : Outer) (s : State) : Type 0 where
 -- ---- what is done
 
 -- the machine has come to items for what the call holds, and for an outer part of the world
-pub record ComesToItems (p : Program) (there : Labels) (items : List AsmItem) (end : ℕ) (c : Call) (o : Outer)
+pub record ComesToItems (p : Program) (there : Labels) (items : List AsmItem) (end : ℕ) (c : CallAt) (o : Outer)
     (store : Places) (s : State) : Type 0 where
   pub to : State
   pub comes : Comes p s to
@@ -114,7 +114,7 @@ pub record ComesToItems (p : Program) (there : Labels) (items : List AsmItem) (e
   pub kept : IsKept p c s to
 
 -- it has come to a label, and stands at whatever items stand there
-pub record IsAtLabel (p : Program) (there : Labels) (l : ℕ) (c : Call) (o : Outer) (store : Places) (s : State) :
+pub record IsAtLabel (p : Program) (there : Labels) (l : ℕ) (c : CallAt) (o : Outer) (store : Places) (s : State) :
     Type 0 where
   pub to : State
   pub comes : Comes p s to
@@ -125,14 +125,14 @@ pub record IsAtLabel (p : Program) (there : Labels) (l : ℕ) (c : Call) (o : Ou
   pub kept : IsKept p c s to
 
 -- the run is over, with the output of the outer part
-pub record IsOver (p : Program) (o : Outer) (h : Halt) (s : State) : Type 0 where
+pub record RunIsOver (p : Program) (o : Outer) (h : Halt) (s : State) : Type 0 where
   pub steps : ℕ
   pub last : State
   pub run : exec p steps s ≡ step.Over h last
   pub output : last.output ≡ o.output
 
 -- the machine does what an act of an instruction is: `written` is what the call holds once contents are written
-abbrev pub ActIsDone : Program → Labels → ItemSetting → (rest : List AsmItem) → (end : ℕ) → Call →
+abbrev pub ActIsDone : Program → Labels → ItemSetting → (rest : List AsmItem) → (end : ℕ) → CallAt →
     (written : List Content → Places) → TempInsn → State → Act Content → Type 0
 ActIsDone p there g rest end c written x s (Writes cs o) = ComesToItems p there rest end c o (written cs) s
 ActIsDone p there g rest end c written x s (Jumps target o) =
@@ -140,8 +140,8 @@ ActIsDone p there g rest end c written x s (Jumps target o) =
     IsAtLabel p there (g.block_label block) c o (written []) s
 ActIsDone p there g rest end c written x s (Calls function cs o) = Unit {0}
 ActIsDone p there g rest end c written x s (Returns cs o) = Unit {0}
-ActIsDone p there g rest end c written x s (Stops (Exits status) o) = IsOver p o (step.Done status) s
-ActIsDone p there g rest end c written x s (Stops (Traps code) o) = IsOver p o (step.Trap code) s
+ActIsDone p there g rest end c written x s (Stops (Exits status) o) = RunIsOver p o (step.Done status) s
+ActIsDone p there g rest end c written x s (Stops (Traps code) o) = RunIsOver p o (step.Trap code) s
 ActIsDone p there g rest end c written x s (Stops HasNoMeaning o) = Unit {0}
 
 -- the instructions that this is said of
@@ -158,7 +158,7 @@ store_behind registers x store cs =
 
 abbrev pub InstructionsAreDone : Type 0
 InstructionsAreDone =
-    (p : Program) (there : Labels) (g : ItemSetting) (rest : List AsmItem) (end : ℕ) (c : Call) (o : Outer)
+    (p : Program) (there : Labels) (g : ItemSetting) (rest : List AsmItem) (end : ℕ) (c : CallAt) (o : Outer)
     (store : Places) (s : State) → FitsTheStack c → g.shape ≡ c.shape → ArgumentsAre c store (memory_bytes p s) →
     HasOuter o s →
     (widest : ℕ) → widest ≤ c.shape.outgoing + 6 →

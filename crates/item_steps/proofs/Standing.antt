@@ -49,7 +49,7 @@ back-at p w xs ys h k lt =
 
 abbrev pub AllLawful : List Fields → Type 0
 AllLawful [] = Unit {0}
-AllLawful (i ∷ insns) = lawful.IsLawful i × AllLawful insns
+AllLawful (i ∷ insns) = lawful.AreLawfulFields i × AllLawful insns
 
 lawful-append : (xs ys : List Fields) → AllLawful xs → AllLawful ys → AllLawful (xs ++ ys)
 lawful-append [] ys h g = g

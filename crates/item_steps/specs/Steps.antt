@@ -14,8 +14,8 @@ pub record Comes (p : Program) (s t : State) : Type 0 where
   pub steps : ℕ
   pub run : exec p steps s ≡ Goes t
 
-abbrev pub StepsAddUp : Type 0
-StepsAddUp = (p : Program) (s t u : State) → Comes p s t → Comes p t u → Comes p s u
+abbrev pub ImageStepsAddUp : Type 0
+ImageStepsAddUp = (p : Program) (s t u : State) → Comes p s t → Comes p t u → Comes p s u
 
 -- the machine stands at an item, behind which others stand
 pub record StandsAt (p : Program) (there : Labels) (w : ℕ) (i : AsmItem) (items : List AsmItem) (end : ℕ) (s : State) :

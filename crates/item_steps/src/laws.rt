@@ -1,7 +1,7 @@
 //! Laws, each the contract of a function that does nothing.
 
 ghost use Rattle.item_steps.specs.Standing.{ItemsStand, LabelsStand, LabelsAreWords, PartsStand};
-ghost use Rattle.item_steps.specs.Steps.{StepsAddUp, PlainSteps, PlainEnds, AddressesStep, BranchesStep};
+ghost use Rattle.item_steps.specs.Steps.{ImageStepsAddUp, PlainSteps, PlainEnds, AddressesStep, BranchesStep};
 
 /// The items of an assembly stand in its image, behind each label too.
 pub fn items_stand()
@@ -13,7 +13,7 @@ pub fn items_stand()
 
 /// The machine does each item that stands where it is, and comes to the next one or to the label of a branch.
 pub fn items_step()
-    ensures sum { StepsAddUp }
+    ensures sum { ImageStepsAddUp }
     ensures plain { PlainSteps }
     ensures ends { PlainEnds }
     ensures addresses { AddressesStep }

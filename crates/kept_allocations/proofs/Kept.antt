@@ -13,7 +13,7 @@ use Rattle.alloc_model.specs.declared.allocation.EdgeCode.{EdgeCode}
 use Rattle.alloc_model.specs.Effect.{Holder, Temp, Fixed, Incoming, Outgoing}
 use Rattle.alloc_model.specs.Temporaries.{flows_out}
 use Rattle.alloc_model.specs.Places.{Place, Reg, Plan, registers_at, transfers_at}
-use Rattle.alloc_model.specs.Faithful.{Includes, MovesAsk, ReadsAsk, FixedAsk, IsGiven, KeepsEdge, before, move_all, at_top, at_entry, at_bottom, Faithful}
+use Rattle.alloc_model.specs.Faithful.{Includes, MovesAsk, ReadsAsk, FixedAsk, IsGivenRegister, KeepsEdge, before, move_all, at_top, at_entry, at_bottom, Faithful}
 use Rattle.kept_allocations.specs.declared.registers.KeptRegister.{KeptRegister}
 use Rattle.kept_allocations.specs.declared.registers.KeptRegister.TheVariants.{Register9, Register10, Register11, Register12, Register13, Register14, Register15}
 use Rattle.kept_allocations.specs.Keeping.{kept_number, keeping, no_transfers, stated_registers, kept_plan}
@@ -21,7 +21,7 @@ use Rattle.kept_allocations.proofs.Lists.{each_insn, lists}
 
 -- what is known of a register that is kept
 record IsKept (r : ℕ) : Type 0 where
-  given : IsGiven r
+  given : IsGivenRegister r
   stays : has_number ended_by_calls r ≡ false
   high : 9 ≤ r
 

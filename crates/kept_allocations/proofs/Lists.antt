@@ -12,7 +12,7 @@ use Rattle.temp_ir.specs.declared.insn.TempInsn.{TempInsn}
 use Rattle.temp_ir.specs.declared.insn.TempInsn.TheVariants.{Address, Call, FromFixed, Operate, ToFixed, Return}
 use Rattle.temp_ir.specs.Insns.{reads_of, writes_of}
 use Rattle.alloc_model.specs.Places.{registers_at}
-use Rattle.alloc_model.specs.Faithful.{IsGiven, IsStanding, IsTransfer, HasLists}
+use Rattle.alloc_model.specs.Faithful.{IsGivenRegister, IsStanding, IsTransfer, HasLists}
 use Rattle.kept_allocations.specs.Keeping.{keeping, stated_registers, no_transfers, kept_plan}
 
 -- what is said of each instruction
@@ -32,7 +32,7 @@ none_standing : All (All (IsStanding 3)) ([] ∷ [])
 none_standing zero d w k e v = absurd (omega (arith, v))
 none_standing (suc j) d w k e v = absurd (omega (arith, w))
 
-none_moved : All (All (IsTransfer 3 IsGiven)) no_transfers
+none_moved : All (All (IsTransfer 3 IsGivenRegister)) no_transfers
 none_moved zero d w k e v = absurd (omega (arith, v))
 none_moved (suc zero) d w k e v = absurd (omega (arith, v))
 none_moved (suc (suc zero)) d w k e v = absurd (omega (arith, v))
@@ -41,23 +41,23 @@ none_moved (suc (suc (suc (suc zero)))) d w k e v = absurd (omega (arith, v))
 none_moved (suc (suc (suc (suc (suc zero))))) d w k e v = absurd (omega (arith, v))
 none_moved (suc (suc (suc (suc (suc (suc j)))))) d w k e v = absurd (omega (arith, w))
 
-given_1 : IsGiven 1
+given_1 : IsGivenRegister 1
 given_1 = (0, omega arith, refl)
 
-given_2 : IsGiven 2
+given_2 : IsGivenRegister 2
 given_2 = (1, omega arith, refl)
 
-one : (r : ℕ) → IsGiven r → All IsGiven (r ∷ [])
+one : (r : ℕ) → IsGivenRegister r → All IsGivenRegister (r ∷ [])
 one r g zero d w = g
 one r g (suc k) d w = absurd (omega (arith, w))
 
-three : (r : ℕ) → IsGiven r → All IsGiven (r ∷ 1 ∷ 2 ∷ [])
+three : (r : ℕ) → IsGivenRegister r → All IsGivenRegister (r ∷ 1 ∷ 2 ∷ [])
 three r g zero d w = g
 three r g (suc zero) d w = given_1
 three r g (suc (suc zero)) d w = given_2
 three r g (suc (suc (suc k))) d w = absurd (omega (arith, w))
 
-all_given : (r : ℕ) → IsGiven r → All (All IsGiven) (stated_registers r)
+all_given : (r : ℕ) → IsGivenRegister r → All (All IsGivenRegister) (stated_registers r)
 all_given r g zero d w = one r g
 all_given r g (suc zero) d w = λ k e v. absurd (omega (arith, v))
 all_given r g (suc (suc zero)) d w = one 1 given_1
@@ -66,7 +66,7 @@ all_given r g (suc (suc (suc (suc zero)))) d w = one 2 given_2
 all_given r g (suc (suc (suc (suc (suc zero))))) d w = λ k e v. absurd (omega (arith, v))
 all_given r g (suc (suc (suc (suc (suc (suc j)))))) d w = absurd (omega (arith, w))
 
-pub lists : (r : ℕ) (value : ℤ) (callee : ℕ) → IsGiven r → HasLists (kept_plan r value callee)
+pub lists : (r : ℕ) (value : ℤ) (callee : ℕ) → IsGivenRegister r → HasLists (kept_plan r value callee)
 lists r value callee g = record {
   tops = refl;
   bottoms = refl;

@@ -95,7 +95,7 @@ fn registers_of(alloc: Global, registers: &[u8]) -> Result<Seq<u8>, AllocError>
 }
 
 /// The registers of all instructions, with this one for the temporary that is kept.
-fn stated(alloc: Global, register: u8) -> Result<Seq<Seq<u8>>, AllocError>
+fn registers_of_all(alloc: Global, register: u8) -> Result<Seq<Seq<u8>>, AllocError>
     ensures { IfOk result (λ lists. lists ≡ spec.stated_registers register) }
 {
     let mut lists = Seq::new(alloc);
@@ -150,7 +150,7 @@ pub fn kept_over_call(
     let top = no_places(alloc)?;
     let bottom = no_places(alloc)?;
     let at = no_transfers(alloc)?;
-    let regs = stated(alloc, register.number())?;
+    let regs = registers_of_all(alloc, register.number())?;
     Ok(Allocation {
         func: function(alloc, name, value, callee)?,
         top,

@@ -23,7 +23,7 @@ use Rattle.c_typed_tree.specs.Lawful.{IsLawfulStruct, IsTypedFn, context_of, is_
 use Rattle.lowering_expressions.specs.Levels.{levels, levels_above, levels_of_each}
 use Rattle.lowering_statements.specs.Levels.{optional_levels, locals_levels, first_levels, stmt_levels, else_levels, stmts_levels, sections_levels}
 use Rattle.lowering_functions.specs.Parts.{locals_parts, first_parts, stmt_parts, else_parts, stmts_parts, sections_parts}
-use Rattle.lowering_functions.specs.Scopes.{HasSize}
+use Rattle.lowering_functions.specs.Scopes.{LocalHasSize}
 use Rattle.c_layout_laws.specs.Laws.{is_alignment}
 use Rattle.c_layout_laws.proofs.Truth.{no_true, front, back, either}
 use Rattle.c_layout_laws.proofs.Layouts.{aligned}
@@ -236,7 +236,7 @@ small a h =
     (λ e. omega (arith, eqb-true a 4 e)))
     (λ e. omega (arith, eqb-true a 8 e)) h
 
-local_size : (ds : List StructDef) → All (IsLawfulStruct ds) ds → (l : ul.Local) → is_lawful_local ds l ≡ true → HasSize ds l
+local_size : (ds : List StructDef) → All (IsLawfulStruct ds) ds → (l : ul.Local) → is_lawful_local ds l ≡ true → LocalHasSize ds l
 local_size ds structs l h =
     let ty = type_of_local l in
     let whole = front (is_object_type ds ty) (is_scalar ty || l.in_memory) h in
@@ -255,7 +255,7 @@ can_be_lowered u f structs t w =
     let deep = stmt_bound c (type_view f.result) no_jumps body t.body in
     record {
       few = t.params;
-      sizes = All-weaker (λ (l : ul.Local). is_lawful_local u.structs l ≡ true) (HasSize u.structs) (local_size u.structs structs) f.locals (AllPass-from_list_all (is_lawful_local u.structs) f.locals t.locals);
+      sizes = All-weaker (λ (l : ul.Local). is_lawful_local u.structs l ≡ true) (LocalHasSize u.structs) (local_size u.structs structs) f.locals (AllPass-from_list_all (is_lawful_local u.structs) f.locals t.locals);
       registers = omega (arith, few, deep, w, stmt_low body, stmt_weighs c body);
       size = omega (arith, parts, w);
     }

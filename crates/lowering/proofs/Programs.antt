@@ -12,7 +12,7 @@ use Rattle.c_typed_tree.specs.View.{type_view}
 use Rattle.c_typed_tree.specs.Typing.{is_same_type, int}
 use Rattle.c_typed_tree.specs.Weight.{function_weight, unit_weight}
 use Rattle.c_typed_tree.specs.Lawful as lawful
-use Rattle.c_typed_tree.specs.Lawful.{IsLawful, IsTypedFn, IsLawfulStruct, is_start, signature_of}
+use Rattle.c_typed_tree.specs.Lawful.{IsLawfulUnit, IsTypedFn, IsLawfulStruct, is_start, signature_of}
 use Rattle.suifvm_ir.specs.Insns.{targets_of, flows_on_of}
 use Rattle.suifvm_ir.specs.Functions.{AllInsns, count_of, edge_count}
 use Rattle.suifvm_ir.specs.Programs as program
@@ -63,7 +63,7 @@ all_can u structs (f ∷ fs) t w =
     let sum : sum_by (λ (f : TypedFn). 1 + function_weight u.structs f) (f ∷ fs) ≡ (1 + function_weight u.structs f) + sum_by (λ (f : TypedFn). 1 + function_weight u.structs f) fs = sum_by-cons (λ (f : TypedFn). 1 + function_weight u.structs f) f fs in
     All-cons (CanBeLowered u.structs) f fs (can_be_lowered u f structs (All-head (IsTypedFn u) f fs t) (omega (arith, sum, w))) (all_can u structs fs (All-tail (IsTypedFn u) f fs t) (omega (arith, sum, w)))
 
-pub unit_can : (u : TypedUnit) → IsLawful u → unit_weight u ≤ 131072 → All (CanBeLowered u.structs) u.functions
+pub unit_can : (u : TypedUnit) → IsLawfulUnit u → unit_weight u ≤ 131072 → All (CanBeLowered u.structs) u.functions
 unit_can u l w = all_can u l.typed.structs u.functions l.typed.functions (omega (arith, w))
 
 -- ---- the program
@@ -93,7 +93,7 @@ module _ (ds : List StructDef) where
       ∙ ap (λ n. cond (lawful.is_main f) 1 0 + n) (mains_same fs gs l.1)
       ∙ sym (sum_by-cons (λ (f : TypedFn). cond (lawful.is_main f) 1 0) f fs)
 
-pub one_main : (u : TypedUnit) (gs : List VmFunction) → IsLawful u → AreLowered u.structs u.functions gs → main_count gs ≡ 1
+pub one_main : (u : TypedUnit) (gs : List VmFunction) → IsLawfulUnit u → AreLowered u.structs u.functions gs → main_count gs ≡ 1
 one_main u gs h l = mains_same u.structs u.functions gs l ∙ sym (length-filter lawful.is_main u.functions) ∙ h.typed.main.one
 
 -- `main` has no parameters
@@ -109,7 +109,7 @@ starts_after f fs h = by (lawful.is_main f) h
     by true h = back (is_start f) (list_all is_start (filter lawful.is_main fs)) h
     by false h = h
 
-module _ (u : TypedUnit) (l : IsLawful u) (all : List VmFunction) (calls : TakesArguments all (map signature_of u.functions)) where
+module _ (u : TypedUnit) (l : IsLawfulUnit u) (all : List VmFunction) (calls : TakesArguments all (map signature_of u.functions)) where
   names_of : (f : TypedFn) (g : VmFunction) → IsTypedFn u f → IsLowered u.structs f g → AllInsns (λ i. IsTrue (names_what_is_there all u.globals g.objects i)) g.blocks
   names_of f g t is =
       subst (λ os. AllInsns (λ i. IsTrue (names_what_is_there all u.globals os i)) g.blocks) (sym is.objects)
@@ -169,7 +169,7 @@ pub record IsProgram (u : TypedUnit) (gs : List VmFunction) : Type 0 where
   pub weights : AreWithinWeight u.structs u.functions gs
   pub size : program_size gs ≤ 2 ^ 24
 
-pub program_is : (u : TypedUnit) (gs : List VmFunction) → IsLawful u → unit_weight u ≤ 131072 → AreLowered u.structs u.functions gs → IsProgram u gs
+pub program_is : (u : TypedUnit) (gs : List VmFunction) → IsLawfulUnit u → unit_weight u ≤ 131072 → AreLowered u.structs u.functions gs → IsProgram u gs
 program_is u gs l w is =
     let calls : TakesArguments gs (map signature_of u.functions) = takes_arguments u gs l.typed.functions (same_params u.structs u.functions gs is) in
     let can = unit_can u l w in

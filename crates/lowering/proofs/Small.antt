@@ -14,7 +14,7 @@ use Rattle.c_typed_tree.specs.Declarations.{declarations, due_declarations}
 use Rattle.c_typed_tree.specs.Typing.{is_scalar, is_same_type, int}
 use Rattle.c_typed_tree.specs.TypingStatements.{no_jumps, is_typed_stmt}
 use Rattle.c_typed_tree.specs.Weight.{stmt_weight, function_weight, unit_weight}
-use Rattle.c_typed_tree.specs.Lawful.{IsLawful, IsTypedFn, IsLawfulStruct, is_identifier, is_result, type_of_local, is_lawful_local, is_block, context_of, is_main, is_start}
+use Rattle.c_typed_tree.specs.Lawful.{IsLawfulUnit, IsTypedFn, IsLawfulStruct, is_identifier, is_result, type_of_local, is_lawful_local, is_block, context_of, is_main, is_start}
 
 -- what the function is
 pub record IsEmptyMain (f : TypedFn) : Type 0 where
@@ -67,7 +67,7 @@ module _ (u : TypedUnit) (f : TypedFn) (structs : u.structs ≡ []) (globals : u
   nodes_are : function_nodes f ≡ 1
   nodes_are = ap (λ l. length l + stmt_nodes (stmt_view f.body)) m.locals ∙ ap (λ s. 0 + stmt_nodes s) m.body
 
-  pub main_lawful : IsLawful u
+  pub main_lawful : IsLawfulUnit u
   main_lawful = record {
     typed = record {
       structs = subst (λ ds. All (IsLawfulStruct u.structs) ds) (sym structs) (All-nil (IsLawfulStruct u.structs));

@@ -5,7 +5,7 @@ ghost use Rattle.c_typed_tree.specs.Types.{Int};
 ghost use Rattle.c_typed_tree.specs.Statements.{Block, no_stmts};
 ghost use Rattle.c_typed_tree.specs.View.{type_view, stmt_view};
 ghost use Rattle.c_typed_tree.specs.Weight.{unit_weight};
-ghost use Rattle.c_typed_tree.specs.Lawful.{IsLawful};
+ghost use Rattle.c_typed_tree.specs.Lawful.{IsLawfulUnit};
 
 use crate::lower;
 use c_tree::{Name, Seq};
@@ -60,7 +60,7 @@ fn one(alloc: Global, f: TypedFn) -> Result<Seq<TypedFn>, AllocError>
 
 /// The unit.
 fn unit(alloc: Global) -> Result<TypedUnit, AllocError>
-    ensures lawful { IfOk result (λ u. IsLawful u) }
+    ensures lawful { IfOk result (λ u. IsLawfulUnit u) }
     ensures weight { IfOk result (λ u. unit_weight u ≤ 131072) }
 {
     let f = main_function(alloc)?;

@@ -1,7 +1,7 @@
 //! The code of units.
 
 ghost use Rattle.std.specs.Prelude.{◌≡◌, ◌≤◌, ◌^◌, All, IfOk};
-ghost use Rattle.c_typed_tree.specs.Lawful.{IsLawful};
+ghost use Rattle.c_typed_tree.specs.Lawful.{IsLawfulUnit};
 ghost use Rattle.c_typed_tree.specs.Weight.{unit_weight};
 ghost use Rattle.suifvm_ir.specs.Programs.{program_size};
 ghost use Rattle.lowering.specs.Lowered.{IsLowered, AreLowered, AreWithinWeight};
@@ -47,7 +47,7 @@ fn all_functions(
 ///
 /// The weight of the unit is at most 131,072.
 pub fn lower(alloc: Global, unit: &TypedUnit) -> Result<VmProgram, AllocError>
-    requires lawful { IsLawful unit.now }
+    requires lawful { IsLawfulUnit unit.now }
     requires weight { unit_weight unit.now ≤ 131072 }
     ensures functions { IfOk result (λ p. AreLowered unit.now.structs unit.now.functions p.functions) }
     ensures globals { IfOk result (λ p. p.globals ≡ unit.now.globals) }

@@ -30,7 +30,7 @@ use Rattle.lowering_code.specs.Registers.{register_type, value_register, address
 use Rattle.lowering_code.specs.Expressions.{store_code, move_code, set_scalar_code, register_of, assign_code, plus_of, expr_code, place_code}
 use Rattle.lowering_states.specs.Places.{CodePlace, next_place}
 use Rattle.lowering_states.specs.Runs.{opens, CodeObservation, NotDefined, finish}
-use Rattle.lowering_states.specs.States.{IsHeld, IsIn, KeepsLower, type_at}
+use Rattle.lowering_states.specs.States.{IsHeld, IsInRegister, KeepsLower, type_at}
 use Rattle.lowering_states.proofs.Steps.{meets_anything, meets_same, used_meets}
 use Rattle.lowering_states.proofs.States.{set_other, temporary_past, kept_on, kept_local, kept_temporary, kept_reads, is_at, after_on, fits_temporary, fits_local}
 use Rattle.lowering_values.specs.Laws.{IsMoved}
@@ -44,9 +44,9 @@ use Rattle.lowering_access_laws.proofs.Writes.{writes_meet}
 use Rattle.lowering_assignment_laws.proofs.Locals.{moves, register_place, register_is}
 
 -- a value of a scalar type stands as what it is
-pub scalar_in : (f : Names) (ty : PlainType) (v w : Value) → IsScalarType ty → IsIn f ty v w → IsValueOf f v w
-scalar_in f ty v w (inl t) h = subst (λ z. IsIn f z v w) t.1 h
-scalar_in f ty v w (inr t) h = subst (λ z. IsIn f z v w) t.1 h
+pub scalar_in : (f : Names) (ty : PlainType) (v w : Value) → IsScalarType ty → IsInRegister f ty v w → IsValueOf f v w
+scalar_in f ty v w (inl t) h = subst (λ z. IsInRegister f z v w) t.1 h
+scalar_in f ty v w (inr t) h = subst (λ z. IsInRegister f z v w) t.1 h
 
 -- the value of an assignment to a register
 assigned_value : (ty : PlainType) (k : ℕ) (v : Value) → IsScalarType ty → assign_place ty (obj.Register k) v ≡ v
@@ -70,7 +70,7 @@ module _ (c : Setting) (found : slice_get c.functions c.number ≡ Some c.code) 
         (hy.by d (move_code ty k reg rest) heads p1 f scope r s m (λ v t. finish (run v t) K) (subst (λ z. Stands c heads p1 z) code_e at) fit low
         (λ q v g t q1 m1 at1 aft fit1 kept held stands.
         let held1 : IsHeld ty v = subst (λ z. IsHeld z v) ey held in
-        let stands1 : IsIn g ty v (q1 reg) = subst (λ z. IsIn g z v (q1 (value_register L d z))) ey stands in
+        let stands1 : IsInRegister g ty v (q1 reg) = subst (λ z. IsInRegister g z v (q1 (value_register L d z))) ey stands in
         let rel = scalar_in g ty v (q1 reg) scalar stands1 in
         let t1 : CallState = with_registers t (with_register t.registers k v) in
         bound c found (and_then (use_value UsesNoValue v t) (write_register k)) (λ _. pure (assign_place ty (obj.Register k) v)) K q q1 t.world m1
@@ -81,7 +81,7 @@ module _ (c : Setting) (found : slice_get c.functions c.number ≡ Some c.code) 
         (ap (λ z. writes z (outer_with_memory t.world.outer m1)) (moves g ty v (q1 reg) scalar held1 rel set))
         (next (next_place q) v g t1 (set_register k (q1 reg) q1) m1 (at_plain c.code.blocks c.last c.end _ at1) aft
         (fits_local k v (q1 reg) rel (subst (λ z. IsHeld z v) (sym (ap type_at el ∙ et)) held1) fit1) (kept_local k (q1 reg) within kept) held1
-        (subst (λ z. IsIn g ty v z) (sym (set_other q1 k reg (q1 reg) (λ same. let past = temporary_past L d (register_type ty) in absurd (omega (arith, within, same, past))))) stands1)))))))));
+        (subst (λ z. IsInRegister g ty v z) (sym (set_other q1 k reg (q1 reg) (λ same. let past = temporary_past L d (register_type ty) in absurd (omega (arith, within, same, past))))) stands1)))))))));
   }
 
   -- ---- to memory
@@ -97,7 +97,7 @@ module _ (c : Setting) (found : slice_get c.functions c.number ≡ Some c.code) 
   -- a value that stands at one depth is stored, and one at another one is moved to the depth of the place
   pub put_on : (ty : PlainType) → IsScalarType ty → (d o e plus : ℕ) (rest : List CodeItem) (heads : List ℕ) (f g : Names) (scope : Scope) (r r1 : Registers) (s t : CallState) (m m1 : Memory) (K : Value → CallState → CodeObservation) (q : CodePlace) (base at z v : Value)
       → Stands c heads q (store_code ty (address_register L d) plus (value_register L o ty) (move_code ty (value_register L d ty) (value_register L e ty) rest))
-      → Aft c f s m g t m1 → Fit c g scope r1 t m1 → KeepsLower L d r r1 → IsHeld ty z → IsIn g ty z (r1 (value_register L o ty)) → IsHeld ty v → IsIn g ty v (r1 (value_register L e ty)) → (vm.is_set z ≡ true → vm.is_set v ≡ true)
+      → Aft c f s m g t m1 → Fit c g scope r1 t m1 → KeepsLower L d r r1 → IsHeld ty z → IsInRegister g ty z (r1 (value_register L o ty)) → IsHeld ty v → IsInRegister g ty v (r1 (value_register L e ty)) → (vm.is_set z ≡ true → vm.is_set v ≡ true)
       → IsValueOf g base (r1 (address_register L d)) → IsMoved t.world.outer.memory base plus at → Follows c d ty heads rest f scope r s m K
       → EndsSo c (finish (and_then (write_at c.structs ty at z t) (λ _. pure v)) K) q r1 t.world m1
   unfolding opens
@@ -147,7 +147,7 @@ module _ (c : Setting) (found : slice_get c.functions c.number ≡ Some c.code) 
         (hy.by (suc d) tail heads q g scope q1 t m1 (λ v u. finish (assign c.structs ty (type_of y) None (obj.At place) v u) K) at1 fit1 (omega (arith, aft.turned, low))
         (λ q2 v h u q3 m2 at2 aft2 fit2 kept2 held2 stands2.
         let held3 : IsHeld ty v = subst (λ z. IsHeld z v) ey held2 in
-        let stands3 : IsIn h ty v (q3 (value_register L (suc d) ty)) = subst (λ z. IsIn h z v (q3 (value_register L (suc d) z))) ey stands2 in
+        let stands3 : IsInRegister h ty v (q3 (value_register L (suc d) ty)) = subst (λ z. IsInRegister h z v (q3 (value_register L (suc d) z))) ey stands2 in
         let same_base : q3 (address_register L d) ≡ q1 (address_register L d) = kept_reads d P64 (omega arith) kept2 in
         let base_rel : IsValueOf h base (q3 (address_register L d)) = subst (λ z. IsValueOf h base z) (sym same_base) (values_stay g h base (q1 (address_register L d)) aft2.names stands) in
         let moved = moved_stays g h t.world.outer.memory m1 u.world.outer.memory m2 t.world.meter.turns u.world.meter.turns base place left aft2 (is_base place (inl (refl, refl))) in

@@ -37,7 +37,7 @@ use Rattle.lowering_expression_places.proofs.Behind.{at_plain}
 use Rattle.lowering_expression_laws.specs.Parts.{Setting, count, Stands, ExprMeets}
 use Rattle.lowering_expression_laws.specs.Laws.{IsScalarType}
 use Rattle.lowering_expression_laws.proofs.Forms.{word_held, insn_on, bound}
-use Rattle.lowering_place_laws.specs.Laws.{IsWhole}
+use Rattle.lowering_place_laws.specs.Laws.{HasWholeIntegers}
 use Rattle.lowering_place_laws.proofs.Places.{byte_of, address_meets, address_of}
 use Rattle.lowering_place_laws.proofs.Accesses.{load_on}
 
@@ -102,7 +102,7 @@ module _ (c : Setting) (found : slice_get c.functions c.number ≡ Some c.code) 
         (kept_temporary d (register_type ty) w (omega arith) kept_all) held (is_at f ty (s.registers k) w r reg (is_in f ty (s.registers k) w (fit.locals k within))))))));
   }
 
-  pub objects : (ty : PlainType) (k : ℕ) (l : Local) → slice_get c.locals k ≡ Some l → l.in_memory ≡ true → IsWhole ty → ExprMeets c (e.Local ty k)
+  pub objects : (ty : PlainType) (k : ℕ) (l : Local) → slice_get c.locals k ≡ Some l → l.in_memory ≡ true → HasWholeIntegers ty → ExprMeets c (e.Local ty k)
   unfolding opens
   objects ty k l el em whole = record {
     by = λ d rest heads place f scope r s m K at fit low next.

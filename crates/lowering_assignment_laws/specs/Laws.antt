@@ -10,13 +10,13 @@ use Rattle.lowering_code.specs.Expressions.{register_of}
 use Rattle.lowering_expression_laws.specs.Parts.{Setting, count, ExprMeets}
 use Rattle.lowering_expression_laws.specs.Laws.{IsScalarType}
 use Rattle.lowering_place_laws.specs.Places.{PlaceMeets}
-use Rattle.lowering_place_laws.specs.Laws.{IsWhole}
+use Rattle.lowering_place_laws.specs.Laws.{HasWholeIntegers}
 
 pub record Locals (c : Setting) : Type 0 where
   pub registers : (ty : PlainType) (k : ℕ) (l : Local) → slice_get c.locals k ≡ Some l → l.in_memory ≡ false
       → type_view l.ty ≡ ty → IsScalarType ty → ExprMeets c (e.Local ty k)
   pub objects : (ty : PlainType) (k : ℕ) (l : Local) → slice_get c.locals k ≡ Some l → l.in_memory ≡ true
-      → IsWhole ty → ExprMeets c (e.Local ty k)
+      → HasWholeIntegers ty → ExprMeets c (e.Local ty k)
 
 abbrev pub LocalsMeet : Type 0
 LocalsMeet = (c : Setting) → slice_get c.functions c.number ≡ Some c.code → Locals c

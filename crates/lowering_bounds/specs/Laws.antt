@@ -34,14 +34,14 @@ OfFunctions P =
     IsTypedFn u f → TakesArguments fs (map signature_of u.functions) → P u f fs
 
 -- what its instructions name is there
-abbrev pub NamesAreThere : (u : TypedUnit) → (f : TypedFn) → (fs : List VmFunction) → Type 0
-NamesAreThere u f fs =
+abbrev pub LoweredNamesAreThere : (u : TypedUnit) → (f : TypedFn) → (fs : List VmFunction) → Type 0
+LoweredNamesAreThere u f fs =
     AllInsns (λ i. IsTrue (names_what_is_there fs u.globals (objects_of u.structs f.locals) i))
     (function_blocks u.structs f)
 
 -- its registers are few
-abbrev pub HasFewRegisters : (u : TypedUnit) → (f : TypedFn) → (fs : List VmFunction) → Type 0
-HasFewRegisters u f fs =
+abbrev pub FunctionHasFewRegisters : (u : TypedUnit) → (f : TypedFn) → (fs : List VmFunction) → Type 0
+FunctionHasFewRegisters u f fs =
     max f.params (blocks_top (function_blocks u.structs f)) ≤ 7 * function_weight u.structs f
 
 -- a call gives few arguments
@@ -57,8 +57,8 @@ CostsLittle u f fs =
     ≤ 2048 * (function_weight u.structs f + 1)
 
 -- and so is its size
-abbrev pub IsSmall : (u : TypedUnit) → (f : TypedFn) → (fs : List VmFunction) → Type 0
-IsSmall u f fs =
+abbrev pub FunctionIsSmall : (u : TypedUnit) → (f : TypedFn) → (fs : List VmFunction) → Type 0
+FunctionIsSmall u f fs =
     (most : ℕ) → IsGood most 0 (items_of u.structs f) →
     24 * (length (function_blocks u.structs f) + count_of (function_blocks u.structs f) + f.params
     + sum_by (λ b. sum_by weight_of b) (function_blocks u.structs f))

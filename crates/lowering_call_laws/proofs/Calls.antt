@@ -31,7 +31,7 @@ use Rattle.lowering_code.specs.Registers.{register_type, value_register}
 use Rattle.lowering_code.specs.Expressions.{plain_of, destination_of, argument_registers, exprs_code}
 use Rattle.lowering_states.specs.Places.{CodePlace, next_place}
 use Rattle.lowering_states.specs.Runs.{opens, CodeObservation, finish, frame_of}
-use Rattle.lowering_states.specs.States.{IsHeld, IsIn, KeepsLower}
+use Rattle.lowering_states.specs.States.{IsHeld, IsInRegister, KeepsLower}
 use Rattle.lowering_states.proofs.Steps.{meets_same, used_meets, turn_meets, turn_less, no_turn, calling, resume_meets}
 use Rattle.lowering_states.proofs.States.{kept_all, kept_on, kept_temporary, kept_reads, is_in, is_at, after_same, after_on, fits_temporary, fits_after}
 use Rattle.lowering_values.proofs.Integers.{integer_of-plain, word_is}
@@ -41,9 +41,9 @@ use Rattle.lowering_expression_laws.specs.Laws.{IsScalarType}
 use Rattle.lowering_expression_laws.proofs.Forms.{word_held, bound}
 use Rattle.lowering_call_laws.specs.Laws.{CallsWithoutResultsMeet, AreArguments, ArgumentsMeet, FunctionMeets, CallsMeet}
 
-scalar_in : (f : Names) (ty : PlainType) (v w : Value) → IsScalarType ty → IsIn f ty v w → IsValueOf f v w
-scalar_in f ty v w (inl t) h = subst (λ z. IsIn f z v w) t.1 h
-scalar_in f ty v w (inr t) h = subst (λ z. IsIn f z v w) t.1 h
+scalar_in : (f : Names) (ty : PlainType) (v w : Value) → IsScalarType ty → IsInRegister f ty v w → IsValueOf f v w
+scalar_in f ty v w (inl t) h = subst (λ z. IsInRegister f z v w) t.1 h
+scalar_in f ty v w (inr t) h = subst (λ z. IsInRegister f z v w) t.1 h
 
 set_too : (f : Names) (v w : Value) → IsValueOf f v w → vm.is_set v ≡ true → vm.is_set w ≡ true
 set_too f (Word k) w r e = ap vm.is_set r

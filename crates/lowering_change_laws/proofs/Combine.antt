@@ -34,7 +34,7 @@ use Rattle.lowering_code.specs.Registers.{register_type, temporary, value_regist
 use Rattle.lowering_code.specs.Expressions.{plain_of, is_kept, narrow_type, operation_of, operation_insn, convert_code, combine_in}
 use Rattle.lowering_states.specs.Places.{CodePlace, next_place}
 use Rattle.lowering_states.specs.Runs.{opens, CodeObservation, finish}
-use Rattle.lowering_states.specs.States.{IsHeld, IsIn, KeepsLower}
+use Rattle.lowering_states.specs.States.{IsHeld, IsInRegister, KeepsLower}
 use Rattle.lowering_states.proofs.Steps.{traps, number_meets, outcome_meets}
 use Rattle.lowering_states.proofs.States.{set_same, set_other, other_depth, fits_temporary}
 use Rattle.lowering_values.specs.Laws.{is_shift}
@@ -148,7 +148,7 @@ module _ (c : Setting) (found : slice_get c.functions c.number ≡ Some c.code) 
 
     -- the same with values, of which each has to be a word
     pub values_lead : (v w : Value) (K : Value → CallState → CodeObservation) (q : CodePlace) (r : Registers) → Stands c heads q (combine_in L op t o d (plain_of left) (plain_of right) rest) → Fit c g scope r s m
-        → IsHeld (plain_of left) v → IsIn g (plain_of left) v (r (value_register L o (plain_of left))) → IsHeld (plain_of right) w → IsIn g (plain_of right) w (r (value_register L d (plain_of right)))
+        → IsHeld (plain_of left) v → IsInRegister g (plain_of left) v (r (value_register L o (plain_of left))) → IsHeld (plain_of right) w → IsInRegister g (plain_of right) w (r (value_register L d (plain_of right)))
         → ((q1 : CodePlace) (z : ℕ) (r1 : Registers) → Stands c heads q1 rest → Fit c g scope r1 s m → KeepsBut L o r r1 → WordIn L o left z r1 → EndsSo c (K (Word z) s) q1 r1 s.world m)
         → EndsSo c (finish (combined_in op t left right v w s) K) q r s.world m
     unfolding opens

@@ -32,7 +32,7 @@ use Rattle.lowering_code.specs.Registers.{register_type, value_register}
 use Rattle.lowering_code.specs.Expressions.{plain_of, constant_code, combine_in, combine_code, stepped_code}
 use Rattle.lowering_states.specs.Places.{CodePlace, next_place}
 use Rattle.lowering_states.specs.Runs.{opens, CodeObservation, finish}
-use Rattle.lowering_states.specs.States.{IsHeld, IsIn, KeepsLower}
+use Rattle.lowering_states.specs.States.{IsHeld, IsInRegister, KeepsLower}
 use Rattle.lowering_states.proofs.Steps.{meets_same, number_meets, known_meets}
 use Rattle.lowering_states.proofs.States.{set_other, other_depth, kept_all, kept_on, kept_temporary, is_at, fits_temporary}
 use Rattle.lowering_values.specs.Laws.{is_shift}
@@ -105,18 +105,18 @@ module _ (c : Setting) where
   -- what follows a change, where the code behind stands: the new value stands at the depth
   abbrev pub Goes : (heads : List ℕ) → Names → Scope → CallState → Memory → (low o : ℕ) → PlainType → (r : Registers) → List CodeItem → (Value → CallState → CodeObservation) → Type 0
   Goes heads g scope u m low o ty r rest K =
-      (q : CodePlace) (z : Value) (r1 : Registers) → Stands c heads q rest → Fit c g scope r1 u m → KeepsLower L low r r1 → IsHeld ty z → IsIn g ty z (r1 (value_register L o ty)) → EndsSo c (K z u) q r1 u.world m
+      (q : CodePlace) (z : Value) (r1 : Registers) → Stands c heads q rest → Fit c g scope r1 u m → KeepsLower L low r r1 → IsHeld ty z → IsInRegister g ty z (r1 (value_register L o ty)) → EndsSo c (K z u) q r1 u.world m
 
   -- a change of the value at a depth, from registers that are as some were but at this depth
   abbrev pub Leads : (heads : List ℕ) → Names → Scope → CallState → Memory → (change : Value → Run Value) → (code : List CodeItem → List CodeItem) → (o low : ℕ) → PlainType → Registers → Type 0
   Leads heads g scope u m change code o low ty q1 =
-      (rest : List CodeItem) (K : Value → CallState → CodeObservation) (q : CodePlace) (r : Registers) (old : Value) → Stands c heads q (code rest) → Fit c g scope r u m → KeepsBut L o q1 r → IsHeld ty old → IsIn g ty old (r (value_register L o ty))
+      (rest : List CodeItem) (K : Value → CallState → CodeObservation) (q : CodePlace) (r : Registers) (old : Value) → Stands c heads q (code rest) → Fit c g scope r u m → KeepsBut L o q1 r → IsHeld ty old → IsInRegister g ty old (r (value_register L o ty))
       → Goes heads g scope u m low o ty r rest K → EndsSo c (finish (change old u) K) q r u.world m
 
   -- an operator between an old value and a right side
   abbrev pub CombinesLead : BinaryOp → (ty right : PlainType) → Type 0
   CombinesLead op ty right =
-      (o d free low : ℕ) → d ≢ o → d < free → low ≤ o → low ≤ d → (heads : List ℕ) (g : Names) (scope : Scope) (u : CallState) (m : Memory) (w : Value) (q1 : Registers) → IsHeld right w → IsIn g right w (q1 (value_register L d right))
+      (o d free low : ℕ) → d ≢ o → d < free → low ≤ o → low ≤ d → (heads : List ℕ) (g : Names) (scope : Scope) (u : CallState) (m : Memory) (w : Value) (q1 : Registers) → IsHeld right w → IsInRegister g right w (q1 (value_register L d right))
       → Leads heads g scope u m (λ old. combine c.structs op ty right old w) (combine_code L c.structs op o d free ty right) o low ty q1
 
   -- `++` and `--`
@@ -141,7 +141,7 @@ module _ (c : Setting) (found : slice_get c.functions c.number ≡ Some c.code) 
   integers_combine op left right pt gives o d free low apart above below_o below_d heads g scope u m w q1 hw iw rest K q r old at fit kept held stands next =
       meets_same c.rooms c.functions (ap (λ z. finish (z u) K) (combines op left right old w))
       (values_lead c found heads g scope u m op left (operation_type op left right) right pt (of_right op left right) gives o d apart rest old w K q r (subst (λ z. Stands c heads q z) (combine_is op left right o d free rest) at) fit held stands hw
-      (subst (λ z. IsIn g (plain_of right) w z) (sym (other_kept d (register_type (plain_of right)) apart kept)) iw)
+      (subst (λ z. IsInRegister g (plain_of right) w z) (sym (other_kept d (register_type (plain_of right)) apart kept)) iw)
       (λ q3 z r3 at3 fit3 kept3 one3.
       next q3 (Word z) r3 at3 fit3 (lower_kept low (omega (arith, below_o)) kept3) (held_word left z one3.is_one) one3.stands))
 
@@ -157,7 +157,7 @@ module _ (c : Setting) (found : slice_get c.functions c.number ≡ Some c.code) 
       (ap (λ x. writes (if x then Gives (Word 1) else Fails) (outer_with_memory u.world.outer m)) (value_of_word t 1 one))
       (lead o (suc o) (suc (suc o)) o (λ same. absurd (omega (arith, same))) (omega arith) (omega arith) (omega arith) heads g scope u m (Word 1) r1 (held_word t 1 one) (is_at g (plain_of t) (Word 1) (Word 1) r above refl) rest K (next_place q) r1 old
       (at_plain c.code.blocks c.last c.end _ at) (fits_temporary (suc o) (register_type (plain_of t)) (Word 1) fit) kept_but held
-      (subst (λ z. IsIn g ty old z) (sym (set_other r above (value_register (count c) o ty) (Word 1) (λ same. other_depth (count c) o (suc o) (register_type ty) (register_type (plain_of t)) (omega arith) same))) stands)
+      (subst (λ z. IsInRegister g ty old z) (sym (set_other r above (value_register (count c) o ty) (Word 1) (λ same. other_depth (count c) o (suc o) (register_type ty) (register_type (plain_of t)) (omega arith) same))) stands)
       (λ q3 z r3 at3 fit3 kept3 held3 in3.
       next q3 z r3 at3 fit3 (kept_on (omega arith) (kept_temporary (suc o) (register_type (plain_of t)) (Word 1) (omega arith) kept_all) kept3) held3 in3))
 
@@ -191,7 +191,7 @@ module _ (c : Setting) (found : slice_get c.functions c.number ≡ Some c.code) 
         known_meets c.rooms c.functions (move_reason u.world.outer.memory old) (element_plus u.world.outer.memory old (value t k *ℤ pos size)) u K _ (λ result e.
         let moved = moved_by u.world.outer.memory old (value t k *ℤ pos size) result e in
         moved_leads c found rest heads g scope u m o d free low above below_o below_d t k size old result q r le moved at fit stands
-        (word_in g (count c) d (plain_of t) t w k r refl is hw (subst (λ z. IsIn g (plain_of t) w z) (sym (other_kept d (register_type (plain_of t)) apart kept)) iw))
+        (word_in g (count c) d (plain_of t) t w k r refl is hw (subst (λ z. IsInRegister g (plain_of t) w z) (sym (other_kept d (register_type (plain_of t)) apart kept)) iw))
         (λ q4 r4 at4 fit4 kept4 rel4.
         next q4 result r4 at4 fit4 kept4 (moved_held u.world.outer.memory old result (value t k *ℤ pos size) target moved.moved) rel4)))))
 
@@ -205,7 +205,7 @@ module _ (c : Setting) (found : slice_get c.functions c.number ≡ Some c.code) 
         known_meets c.rooms c.functions (move_reason u.world.outer.memory old) (element_plus u.world.outer.memory old (neg_ℤ (value t k) *ℤ pos size)) u K _ (λ result e.
         let moved = moved_by u.world.outer.memory old (neg_ℤ (value t k) *ℤ pos size) result e in
         moved_back c found rest heads g scope u m o d free low above below_o below_d t k size old result q r le moved at fit stands
-        (word_in g (count c) d (plain_of t) t w k r refl is hw (subst (λ z. IsIn g (plain_of t) w z) (sym (other_kept d (register_type (plain_of t)) apart kept)) iw))
+        (word_in g (count c) d (plain_of t) t w k r refl is hw (subst (λ z. IsInRegister g (plain_of t) w z) (sym (other_kept d (register_type (plain_of t)) apart kept)) iw))
         (λ q4 r4 at4 fit4 kept4 rel4.
         next q4 result r4 at4 fit4 kept4 (moved_held u.world.outer.memory old result (neg_ℤ (value t k) *ℤ pos size) target moved.moved) rel4)))))
 

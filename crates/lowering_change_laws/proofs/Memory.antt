@@ -31,7 +31,7 @@ use Rattle.lowering_code.specs.Registers.{register_type, value_register, address
 use Rattle.lowering_code.specs.Expressions.{load_from, store_code, move_code, combine_code, combine_memory_code, stepped_code, step_register_code, step_memory_code, change_code, register_of, assign_code, expr_code, place_code}
 use Rattle.lowering_states.specs.Places.{CodePlace, next_place}
 use Rattle.lowering_states.specs.Runs.{opens, CodeObservation, finish}
-use Rattle.lowering_states.specs.States.{IsHeld, IsIn, KeepsLower}
+use Rattle.lowering_states.specs.States.{IsHeld, IsInRegister, KeepsLower}
 use Rattle.lowering_states.proofs.Steps.{meets_same}
 use Rattle.lowering_states.proofs.States.{set_same, set_other, other_depth, kept_all, kept_on, kept_temporary, kept_reads, is_in, is_at, after_on, fits_temporary}
 use Rattle.lowering_values.specs.Laws.{IsMoved}
@@ -124,7 +124,7 @@ module _ (c : Setting) (found : slice_get c.functions c.number ≡ Some c.code) 
       let same_base : r4 (address_register L d) ≡ r1 (address_register L d) = kept_reads {e = suc (suc d)} d P64 (omega arith) kept5 ∙ kept_reads {e = suc d} d P64 (omega arith) kept1 in
       let stays : r4 reg ≡ w = kept_reads {e = suc (suc d)} (suc d) (register_type ty) (omega arith) kept5 ∙ there in
       put_on c found ty scalar d o e plus rest heads f g scope r r4 s t m m1 K q4 base at z old at4 aft fit4 (kept_on (omega arith) (kept_on (omega arith) kept kept1) kept5) heldz inz held
-      (subst (λ x. IsIn g ty old x) (sym stays) (is_in g ty old w relw)) (λ _. set) (subst (λ x. IsValueOf g base x) (sym same_base) rel) moved next)))))
+      (subst (λ x. IsInRegister g ty old x) (sym stays) (is_in g ty old w relw)) (λ _. set) (subst (λ x. IsValueOf g base x) (sym same_base) rel) moved next)))))
 
   -- ---- forms
 
@@ -154,7 +154,7 @@ module _ (c : Setting) (found : slice_get c.functions c.number ≡ Some c.code) 
         let base_rel : IsValueOf h base (q3 (address_register L d)) = subst (λ z. IsValueOf h base z) (sym same_base) (values_stay g h base (q1 (address_register L d)) aft2.names stands) in
         let moved = moved_stays g h t.world.outer.memory m1 u1.world.outer.memory m2 t.world.meter.turns u1.world.meter.turns base there plus aft2 (is_base there (inl (refl, refl))) in
         changed_on d (suc (suc d)) plus (omega arith) rest heads f h scope r q3 s u1 m m2 K q2 base there (λ old. combine c.structs o ty right old v) (λ is. combine_code L c.structs o (suc (suc d)) (suc d) (suc (suc (suc d))) ty right is)
-        (lead (suc (suc d)) (suc d) (suc (suc (suc d))) (suc d) (λ same. absurd (omega (arith, same))) (omega arith) (omega arith) (omega arith) heads h scope u1 m2 v q3 (subst (λ z. IsHeld z v) ey held2) (subst (λ z. IsIn h z v (q3 (value_register L (suc d) z))) ey stands2))
+        (lead (suc (suc d)) (suc d) (suc (suc (suc d))) (suc d) (λ same. absurd (omega (arith, same))) (omega arith) (omega arith) (omega arith) heads h scope u1 m2 v q3 (subst (λ z. IsHeld z v) ey held2) (subst (λ z. IsInRegister h z v (q3 (value_register L (suc d) z))) ey stands2))
         at2 (after_on aft aft2) fit2 (kept_on (omega arith) kept kept2) base_rel moved next)))));
   }
 

@@ -33,7 +33,7 @@ use Rattle.lowering_code.specs.Registers.{register_type, value_register}
 use Rattle.lowering_code.specs.Expressions.{move_code, combine_code, stepped_code, step_register_code, step_memory_code, change_code, assign_code, register_if, plus_of, expr_code, place_code}
 use Rattle.lowering_states.specs.Places.{CodePlace, next_place}
 use Rattle.lowering_states.specs.Runs.{opens, CodeObservation, finish}
-use Rattle.lowering_states.specs.States.{IsHeld, IsIn, KeepsLower, type_at}
+use Rattle.lowering_states.specs.States.{IsHeld, IsInRegister, KeepsLower, type_at}
 use Rattle.lowering_states.proofs.Steps.{meets_same, used_meets}
 use Rattle.lowering_states.proofs.States.{set_same, set_other, temporary_past, kept_all, kept_on, kept_local, kept_temporary, kept_reads, is_in, is_at, after_same, fits_temporary, fits_local}
 use Rattle.lowering_expression_places.proofs.Behind.{at_plain}
@@ -80,7 +80,7 @@ module _ (c : Setting) (found : slice_get c.functions c.number ≡ Some c.code) 
 
   -- the new value stands at a depth, and is put into the local; the registers of expressions stay
   write_on : (d o : ℕ) → d ≤ o → (rest : List CodeItem) (heads : List ℕ) (g : Names) (scope : Scope) (r r3 : Registers) (u : CallState) (m1 : Memory) (K : Value → CallState → CodeObservation) (q3 : CodePlace) (z v : Value)
-      → Stands c heads q3 (move_code ty k (value_register L o ty) rest) → Fit c g scope r3 u m1 → KeepsLower L d r r3 → IsHeld ty z → IsIn g ty z (r3 (value_register L o ty))
+      → Stands c heads q3 (move_code ty k (value_register L o ty) rest) → Fit c g scope r3 u m1 → KeepsLower L d r r3 → IsHeld ty z → IsInRegister g ty z (r3 (value_register L o ty))
       → ((q4 : CodePlace) (r4 : Registers) → Stands c heads q4 rest → Fit c g scope r4 (put_in k z u) m1 → KeepsLower L d r r4 → r4 (value_register L d ty) ≡ r3 (value_register L d ty) → EndsSo c (K v (put_in k z u)) q4 r4 u.world m1)
       → EndsSo c (finish (and_then (write c.structs ty (obj.Register k) z u) (λ _. pure v)) K) q3 r3 u.world m1
   unfolding opens
@@ -112,7 +112,7 @@ module _ (c : Setting) (found : slice_get c.functions c.number ≡ Some c.code) 
       (λ q3 z r3 at3 fit3 kept3 heldz inz.
       write_on d d (omega arith) rest heads g scope q2 r3 u m1 K q3 z z at3 fit3 kept3 heldz inz
       (λ q4 r4 at4 fit4 kept4 same4.
-      next q4 z g (put_in k z u) r4 m1 at4 aft fit4 (kept_on (omega arith) (kept_temporary d (register_type ty) w0 (omega arith) kept) kept4) heldz (subst (λ x. IsIn g ty z x) (sym same4) inz))))
+      next q4 z g (put_in k z u) r4 m1 at4 aft fit4 (kept_on (omega arith) (kept_temporary d (register_type ty) w0 (omega arith) kept) kept4) heldz (subst (λ x. IsInRegister g ty z x) (sym same4) inz))))
 
   -- the old value is the value, and stays below
   behind_on : (sop : StepOp) → StepsLead c sop ty → (d : ℕ) (rest : List CodeItem) (heads : List ℕ) (f : Names) (scope : Scope) (r : Registers) (u : CallState) (m : Memory) (K : Value → CallState → CodeObservation) (q : CodePlace)
@@ -138,7 +138,7 @@ module _ (c : Setting) (found : slice_get c.functions c.number ≡ Some c.code) 
       let stays : r4 reg ≡ w0 = kept_reads {e = suc d} d (register_type ty) (omega arith) (kept_on (omega arith) (kept_temporary (suc d) (register_type ty) w0 (omega arith) kept_all) kept4) ∙ there in
       next q4 old f (put_in k z u) r4 m at4 after_same fit4
       (kept_on (omega arith) (kept_temporary (suc d) (register_type ty) w0 (omega arith) (kept_temporary d (register_type ty) w0 (omega arith) kept_all)) kept4) held
-      (subst (λ x. IsIn f ty old x) (sym stays) (is_in f ty old w0 rel))))))
+      (subst (λ x. IsInRegister f ty old x) (sym stays) (is_in f ty old w0 rel))))))
 
   -- ---- forms
 
@@ -173,7 +173,7 @@ module _ (c : Setting) (found : slice_get c.functions c.number ≡ Some c.code) 
         (hy.by (suc d) tail heads p1 f scope r s m (λ v u1. finish (run v u1) K) (subst (λ z. Stands c heads p1 z) code_e at) fit low
         (λ q v g u1 q1 m1 at1 aft fit1 kept held stands.
         changed_on d rest heads f g scope r q1 s u1 m m1 K q (λ old. combine c.structs o ty right old v) (λ is. combine_code L c.structs o d (suc d) (suc (suc d)) ty right is)
-        (lead d (suc d) (suc (suc d)) d (λ same. absurd (omega (arith, same))) (omega arith) (omega arith) (omega arith) heads g scope u1 m1 v q1 (subst (λ z. IsHeld z v) ey held) (subst (λ z. IsIn g z v (q1 (value_register L (suc d) z))) ey stands))
+        (lead d (suc d) (suc (suc d)) d (λ same. absurd (omega (arith, same))) (omega arith) (omega arith) (omega arith) heads g scope u1 m1 v q1 (subst (λ z. IsHeld z v) ey held) (subst (λ z. IsInRegister g z v (q1 (value_register L (suc d) z))) ey stands))
         at1 aft fit1 (kept_on (omega arith) kept_all kept) next)));
   }
 

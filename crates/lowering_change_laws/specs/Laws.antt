@@ -21,7 +21,7 @@ use Rattle.lowering_expression_laws.specs.Parts.{Setting, count, ExprMeets}
 use Rattle.lowering_place_laws.specs.Places.{PlaceMeets}
 
 -- a register holds a local of a type
-pub record Holds (c : Setting) (k : ℕ) (ty : PlainType) : Type 0 where
+pub record RegisterHolds (c : Setting) (k : ℕ) (ty : PlainType) : Type 0 where
   pub local : Local
   pub is_there : slice_get c.locals k ≡ Some local
   pub in_register : local.in_memory ≡ false
@@ -55,7 +55,7 @@ pub record ChangesMeet (c : Setting) (x : Expr) (ty : PlainType) : Type 0 where
 -- of a local that a register holds
 abbrev pub RegistersAreChanged : Type 0
 RegistersAreChanged =
-    (c : Setting) → slice_get c.functions c.number ≡ Some c.code → (ty : PlainType) (k : ℕ) → Holds c k ty
+    (c : Setting) → slice_get c.functions c.number ≡ Some c.code → (ty : PlainType) (k : ℕ) → RegisterHolds c k ty
     → ChangesMeet c (e.Local ty k) ty
 
 -- of a place in memory, where its code does what it does

@@ -31,7 +31,7 @@ use Rattle.lowering_code.specs.Expressions.{move_code, store_code, address_code,
 use Rattle.lowering_code.specs.Statements.{put_code, put_local_code}
 use Rattle.lowering_states.specs.Places.{CodePlace, next_place}
 use Rattle.lowering_states.specs.Runs.{opens, CodeObservation, finish}
-use Rattle.lowering_states.specs.States.{IsHeld, IsIn, type_at}
+use Rattle.lowering_states.specs.States.{IsHeld, IsInRegister, type_at}
 use Rattle.lowering_states.proofs.Steps.{meets_same, used_meets, known_meets}
 use Rattle.lowering_states.proofs.States.{set_same, set_other, other_depth, after_on, fits_temporary, fits_local}
 use Rattle.lowering_expression_places.proofs.Behind.{at_plain}
@@ -48,9 +48,9 @@ use Rattle.lowering_declaration_laws.proofs.Counts.{times, all_declared}
 use Rattle.lowering_declaration_laws.proofs.Begun.{Begun, begun, starts, low_enough, onward_begun}
 
 -- a value of a scalar type stands as what it is
-scalar_in : (f : Names) (ty : PlainType) (v w : Value) → IsScalarType ty → IsIn f ty v w → IsValueOf f v w
-scalar_in f ty v w (inl t) h = subst (λ z. IsIn f z v w) t.1 h
-scalar_in f ty v w (inr t) h = subst (λ z. IsIn f z v w) t.1 h
+scalar_in : (f : Names) (ty : PlainType) (v w : Value) → IsScalarType ty → IsInRegister f ty v w → IsValueOf f v w
+scalar_in f ty v w (inl t) h = subst (λ z. IsInRegister f z v w) t.1 h
+scalar_in f ty v w (inr t) h = subst (λ z. IsInRegister f z v w) t.1 h
 
 module _ (c : Setting) (found : slice_get c.functions c.number ≡ Some c.code) (again : Scope → Stmt → Run StatementFlow) where
   abbrev L : ℕ
@@ -94,7 +94,7 @@ module _ (c : Setting) (found : slice_get c.functions c.number ≡ Some c.code) 
     -- the value was computed
     evaluated : (tail : List CodeItem → List CodeItem) (brk con : ℕ) (rest : List CodeItem) (heads : List ℕ) (p : CodePlace) (f : Names) (scope : Scope) (r : Registers) (s : CallState) (m : Memory) (K : StatementFlow → CallState → CodeObservation) → put_local_code L c.structs c.locals k (slice_get c.locals k) rest ≡ tail rest
         → Stands c heads p (expr_code L c.structs c.locals 0 x (put_local_code L c.structs c.locals k (slice_get c.locals k) rest)) → Fit c f scope r s m → s.world.meter.turns ≤ c.level
-        → ((q : CodePlace) (v : Value) (g : Names) (t : CallState) (q1 : Registers) (m1 : Memory) → Stands c heads q (tail rest) → Aft c f s m g t m1 → Fit c g scope q1 t m1 → IsHeld ty v → IsIn g ty v (q1 reg) → EndsSo c (finish (put scope v t) (λ _ u. K Goes u)) q q1 t.world m1)
+        → ((q : CodePlace) (v : Value) (g : Names) (t : CallState) (q1 : Registers) (m1 : Memory) → Stands c heads q (tail rest) → Aft c f s m g t m1 → Fit c g scope q1 t m1 → IsHeld ty v → IsInRegister g ty v (q1 reg) → EndsSo c (finish (put scope v t) (λ _ u. K Goes u)) q q1 t.world m1)
         → EndsSo c (finish (and_then (initialise c.structs c.locals c.calls scope k (slice_get c.locals k) (Some x) s) (λ _. pure Goes)) K) p r s.world m
     unfolding opens
     evaluated tail brk con rest heads p f scope r s m K code_e at fit low next =
@@ -103,7 +103,7 @@ module _ (c : Setting) (found : slice_get c.functions c.number ≡ Some c.code) 
         (bound c found (eval c.structs c.locals c.calls scope x s) (put scope) (λ _ u. K Goes u) p r s.world m
         (hx.by 0 (tail rest) heads p f scope r s m (λ v t. finish (put scope v t) (λ _ u. K Goes u)) (subst (λ z. Stands c heads p (expr_code L c.structs c.locals 0 x z)) code_e at) fit low
         (λ q v g t q1 m1 at1 aft fit1 kept held stands.
-        next q v g t q1 m1 at1 aft fit1 (subst (λ z. IsHeld z v) ex held) (subst (λ z. IsIn g z v (q1 (value_register L 0 z))) ex stands)))))
+        next q v g t q1 m1 at1 aft fit1 (subst (λ z. IsHeld z v) ex held) (subst (λ z. IsInRegister g z v (q1 (value_register L 0 z))) ex stands)))))
 
     in_register : IsScalarType ty → l.in_memory ≡ false → StmtMeets c again (Declare (record { number = k; init = Some x }))
     unfolding opens
@@ -127,7 +127,7 @@ module _ (c : Setting) (found : slice_get c.functions c.number ≡ Some c.code) 
 
     -- the address of the object stands above the value, which is then put there
     in_object : (tail : List CodeItem → List CodeItem) → l.in_memory ≡ true → ((rest : List CodeItem) → put_code L c.structs c.locals ty k rest ≡ address_code L 1 (vp.Local (object_of c.locals k)) 0 (tail rest))
-        → ((rest : List CodeItem) (heads : List ℕ) (q : CodePlace) (o : ℕ) (v : Value) (g : Names) (scope : Scope) (t : CallState) (q1 : Registers) (m1 : Memory) (K1 : Unit {0} → CallState → CodeObservation) → Stands c heads q (tail rest) → Fit c g scope q1 t m1 → IsHeld ty v → IsIn g ty v (q1 reg)
+        → ((rest : List CodeItem) (heads : List ℕ) (q : CodePlace) (o : ℕ) (v : Value) (g : Names) (scope : Scope) (t : CallState) (q1 : Registers) (m1 : Memory) (K1 : Unit {0} → CallState → CodeObservation) → Stands c heads q (tail rest) → Fit c g scope q1 t m1 → IsHeld ty v → IsInRegister g ty v (q1 reg)
         → IsValueOf g (start_of o) (q1 (address_register L 1))
         → ((u : CallState) (m2 : Memory) → Stands c heads (next_place q) rest → Aft c g t m1 g u m2 → Fit c g scope q1 u m2 → EndsSo c (K1 tt u) (next_place q) q1 u.world m2) → EndsSo c (finish (write_at c.structs ty (start_of o) v t) K1) q q1 t.world m1)
         → StmtMeets c again (Declare (record { number = k; init = Some x }))
@@ -149,7 +149,7 @@ module _ (c : Setting) (found : slice_get c.functions c.number ≡ Some c.code) 
           let lower : q2 reg ≡ q1 reg = set_other q1 (address_register L 1) reg w (other_depth L 0 1 (register_type ty) P64 (omega arith)) in
           let base : IsValueOf g (start_of o) (q2 (address_register L 1)) = subst (λ z. IsValueOf g (start_of o) z) (sym (set_same q1 (address_register L 1) w)) (address_of c found g o name 0 (fit1.scopes k o scoped)) in
           address_meets c found 1 (vp.Local (object_of c.locals k)) 0 (tail rest) heads q q1 t.world m1 at1
-          (done rest heads (next_place q) o v g scope t q2 m1 (λ _ u1. K Goes u1) (at_plain c.code.blocks c.last c.end _ at1) (fits_temporary 1 P64 w fit1) held (subst (λ z. IsIn g ty v z) (sym lower) stands) base
+          (done rest heads (next_place q) o v g scope t q2 m1 (λ _ u1. K Goes u1) (at_plain c.code.blocks c.last c.end _ at1) (fits_temporary 1 P64 w fit1) held (subst (λ z. IsInRegister g ty v z) (sym lower) stands) base
           (λ u m2 at2 aft2 fit2. way.goes (next_place (next_place q)) g u q2 m2 at2 (after_on aft aft2) fit2)))))));
     }
 
@@ -174,7 +174,7 @@ module _ (c : Setting) (found : slice_get c.functions c.number ≡ Some c.code) 
       in_object k l x here ex hx (λ is. copy_code c.structs (address_register L 1) (address_register L 0) (Struct number) is) em (λ rest. ap (λ z. put_code L c.structs c.locals z k rest) et)
       (λ rest heads q o v g scope t q1 m1 K1 at fit held stands base next.
       subst (λ z. EndsSo c (finish (write_at c.structs z (start_of o) v t) K1) q q1 t.world m1) (sym et)
-      ((writes_meet c found).structs number whole (address_register L 1) (address_register L 0) rest heads q (start_of o) v g scope q1 t m1 K1 at fit base (subst (λ z. IsIn g z v (q1 (value_register L 0 z))) et stands) next))
+      ((writes_meet c found).structs number whole (address_register L 1) (address_register L 0) rest heads q (start_of o) v g scope q1 t m1 K1 at fit base (subst (λ z. IsInRegister g z v (q1 (value_register L 0 z))) et stands) next))
 
 pub declarations_meet : DeclarationsMeet
 declarations_meet c again found = record {

@@ -30,7 +30,7 @@ use Rattle.lowering_statement_laws.proofs.Statements.{onward_on}
 use Rattle.lowering_for_laws.specs.LoweringLoopLaws.{LevelMeanings, at_level, AreLevels}
 use Rattle.lowering_for_laws.specs.Laws.{StepMeets, ConditionMeets}
 use Rattle.lowering_for_laws.proofs.ForLoops.{enters}
-use Rattle.lowering_declaration_laws.specs.Laws.{MayDeclareAll, AllMeet, DeclaringForLoopsMeet}
+use Rattle.lowering_declaration_laws.specs.Laws.{MayDeclareAll, AllDeclarationsMeet, DeclaringForLoopsMeet}
 use Rattle.lowering_declaration_laws.proofs.Counts.{times, first_declared}
 use Rattle.lowering_declaration_laws.proofs.Begun.{Begun, begun, starts, low_enough, onward_begun}
 
@@ -51,7 +51,7 @@ module _ (c : Setting) (found : slice_get c.functions c.number ≡ Some c.code) 
   L = count c
 
   -- declarations, one behind the other
-  declares_lead : (ds : List LocalDeclaration) → AllMeet c again ds → (is : List CodeItem) (heads : List ℕ) (p : CodePlace) (f : Names) (scope : Scope) (r : Registers) (s : CallState) (m : Memory) (K : Unit {0} → CallState → CodeObservation) → Stands c heads p (declares_code L c.structs c.locals ds is) → Fit c f scope r s m
+  declares_lead : (ds : List LocalDeclaration) → AllDeclarationsMeet c again ds → (is : List CodeItem) (heads : List ℕ) (p : CodePlace) (f : Names) (scope : Scope) (r : Registers) (s : CallState) (m : Memory) (K : Unit {0} → CallState → CodeObservation) → Stands c heads p (declares_code L c.structs c.locals ds is) → Fit c f scope r s m
       → s.world.meter.turns ≤ c.level → ((q1 : CodePlace) (g : Names) (t : CallState) (r1 : Registers) (m1 : Memory) → Stands c heads q1 is → Aft c f s m g t m1 → Fit c g scope r1 t m1 → EndsSo c (K tt t) q1 r1 t.world m1)
       → EndsSo c (finish (declares c.structs c.locals c.calls scope ds s) K) p r s.world m
   unfolding opens on_going
@@ -70,7 +70,7 @@ module _ (c : Setting) (found : slice_get c.functions c.number ≡ Some c.code) 
       })))
 
 module _ (c : Setting) (levels : LevelMeanings) (found : slice_get c.functions c.number ≡ Some c.code) (are : AreLevels c levels) (ds : List LocalDeclaration) (test step : Option Expr) (body : Stmt) (may : MayDeclareAll c.structs c.locals (declared_first (Locals ds)))
-    (once : (j : ℕ) → declarations j (For (Locals ds) test step body) ≤ 1) (hd : (k : ℕ) → AllMeet (at_level c levels k) (levels.statements k) ds) (ht : (k : ℕ) → ConditionMeets (at_level c levels k) test) (hs : (k : ℕ) → StepMeets (at_level c levels k) step)
+    (once : (j : ℕ) → declarations j (For (Locals ds) test step body) ≤ 1) (hd : (k : ℕ) → AllDeclarationsMeet (at_level c levels k) (levels.statements k) ds) (ht : (k : ℕ) → ConditionMeets (at_level c levels k) test) (hs : (k : ℕ) → StepMeets (at_level c levels k) step)
     (hb : (k : ℕ) → StmtMeets (at_level c levels k) (levels.statements k) body) where
   -- what the loop does behind its declarations
   abbrev loop_run : ℕ → Scope → Run StatementFlow

@@ -30,9 +30,9 @@ MayDeclareAll structs locals [] = Unit {0}
 MayDeclareAll structs locals (k ∷ ks) = MayDeclare structs locals k × MayDeclareAll structs locals ks
 
 -- the code of each declaration does what it does
-abbrev pub AllMeet : (c : Setting) → (Scope → Stmt → Run StatementFlow) → List LocalDeclaration → Type 0
-AllMeet c again [] = Unit {0}
-AllMeet c again (d ∷ ds) = StmtMeets c again (Declare d) × AllMeet c again ds
+abbrev pub AllDeclarationsMeet : (c : Setting) → (Scope → Stmt → Run StatementFlow) → List LocalDeclaration → Type 0
+AllDeclarationsMeet c again [] = Unit {0}
+AllDeclarationsMeet c again (d ∷ ds) = StmtMeets c again (Declare d) × AllDeclarationsMeet c again ds
 
 pub record Declarations (c : Setting) (again : Scope → Stmt → Run StatementFlow) : Type 0 where
   -- a block declares each local once at most
@@ -61,7 +61,7 @@ DeclaringForLoopsMeet =
     (ds : List LocalDeclaration) (condition step : Option Expr) (body : Stmt) →
     MayDeclareAll c.structs c.locals (declared_first (Locals ds)) →
     ((k : ℕ) → declarations k (For (Locals ds) condition step body) ≤ 1) →
-    ((k : ℕ) → AllMeet (at_level c levels k) (levels.statements k) ds) →
+    ((k : ℕ) → AllDeclarationsMeet (at_level c levels k) (levels.statements k) ds) →
     ((k : ℕ) → ConditionMeets (at_level c levels k) condition) → ((k : ℕ) → StepMeets (at_level c levels k) step) →
     ((k : ℕ) → StmtMeets (at_level c levels k) (levels.statements k) body) → (k : ℕ) →
     StmtMeets (at_level c levels k) (levels.statements k) (For (Locals ds) condition step body)

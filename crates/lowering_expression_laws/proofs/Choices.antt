@@ -35,7 +35,7 @@ use Rattle.lowering_code.specs.Registers.{register_type, value_register}
 use Rattle.lowering_code.specs.Expressions.{plain_of, constant_code, branch_code, expr_code}
 use Rattle.lowering_states.specs.Places.{CodePlace, next_place, next_block, start_of_block}
 use Rattle.lowering_states.specs.Runs.{opens, CodeObservation, finish, Meets}
-use Rattle.lowering_states.specs.States.{IsHeld, IsIn, KeepsLower}
+use Rattle.lowering_states.specs.States.{IsHeld, IsInRegister, KeepsLower}
 use Rattle.lowering_states.proofs.Steps.{meets_anything, meets_same, fall, jump, branch_taken, branch_passed}
 use Rattle.lowering_states.proofs.States.{kept_on, kept_temporary, value_at, after_on, fits_temporary}
 use Rattle.lowering_values.proofs.Accesses.{memories_correspond}
@@ -64,11 +64,11 @@ pointer_holds f m n target (Word k) w x h held rel is =
 pointer_holds f m n target (Address p) w x h held rel is = (memories_correspond f m n h).0.pointers p w is.0 rel ∙ ap Some (sym is.1)
 pointer_holds f m n target Unset w x h held rel is = absurd is
 
-pub holds_there : (f : Names) (m n : Memory) (ty : PlainType) (v w : Value) (x : Bool) → IsScalarType ty → IsMemoryOf f m n → IsHeld ty v → IsIn f ty v w → TestIs m v x → vm.value_holds n (register_type ty) w ≡ Some x
+pub holds_there : (f : Names) (m n : Memory) (ty : PlainType) (v w : Value) (x : Bool) → IsScalarType ty → IsMemoryOf f m n → IsHeld ty v → IsInRegister f ty v w → TestIs m v x → vm.value_holds n (register_type ty) w ≡ Some x
 holds_there f m n ty v w x (inl t) h held rel is =
-    subst (λ z. vm.value_holds n (register_type z) w ≡ Some x) (sym t.1) (integer_holds f m n t.0 v w x h (subst (λ z. IsHeld z v) t.1 held) (subst (λ z. IsIn f z v w) t.1 rel) is)
+    subst (λ z. vm.value_holds n (register_type z) w ≡ Some x) (sym t.1) (integer_holds f m n t.0 v w x h (subst (λ z. IsHeld z v) t.1 held) (subst (λ z. IsInRegister f z v w) t.1 rel) is)
 holds_there f m n ty v w x (inr t) h held rel is =
-    subst (λ z. vm.value_holds n (register_type z) w ≡ Some x) (sym t.1) (pointer_holds f m n t.0 v w x h (subst (λ z. IsHeld z v) t.1 held) (subst (λ z. IsIn f z v w) t.1 rel) is)
+    subst (λ z. vm.value_holds n (register_type z) w ≡ Some x) (sym t.1) (pointer_holds f m n t.0 v w x h (subst (λ z. IsHeld z v) t.1 held) (subst (λ z. IsInRegister f z v w) t.1 rel) is)
 
 either : (x stop : Bool) → (x ≡ stop) ⊎ (x ≡ not stop)
 either true true = inl refl
@@ -109,7 +109,7 @@ module _ (c : Setting) (found : slice_get c.functions c.number ≡ Some c.code) 
 
   -- a branch by a value that was tested
   module _ (op : VmBranchOp) (d : ℕ) (ty : PlainType) (scalar : IsScalarType ty) (name : ℕ) (rest : List CodeItem) (heads : List ℕ) (q : CodePlace) (f : Names) (scope : Scope) (r : Registers) (s : CallState) (m : Memory) (v : Value) (x : Bool)
-      (at : Stands c heads q (branch_code L op d ty name rest)) (fit : Fit c f scope r s m) (held : IsHeld ty v) (stands : IsIn f ty v (r (value_register L d ty))) (is : TestIs s.world.outer.memory v x) where
+      (at : Stands c heads q (branch_code L op d ty name rest)) (fit : Fit c f scope r s m) (held : IsHeld ty v) (stands : IsInRegister f ty v (r (value_register L d ty))) (is : TestIs s.world.outer.memory v x) where
     holds : vm.value_holds m (register_type ty) (r (value_register L d ty)) ≡ Some x
     holds = holds_there f s.world.outer.memory m ty v (r (value_register L d ty)) x scalar fit.memory held stands is
 
@@ -173,7 +173,7 @@ module _ (c : Setting) (found : slice_get c.functions c.number ≡ Some c.code) 
             by_test q2 h u q3 m2 v z at2 (after_on aft aft2) fit2 (kept_on (omega arith) kept kept2) held stands is (either z stop)))))
           where
             by_test : (q2 : CodePlace) (h : Names) (u : CallState) (q3 : Registers) (m2 : Memory) (v : Value) (z : Bool) → Stands c heads q2 ends → Aft c f s m h u m2 → Fit c h scope q3 u m2 → KeepsLower L d r q3 → IsHeld (type_of y) v
-                → IsIn h (type_of y) v (q3 (value_register L d (type_of y))) → TestIs u.world.outer.memory v z → (z ≡ stop) ⊎ (z ≡ not stop) → EndsSo c (K (Word (truth z)) u) q2 q3 u.world m2
+                → IsInRegister h (type_of y) v (q3 (value_register L d (type_of y))) → TestIs u.world.outer.memory v z → (z ≡ stop) ⊎ (z ≡ not stop) → EndsSo c (K (Word (truth z)) u) q2 q3 u.world m2
             by_test q2 h u q3 m2 v z at2 aft2 fit2 kept2 held stands is (inl e) =
                 let there = stops_at q2 at2 in
                 goes op d (type_of y) sy (items.count stops) _ heads q2 h scope q3 u m2 v z at2 fit2 held stands is (suc (suc q2.block)) there.size (ap (is_taken op) e ∙ taken)
@@ -196,7 +196,7 @@ module _ (c : Setting) (found : slice_get c.functions c.number ≡ Some c.code) 
             test_meets v t (λ z t. finish (run z t) K) _ (λ z is. by_test q g t q1 m1 v z at1 aft fit1 kept held stands is (either z stop)))))
           where
             by_test : (q : CodePlace) (g : Names) (t : CallState) (q1 : Registers) (m1 : Memory) (v : Value) (z : Bool) → Stands c heads q (branch_code L op d (type_of x) (items.count stops) (expr_code L c.structs c.locals d y ends)) → Aft c f s m g t m1 → Fit c g scope q1 t m1 → KeepsLower L d r q1
-                → IsHeld (type_of x) v → IsIn g (type_of x) v (q1 (value_register L d (type_of x))) → TestIs t.world.outer.memory v z → (z ≡ stop) ⊎ (z ≡ not stop) → EndsSo c (finish (run z t) K) q q1 t.world m1
+                → IsHeld (type_of x) v → IsInRegister g (type_of x) v (q1 (value_register L d (type_of x))) → TestIs t.world.outer.memory v z → (z ≡ stop) ⊎ (z ≡ not stop) → EndsSo c (finish (run z t) K) q q1 t.world m1
             by_test q g t q1 m1 v z at1 aft fit1 kept held stands is (inl e) =
                 let behind : Somewhere c.code.blocks c.last c.end heads ends = left_expr c.code.blocks c.last c.end L c.structs c.locals y d heads ends (record { place = next_block q; at = at_branch c.code.blocks c.last c.end op _ _ _ at1 }) in
                 let there = stops_at behind.place behind.at in
@@ -240,7 +240,7 @@ module _ (c : Setting) (found : slice_get c.functions c.number ≡ Some c.code) 
           (λ q2 v h u q3 m2 at2 aft2 fit2 kept2 held stands.
           fall c.rooms c.functions c.number c.code found c.own c.waiting q2 q3 u.world m2 at2.has.0
           (next (next_block q2) v h u q3 m2 (at_start c.code.blocks c.last c.end at2) (after_on aft aft2) fit2 (kept_on (omega arith) kept kept2)
-          (subst (λ k. IsHeld k v) ez held) (subst (λ k. IsIn h k v (q3 (value_register L d k))) ez stands)))
+          (subst (λ k. IsHeld k v) ez held) (subst (λ k. IsInRegister h k v (q3 (value_register L d k))) ez stands)))
 
       arm_holds : (q : CodePlace) (g : Names) (t : CallState) (q1 : Registers) (m1 : Memory) → Stands c heads q (expr_code L c.structs c.locals d y (Jump (items.count rest) ∷ fails)) → Aft c f s m g t m1 → Fit c g scope q1 t m1 → KeepsLower L d r q1
           → t.world.meter.turns ≤ c.level → EndsSo c (finish (value y t) K) q q1 t.world m1
@@ -253,10 +253,10 @@ module _ (c : Setting) (found : slice_get c.functions c.number ≡ Some c.code) 
           jump c.rooms c.functions c.number c.code found c.own c.waiting (c.last - items.count rest) q2 q3 u.world m2 at2.has.0
           (at_block q3 u.world m2 block (c.last - items.count rest) (omega (arith, there.size))
           (next (start_of_block block) v h u q3 m2 there (after_on aft aft2) fit2 (kept_on (omega arith) kept kept2)
-          (subst (λ k. IsHeld k v) ey held) (subst (λ k. IsIn h k v (q3 (value_register L d k))) ey stands))))
+          (subst (λ k. IsHeld k v) ey held) (subst (λ k. IsInRegister h k v (q3 (value_register L d k))) ey stands))))
 
       choice_meets : (q : CodePlace) (g : Names) (t : CallState) (q1 : Registers) (m1 : Memory) (v : Value) (k : Bool) → Stands c heads q (branch_code L IfFalse d (type_of x) (items.count fails) (expr_code L c.structs c.locals d y (Jump (items.count rest) ∷ fails)))
-          → Aft c f s m g t m1 → Fit c g scope q1 t m1 → KeepsLower L d r q1 → IsHeld (type_of x) v → IsIn g (type_of x) v (q1 (value_register L d (type_of x))) → TestIs t.world.outer.memory v k → t.world.meter.turns ≤ c.level
+          → Aft c f s m g t m1 → Fit c g scope q1 t m1 → KeepsLower L d r q1 → IsHeld (type_of x) v → IsInRegister g (type_of x) v (q1 (value_register L d (type_of x))) → TestIs t.world.outer.memory v k → t.world.meter.turns ≤ c.level
           → EndsSo c (finish (choose (value y) (value z) k t) K) q q1 t.world m1
       choice_meets q g t q1 m1 v true at aft fit kept held stands is low =
           passes IfFalse d (type_of x) sx (items.count fails) _ heads q g scope q1 t m1 v true at fit held stands is refl

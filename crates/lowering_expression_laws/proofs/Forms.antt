@@ -44,7 +44,7 @@ use Rattle.lowering_code.specs.Registers.{register_type, value_register, tempora
 use Rattle.lowering_code.specs.Expressions.{plain_of, is_kept, narrow_type, operation_of, operation_insn, binary_code, conversion_code, convert_code, plus_of, expr_code, place_code}
 use Rattle.lowering_states.specs.Places.{CodePlace, next_place, stands_at}
 use Rattle.lowering_states.specs.Runs.{opens, CodeObservation, ObservesTrap, view, finish}
-use Rattle.lowering_states.specs.States.{IsHeld, IsIn, KeepsLower}
+use Rattle.lowering_states.specs.States.{IsHeld, IsInRegister, KeepsLower}
 use Rattle.lowering_states.proofs.Steps.{finish-bind, meets_same, plain, traps, used_meets, number_meets, outcome_meets}
 use Rattle.lowering_states.proofs.States.{kept_all, kept_on, kept_temporary, kept_reads, value_at, after_same, after_on, fits_temporary}
 use Rattle.lowering_values.specs.Laws.{is_shift, does_in}
@@ -70,10 +70,10 @@ pub record WordIn (L d : ℕ) (t : IntegerType) (k : ℕ) (q : Registers) : Type
   pub is_one : is_word t k ≡ true
   pub stands : q (value_register L d (plain_of t)) ≡ Word k
 
-pub word_in : (f : Names) (L d : ℕ) (ty : PlainType) (t : IntegerType) (v : Value) (k : ℕ) (q : Registers) → ty ≡ plain_of t → v ≡ Word k → IsHeld ty v → IsIn f ty v (q (value_register L d ty)) → WordIn L d t k q
+pub word_in : (f : Names) (L d : ℕ) (ty : PlainType) (t : IntegerType) (v : Value) (k : ℕ) (q : Registers) → ty ≡ plain_of t → v ≡ Word k → IsHeld ty v → IsInRegister f ty v (q (value_register L d ty)) → WordIn L d t k q
 word_in f L d ty t v k q e is held stands =
     let h : IsHeld (plain_of t) (Word k) = subst (λ z. IsHeld z (Word k)) e (subst (λ z. IsHeld ty z) is held) in
-    let s : IsIn f (plain_of t) (Word k) (q (value_register L d (plain_of t))) = subst (λ z. IsIn f z (Word k) (q (value_register L d z))) e (subst (λ z. IsIn f ty z (q (value_register L d ty))) is stands) in
+    let s : IsInRegister f (plain_of t) (Word k) (q (value_register L d (plain_of t))) = subst (λ z. IsInRegister f z (Word k) (q (value_register L d z))) e (subst (λ z. IsInRegister f ty z (q (value_register L d ty))) is stands) in
     record { is_one = word_held t k h; stands = s }
 
 kept_register : (s t : IntegerType) → is_kept (plain_of s) (plain_of t) ≡ true → register_type (plain_of s) ≡ register_type (plain_of t)
@@ -148,7 +148,7 @@ module _ (c : Setting) (found : slice_get c.functions c.number ≡ Some c.code) 
         (h.by d rest heads p f scope r s m (λ v t. finish (use_value UsesNoValue v t) K) at fit low
         (λ q v g t q1 m1 at1 aft fit1 kept held stands.
         used_meets c.rooms c.functions UsesNoValue v t K _ (λ set.
-        next q v g t q1 m1 at1 aft fit1 kept (subst (λ z. IsHeld z v) e held) (subst (λ z. IsIn g z v (q1 (value_register L d z))) e stands))));
+        next q v g t q1 m1 at1 aft fit1 kept (subst (λ z. IsHeld z v) e held) (subst (λ z. IsInRegister g z v (q1 (value_register L d z))) e stands))));
   }
 
   -- an operator in front of an integer, whose instruction gives a word

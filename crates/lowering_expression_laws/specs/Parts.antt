@@ -23,7 +23,7 @@ use Rattle.lowering_code.specs.Registers.{value_register}
 use Rattle.lowering_code.specs.Expressions.{expr_code}
 use Rattle.lowering_states.specs.Places.{CodePlace, At}
 use Rattle.lowering_states.specs.Runs.{CodeObservation, finish, Meets, config}
-use Rattle.lowering_states.specs.States.{IsHeld, IsIn, Fits, KeepsLower, After}
+use Rattle.lowering_states.specs.States.{IsHeld, IsInRegister, Fits, KeepsLower, After}
 
 -- a call of a function of the code: its number, the number of its first object, its code, the number of its last block
 -- and how that ends, and the calls that wait; and what the C meaning has beside it: how many objects of static storage,
@@ -69,7 +69,7 @@ module _ (c : Setting) where
   Follows d ty heads rest f scope r s n K =
       (q : CodePlace) (v : Value) (g : Names) (t : CallState) (q1 : Registers) (m : Memory) → Stands heads q rest
       → Aft f s n g t m → Fit g scope q1 t m → KeepsLower count d r q1 → IsHeld ty v
-      → IsIn g ty v (q1 (value_register count d ty)) → EndsSo (K v t) q q1 t.world m
+      → IsInRegister g ty v (q1 (value_register count d ty)) → EndsSo (K v t) q q1 t.world m
 
   pub record ExprMeets (x : Expr) : Type 0 where
     pub by : (d : ℕ) (rest : List CodeItem) (heads : List ℕ) (p : CodePlace) (f : Names) (scope : Scope) (r : Registers)

@@ -12,7 +12,7 @@ pub record ExprIsLeft (blocks : List (List VmInsn)) (last : ℕ) (end : List VmI
   pub value : (depth : ℕ) → IsLeft blocks last end (λ is. expr_code locals ds ls depth x is)
   pub place : (depth plus : ℕ) → IsLeft blocks last end (λ is. place_code locals ds ls depth x plus is)
 
-abbrev pub CodeIsLeft : Type 0
-CodeIsLeft =
+abbrev pub ExpressionCodeIsLeft : Type 0
+ExpressionCodeIsLeft =
     (blocks : List (List VmInsn)) (last : ℕ) (end : List VmInsn) (locals : ℕ) (ds : List StructDef) (ls : List Local)
     (x : Expr) → ExprIsLeft blocks last end locals ds ls x

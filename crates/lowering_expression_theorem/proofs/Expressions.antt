@@ -16,11 +16,11 @@ use Rattle.c_typed_tree.specs.Typing.{Context, Signature, is_same_type, is_fit, 
 use Rattle.c_typed_tree.specs.Lawful.{IsLawfulStruct, IsTypedUnit, IsTypedFn, is_lawful_local, is_result, context_of, signature_of}
 use Rattle.lowering_expression_laws.specs.Parts.{Setting, ExprMeets}
 use Rattle.lowering_place_laws.specs.Places.{PlaceMeets}
-use Rattle.lowering_operand_laws.specs.Laws.{last_type, AllMeet}
+use Rattle.lowering_operand_laws.specs.Laws.{last_type, AllOperandsMeet}
 use Rattle.lowering_call_laws.specs.Laws.{ArgumentsMeet}
 use Rattle.c_layout_laws.proofs.Truth.{no_true, front, back, all_at}
 use Rattle.lowering_bounds.proofs.Typing.{one, two, three, same, large_memory, member_struct}
-use Rattle.lowering_expression_theorem.specs.Laws.{IsSetting, ExpressionsMeet, PlacesMeet}
+use Rattle.lowering_expression_theorem.specs.Laws.{IsSetting, ExpressionsMeet, MemoryPlacesMeet}
 use Rattle.lowering_expression_theorem.proofs.Types.{number_known, pointer_to_known, scalar_known, whole_known}
 use Rattle.lowering_expression_theorem.proofs.Known.{forms, places, accesses, operands, types, within}
 use Rattle.lowering_expression_theorem.proofs.Places.{context_in, local_meets, local_place_meets, global_meets, global_place_meets}
@@ -196,7 +196,7 @@ module _ (c : Setting) (found : slice_get c.functions c.number ≡ Some c.code) 
       arguments_meet ts xs (back (is_typed K x) (are_typed K xs) h) (back (is_same_type (type_of x) t) (are_arguments ts xs) g) (back (is_scalar t) (list_all is_scalar ts) s),
     )
 
-    all_meet : (xs : Exprs) → IsTrue (are_typed K xs) → AllMeet c xs
+    all_meet : (xs : Exprs) → IsTrue (are_typed K xs) → AllOperandsMeet c xs
     all_meet no_exprs h = tt
     all_meet (more_exprs x xs) h = (expr_meets x (front (is_typed K x) (are_typed K xs) h), all_meet xs (back (is_typed K x) (are_typed K xs) h))
 
@@ -236,7 +236,7 @@ expressions_meet u f c typed well setting x h =
     expr_meets c setting.code u.globals (map signature_of u.functions) (structs_lawful u f c typed setting) (locals_lawful u f c well setting) setting.statics (callable u f c typed setting) x
     (subst (λ k. IsTrue (is_typed k x)) (context_is u f c setting) h)
 
-pub places_meet : PlacesMeet
+pub places_meet : MemoryPlacesMeet
 places_meet u f c typed well setting x h m =
     place_meets c setting.code u.globals (map signature_of u.functions) (structs_lawful u f c typed setting) (locals_lawful u f c well setting) setting.statics (callable u f c typed setting) x
     (subst (λ k. IsTrue (is_typed k x)) (context_is u f c setting) h) (subst (λ ls. IsTrue (is_in_memory ls x)) (sym setting.locals) m)

@@ -15,7 +15,7 @@ use Rattle.lowering_expression_laws.specs.Parts.{Setting}
 use Rattle.lowering_expression_laws.specs.Laws.{Forms}
 use Rattle.lowering_expression_laws.proofs.Forms as form
 use Rattle.lowering_expression_laws.proofs.Choices as choice
-use Rattle.lowering_place_laws.specs.Laws.{IsWithin, Places, Accesses}
+use Rattle.lowering_place_laws.specs.Laws.{MemberIsWithin, EachPlaceMeets, Accesses}
 use Rattle.lowering_place_laws.proofs.Places as place
 use Rattle.lowering_place_laws.proofs.Accesses as access
 use Rattle.lowering_access_laws.specs.Laws.{IsWholeStruct}
@@ -48,7 +48,7 @@ module _ (c : Setting) (found : slice_get c.functions c.number ≡ Some c.code) 
     choices = λ ty x y z sx ey ez hx hy hz. choice.choices c found ty x y z sx ey ez hx hy hz;
   }
 
-  pub places : Places c
+  pub places : EachPlaceMeets c
   places = record {
     statics = place.statics c found;
     locals = place.locals c found;
@@ -154,7 +154,7 @@ struct_of_member_small ds lawful ty (Array t n) member h = no_true h
 struct_of_member_small ds lawful ty (Struct n) member h = struct_small ds lawful n (front (is_complete (slice_get ds n)) (has_member_type (struct_member (slice_get ds n) member) ty) h)
 
 -- a member lies within its struct
-pub within : (c : Setting) (k : Context) → k.structs ≡ c.structs → All (IsLawfulStruct k.structs) k.structs → (ty t : PlainType) (member : ℕ) → IsTrue (is_member k.structs ty t member) → IsWithin c t member ty
+pub within : (c : Setting) (k : Context) → k.structs ≡ c.structs → All (IsLawfulStruct k.structs) k.structs → (ty t : PlainType) (member : ℕ) → IsTrue (is_member k.structs ty t member) → MemberIsWithin c t member ty
 within c k e lawful ty t member h = record {
   lies = subst (λ ds. offset_of ds t member + size_of ds ty ≤ size_of ds t) e
       (omega (arith, member_fits k lawful ty t member (size_of k.structs ty) h (omega arith), struct_of_member_small k.structs lawful ty t member h));

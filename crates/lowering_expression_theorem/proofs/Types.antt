@@ -15,7 +15,7 @@ use Rattle.c_typed_tree.specs.Constants.{is_integer}
 use Rattle.c_typed_tree.specs.Typing.{is_same_type, is_same_integer, is_promoted_integer, is_promoted, is_common_integer, is_common, is_scalar, is_pointer, is_void, points_to_object, points_to, is_number, is_type}
 use Rattle.lowering_code.specs.Expressions.{plain_of}
 use Rattle.lowering_expression_laws.specs.Laws.{IsScalarType}
-use Rattle.lowering_place_laws.specs.Laws.{IsWhole}
+use Rattle.lowering_place_laws.specs.Laws.{HasWholeIntegers}
 use Rattle.lowering_access_laws.specs.Laws.{IsAlignment}
 use Rattle.c_layout_laws.specs.Laws.{is_alignment}
 use Rattle.c_layout_laws.proofs.Truth.{no_true, front, back, either}
@@ -202,7 +202,7 @@ void_known (Array t n) h = no_true h
 void_known (Struct n) h = no_true h
 
 -- a number of bytes and a sign that there are
-pub whole_known : (ds : List StructDef) (ty : PlainType) → IsTrue (is_type ds ty) → IsWhole ty
+pub whole_known : (ds : List StructDef) (ty : PlainType) → IsTrue (is_type ds ty) → HasWholeIntegers ty
 whole_known ds Void h = tt
 whole_known ds (Int n s) h = let o = integer_known (Int n s) h in (o.type, o.is)
 whole_known ds (Pointer t) h = tt

@@ -27,7 +27,7 @@ ExpressionsMeet =
     IsTrue (is_typed (context_of u f) x) → ExprMeets c x
 
 -- and that of each place in memory
-abbrev pub PlacesMeet : Type 0
-PlacesMeet =
+abbrev pub MemoryPlacesMeet : Type 0
+MemoryPlacesMeet =
     (u : TypedUnit) (f : TypedFn) (c : Setting) → IsTypedUnit u → IsTypedFn u f → IsSetting u f c → (x : Expr) →
     IsTrue (is_typed (context_of u f) x) → IsTrue (is_in_memory f.locals x) → PlaceMeets c x

@@ -177,7 +177,7 @@ pub(crate) fn combine_register(
 
 /// What stands behind the second operand of `&&` or `||`: the value where it does not decide, and then where one
 /// decided. Gives the name of the block of the latter.
-pub(crate) fn decided(
+pub(crate) fn decision(
     code: &mut EmittedCode,
     r: Registers,
     depth: u32,

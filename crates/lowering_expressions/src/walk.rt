@@ -6,7 +6,7 @@ ghost use Rattle.c_typed_tree.specs.model.View.{exprs_view};
 ghost use Rattle.lowering_expressions.specs.Levels.{levels, levels_above, levels_of_each};
 ghost use Rattle.lowering_expressions.specs.Scopes.{HasLevels, expr_code, place_code, exprs_code, commas_code, unary_code, conversion_code};
 
-use crate::forms::{call, combine_register, decided, global, local, local_place};
+use crate::forms::{call, combine_register, decision, global, local, local_place};
 use crate::places::{is_array, member, plus_of, register_of, target_member};
 use crate::scope::LoweringScope;
 use c_tree::{BinaryOp, StepOp, UnaryOp};
@@ -52,14 +52,14 @@ pub fn expr(
             right,
         } => match op {
             BinaryOp::LogicalAnd => {
-                let fails = decided(code, r, depth, ty, 0, 1)?;
+                let fails = decision(code, r, depth, ty, 0, 1)?;
                 code.branch_by(VmBranchOp::IfFalse, r, depth, right.ty(), fails)?;
                 expr(alloc, code, scope, depth, right)?;
                 code.branch_by(VmBranchOp::IfFalse, r, depth, left.ty(), fails)?;
                 expr(alloc, code, scope, depth, left)
             }
             BinaryOp::LogicalOr => {
-                let holds = decided(code, r, depth, ty, 1, 0)?;
+                let holds = decision(code, r, depth, ty, 1, 0)?;
                 code.branch_by(VmBranchOp::IfTrue, r, depth, right.ty(), holds)?;
                 expr(alloc, code, scope, depth, right)?;
                 code.branch_by(VmBranchOp::IfTrue, r, depth, left.ty(), holds)?;

@@ -127,7 +127,7 @@ entered G ds ls f r m n input statics mem small bytes = record {
 }
 
 -- and when its objects have ended, as no object of a local is left
-pub left_memory : (G : ℕ) (ds : List StructDef) (ls : List Local) (own : ℕ) (g : Names) (r : Registers) (l : c.Registers) (m n : Memory) (input : List ℕ) → Fits G ds ls own g no_scope r l m n input → IsMemoryOf g m (end_objects n own (length (sizes_of ds ls)))
+pub left_memory : (G : ℕ) (ds : List StructDef) (ls : List Local) (own : ℕ) (g : Names) (r : Registers) (l : c.LocalRegisters) (m n : Memory) (input : List ℕ) → Fits G ds ls own g no_scope r l m n input → IsMemoryOf g m (end_objects n own (length (sizes_of ds ls)))
 left_memory G ds ls own g r l m n input fit =
     second_ends g m n own (length (sizes_of ds ls))
     (λ k lt o live named.

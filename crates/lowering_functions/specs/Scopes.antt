@@ -15,8 +15,8 @@ abbrev pub parameters_code : LoweringScope → (number : ℕ) → List Local →
 parameters_code s k ls rest = code.parameters_code s.registers.locals s.structs.now s.locals.now k ls rest
 
 -- a local has a type of objects, whose alignment is a number of 32 bits
-abbrev pub HasSize : List StructDef → Local → Type 0
-HasSize ds l = IsTrue (is_object ds (type_view l.ty)) × (align_of ds (type_view l.ty) < 2 ^ 32)
+abbrev pub LocalHasSize : List StructDef → Local → Type 0
+LocalHasSize ds l = IsTrue (is_object ds (type_view l.ty)) × (align_of ds (type_view l.ty) < 2 ^ 32)
 
 -- the parameter with a number, where it is there
 abbrev pub number_code : LoweringScope → (number : ℕ) → Option Local → List CodeItem → List CodeItem

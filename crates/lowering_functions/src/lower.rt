@@ -10,7 +10,7 @@ ghost use Rattle.lowering_statements.specs.Scopes.{stmt_code};
 ghost use Rattle.lowering_layout.specs.Tops.{blocks_top};
 ghost use Rattle.lowering_layout.specs.Views.{GoesBackToMarks};
 ghost use Rattle.lowering_functions.specs.Parts.{stmt_parts};
-ghost use Rattle.lowering_functions.specs.Scopes.{parameters_code, number_code, HasSize};
+ghost use Rattle.lowering_functions.specs.Scopes.{parameters_code, number_code, LocalHasSize};
 
 use crate::memory::objects;
 use c_typed_tree::{StructDef, TypedFn};
@@ -103,7 +103,7 @@ pub fn lower_function(
     f: &TypedFn,
 ) -> Result<Func<VmInsn>, AllocError>
     requires few { f.now.params ≤ length f.now.locals }
-    requires sizes { All (HasSize structs.now) f.now.locals }
+    requires sizes { All (LocalHasSize structs.now) f.now.locals }
     requires registers { length f.now.locals + 5 * max 5 (stmt_levels (stmt_view f.now.body)) < 2 ^ 32 - 1 }
     requires size { 2 * (2 * f.now.params + 16 * stmt_parts (stmt_view f.now.body)) + 3 < 2 ^ 30 }
     ensures name { IfOk result (λ g. g.name ≡ f.now.name) }

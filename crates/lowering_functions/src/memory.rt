@@ -2,7 +2,7 @@
 
 ghost use Rattle.std.specs.Prelude.{◌≡◌, [], ◌∷◌, ◌++◌, All, OnOk, IfOk};
 ghost use Rattle.lowering_code.specs.Functions.{object_for, objects_of};
-ghost use Rattle.lowering_functions.specs.Scopes.{HasSize};
+ghost use Rattle.lowering_functions.specs.Scopes.{LocalHasSize};
 
 use c_tree::Seq;
 use c_typed_tree::layout::{align_of, size_of};
@@ -11,7 +11,7 @@ use std::alloc::{AllocError, Global};
 use suifvm_ir::function::MemoryLocal;
 
 fn object(structs: &[StructDef], local: &Local) -> MemoryLocal
-    requires { HasSize structs.now local.now }
+    requires { LocalHasSize structs.now local.now }
     ensures { result ≡ object_for structs.now local.now }
 {
     MemoryLocal {
@@ -25,7 +25,7 @@ fn add(
     structs: &[StructDef],
     local: &Local,
 ) -> Result<(), AllocError>
-    requires { HasSize structs.now local.now }
+    requires { LocalHasSize structs.now local.now }
     ensures { OnOk result (objects.new ≡ objects.old ++ objects_of structs.now (local.now ∷ [])) }
 {
     if !local.in_memory {
@@ -41,7 +41,7 @@ pub fn objects(
     structs: &[StructDef],
     locals: &[Local],
 ) -> Result<Seq<MemoryLocal>, AllocError>
-    requires { All (HasSize structs.now) locals.now }
+    requires { All (LocalHasSize structs.now) locals.now }
     ensures { IfOk result (λ o. o ≡ objects_of structs.now locals.now) }
 {
     let mut objects = Seq::new(alloc);

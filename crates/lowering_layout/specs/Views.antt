@@ -10,8 +10,8 @@ abbrev pub view : BlockLayout → code.Layout
 view l = record { last = l.last; blocks = l.blocks; insns = l.insns; heads = l.heads }
 
 -- the greatest register so far is counted
-abbrev pub IsCounted : BlockLayout → Type 0
-IsCounted l = l.temps ≡ max (blocks_top l.blocks) (insns_top l.insns)
+abbrev pub CountsRegisters : BlockLayout → Type 0
+CountsRegisters l = l.temps ≡ max (blocks_top l.blocks) (insns_top l.insns)
 
 -- each jump back leads to a block that begins with a mark
 abbrev pub GoesBackToMarks : List (List VmInsn) → Type 0

@@ -6,7 +6,7 @@ ghost use Rattle.lowering_code.specs.Layout.{with_items, no_block, blocks_of};
 ghost use Rattle.lowering_code.specs.Functions.{end_of};
 ghost use Rattle.lowering_layout.specs.Good.{IsGood};
 ghost use Rattle.lowering_layout.specs.Tops.{blocks_top};
-ghost use Rattle.lowering_layout.specs.Views.{view, IsCounted, GoesBackToMarks, with_end};
+ghost use Rattle.lowering_layout.specs.Views.{view, CountsRegisters, GoesBackToMarks, with_end};
 
 use crate::layout::BlockLayout;
 use c_tree::{Name, Seq};
@@ -26,9 +26,9 @@ pub struct FunctionBlocks {
 
 /// The end of a call that comes to the end of its function: it gives nothing, but of `main` 0.
 fn end(alloc: Global, layout: &mut BlockLayout, locals: u32, main: bool) -> Result<(), AllocError>
-    requires { IsCounted layout.old }
+    requires { CountsRegisters layout.old }
     ensures is { OnOk result (view layout.new ≡ with_end (end_of locals main) (view layout.old)) }
-    ensures counted { OnOk result (IsCounted layout.new) }
+    ensures counted { OnOk result (CountsRegisters layout.new) }
 {
     if main {
         layout.put(VmInsn::LoadConstant {
@@ -49,7 +49,7 @@ fn end(alloc: Global, layout: &mut BlockLayout, locals: u32, main: bool) -> Resu
 fn items(alloc: Global, code: EmittedCode) -> Result<BlockLayout, AllocError>
     requires { length code < 2 ^ 30 }
     ensures is { IfOk result (λ l. view l ≡ with_items code (no_block (count code))) }
-    ensures counted { IfOk result (λ l. IsCounted l) }
+    ensures counted { IfOk result (λ l. CountsRegisters l) }
 {
     let mut layout = BlockLayout::new(alloc, code.name() as u32);
     let mut items = code.into_items();
@@ -61,7 +61,7 @@ fn items(alloc: Global, code: EmittedCode) -> Result<BlockLayout, AllocError>
 
 /// The blocks of code.
 #[tactic(auto, using(crate::proofs::Kept::blocks_done, crate::proofs::Kept::top_done))]
-fn laid(
+fn code_blocks(
     alloc: Global,
     locals: u32,
     main: bool,
@@ -98,7 +98,7 @@ pub fn function(
     ensures temps { IfOk result (λ f. f.temps ≡ max params (blocks_top f.blocks)) }
     ensures marks { IfOk result (λ f. GoesBackToMarks f.blocks) }
 {
-    let FunctionBlocks { blocks, temps } = laid(alloc, locals, main, code)?;
+    let FunctionBlocks { blocks, temps } = code_blocks(alloc, locals, main, code)?;
     Ok(Func {
         name,
         params,

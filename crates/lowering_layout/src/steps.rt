@@ -2,7 +2,7 @@
 
 ghost use Rattle.std.specs.Prelude.{◌≡◌, ◌+◌, ◌-◌, ◌^◌, ◌<◌, length, OnOk};
 ghost use Rattle.lowering_code.specs.Layout.{with_insn, end_block, end_with, open_loop, with_item, no_block};
-ghost use Rattle.lowering_layout.specs.Views.{view, IsCounted};
+ghost use Rattle.lowering_layout.specs.Views.{view, CountsRegisters};
 
 use crate::heads::Heads;
 use crate::layout::BlockLayout;
@@ -18,7 +18,7 @@ impl BlockLayout {
     /// Nothing is laid out. Takes no memory.
     pub fn new(alloc: Global, last: u32) -> BlockLayout
         ensures is { view result ≡ no_block last }
-        ensures counted { IsCounted result }
+        ensures counted { CountsRegisters result }
     {
         BlockLayout {
             last,
@@ -32,9 +32,9 @@ impl BlockLayout {
     /// An instruction behind the others. It fails only where memory is short, or the block is full.
     #[tactic(auto, using(crate::proofs::Sizes::put_top))]
     pub fn put(&mut self, insn: VmInsn) -> Result<(), AllocError>
-        requires { IsCounted self.old }
+        requires { CountsRegisters self.old }
         ensures is { OnOk result (view self.new ≡ with_insn insn (view self.old)) }
-        ensures counted { OnOk result (IsCounted self.new) }
+        ensures counted { OnOk result (CountsRegisters self.new) }
     {
         let top = insn_top(&insn);
         self.insns.push(insn)?;
@@ -45,9 +45,9 @@ impl BlockLayout {
     /// The block is whole. It fails only where memory is short.
     #[tactic(auto, using(crate::proofs::Sizes::close_top))]
     pub fn close(&mut self, alloc: Global) -> Result<(), AllocError>
-        requires { IsCounted self.old }
+        requires { CountsRegisters self.old }
         ensures is { OnOk result (view self.new ≡ end_block (view self.old)) }
-        ensures counted { OnOk result (IsCounted self.new) }
+        ensures counted { OnOk result (CountsRegisters self.new) }
     {
         let block = mem::replace(&mut self.insns, Block::new(alloc));
         self.blocks.push(block)
@@ -55,9 +55,9 @@ impl BlockLayout {
 
     /// The block ends with an instruction.
     pub fn end(&mut self, alloc: Global, insn: VmInsn) -> Result<(), AllocError>
-        requires { IsCounted self.old }
+        requires { CountsRegisters self.old }
         ensures is { OnOk result (view self.new ≡ end_with insn (view self.old)) }
-        ensures counted { OnOk result (IsCounted self.new) }
+        ensures counted { OnOk result (CountsRegisters self.new) }
     {
         self.put(insn)?;
         self.close(alloc)
@@ -65,10 +65,10 @@ impl BlockLayout {
 
     /// The body of a loop begins.
     fn begin(&mut self) -> Result<(), AllocError>
-        requires counted { IsCounted self.old }
+        requires counted { CountsRegisters self.old }
         requires room { length self.old.blocks < 2 ^ 32 }
         ensures is { OnOk result (view self.new ≡ open_loop (view self.old)) }
-        ensures counted { OnOk result (IsCounted self.new) }
+        ensures counted { OnOk result (CountsRegisters self.new) }
     {
         self.heads.push(self.blocks.len() as u32)?;
         self.put(VmInsn::Mark)
@@ -83,10 +83,10 @@ impl BlockLayout {
 
     /// An item behind the others. It fails only where memory is short, or a block is full.
     pub fn item(&mut self, alloc: Global, item: CodeItem) -> Result<(), AllocError>
-        requires counted { IsCounted self.old }
+        requires counted { CountsRegisters self.old }
         requires room { length self.old.blocks + 1 < 2 ^ 32 }
         ensures is { OnOk result (view self.new ≡ with_item item (view self.old)) }
-        ensures counted { OnOk result (IsCounted self.new) }
+        ensures counted { OnOk result (CountsRegisters self.new) }
     {
         match item {
             CodeItem::Start => self.close(alloc),

@@ -13,7 +13,7 @@ fn behind(register: u32) -> u64
     u64::from(register) + 1
 }
 
-fn named(destination: Option<u32>) -> u64
+fn destination_top(destination: Option<u32>) -> u64
     ensures { result ≡ registers_top (named_register destination) }
 {
     match destination {
@@ -22,7 +22,7 @@ fn named(destination: Option<u32>) -> u64
     }
 }
 
-fn returned(value: Option<TypedRegister>) -> u64
+fn value_top(value: Option<TypedRegister>) -> u64
     ensures { result ≡ registers_top (returned_register value) }
 {
     match value {
@@ -97,8 +97,8 @@ pub fn insn_top(insn: &VmInsn) -> u64
             destination,
             arguments,
             ..
-        } => all(arguments.as_slice()).max(named(*destination)),
-        VmInsn::Return { value } => returned(*value),
+        } => all(arguments.as_slice()).max(destination_top(*destination)),
+        VmInsn::Return { value } => value_top(*value),
         VmInsn::Mark => 0,
         VmInsn::Nop => 0,
     }

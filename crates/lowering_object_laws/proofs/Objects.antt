@@ -69,7 +69,7 @@ no_some o a none some = cc
 
 -- ---- an object begins
 
-module _ (G : ℕ) (ds : List StructDef) (ls : List Local) (own : ℕ) (f : Names) (scope : Scope) (r : Registers) (l : c.Registers) (m n : Memory) (input : List ℕ) (k : ℕ) (x : Local) (may : MayBegin ds ls scope k x)
+module _ (G : ℕ) (ds : List StructDef) (ls : List Local) (own : ℕ) (f : Names) (scope : Scope) (r : Registers) (l : c.LocalRegisters) (m n : Memory) (input : List ℕ) (k : ℕ) (x : Local) (may : MayBegin ds ls scope k x)
     (fit : Fits G ds ls own f scope r l m n input) where
   abbrev name : ℕ
   name = own + object_of ls k

@@ -23,21 +23,21 @@ pub record MayBegin (ds : List StructDef) (ls : List Local) (scope : Scope) (k :
 
 -- the object of a local began, and stands as the object of the call that is its own
 pub record LocalBegins (globals : ℕ) (ds : List StructDef) (ls : List Local) (own : ℕ) (f : Names) (scope : Scope)
-    (r : Registers) (l : c.Registers) (m n : Memory) (input : List ℕ) (k : ℕ) (x : Local) : Type 0 where
+    (r : Registers) (l : c.LocalRegisters) (m n : Memory) (input : List ℕ) (k : ℕ) (x : Local) : Type 0 where
   pub fits : Fits globals ds ls own (with_name f (length m) (own + object_of ls k)) (with_object scope k (length m)) r l
       (begin_object m (size_of ds (type_view x.ty)) true) n input
 
 abbrev pub ObjectsBegin : Type 0
 ObjectsBegin =
     (globals : ℕ) (ds : List StructDef) (ls : List Local) (own : ℕ) (f : Names) (scope : Scope) (r : Registers)
-    (l : c.Registers) (m n : Memory) (input : List ℕ) (k : ℕ) (x : Local) → MayBegin ds ls scope k x →
+    (l : c.LocalRegisters) (m n : Memory) (input : List ℕ) (k : ℕ) (x : Local) → MayBegin ds ls scope k x →
     Fits globals ds ls own f scope r l m n input → LocalBegins globals ds ls own f scope r l m n input k x
 
 -- the object of a local ends
 abbrev pub ObjectsEnd : Type 0
 ObjectsEnd =
     (globals : ℕ) (ds : List StructDef) (ls : List Local) (own : ℕ) (f : Names) (scope : Scope) (r : Registers)
-    (l : c.Registers) (m n : Memory) (input : List ℕ) (k object : ℕ) → scope k ≡ None →
+    (l : c.LocalRegisters) (m n : Memory) (input : List ℕ) (k object : ℕ) → scope k ≡ None →
     Fits globals ds ls own f (with_object scope k object) r l m n input →
     Fits globals ds ls own f scope r l (end_object m object) n input
 

@@ -34,7 +34,7 @@ use Rattle.lowering_code.specs.Registers.{register_type, value_register}
 use Rattle.lowering_code.specs.Expressions.{plain_of, not_code, plus_of, conversion_code, expr_code, place_code, commas_code}
 use Rattle.lowering_states.specs.Places.{CodePlace, next_place}
 use Rattle.lowering_states.specs.Runs.{opens, CodeObservation, finish}
-use Rattle.lowering_states.specs.States.{IsHeld, IsIn}
+use Rattle.lowering_states.specs.States.{IsHeld, IsInRegister}
 use Rattle.lowering_states.proofs.Steps.{finish-bind, meets_same, used_meets}
 use Rattle.lowering_states.proofs.States.{set_same, set_other, other_depth, kept_on, kept_temporary, value_at, after_on, fits_temporary}
 use Rattle.lowering_values.proofs.Integers.{register-promoted, promoted_word, word_is}
@@ -44,7 +44,7 @@ use Rattle.lowering_expression_laws.specs.Parts.{Setting, count, EndsSo, Stands,
 use Rattle.lowering_expression_laws.specs.Laws.{IsScalarType}
 use Rattle.lowering_expression_laws.proofs.Forms.{held_word, word_held, value_of_word, insn_on, bound}
 use Rattle.lowering_expression_laws.proofs.Choices.{TestIs, test_meets}
-use Rattle.lowering_operand_laws.specs.Laws.{last_type, AllMeet}
+use Rattle.lowering_operand_laws.specs.Laws.{last_type, AllOperandsMeet}
 
 -- ---- a value beside zero, or null
 
@@ -101,11 +101,11 @@ zero_stands : (ty : PlainType) → IsScalarType ty → vm.is_value_of (register_
 zero_stands ty (inl t) = subst (λ z. vm.is_value_of (register_type z) (Word 0) ≡ true) (sym t.1) (value_of_word t.0 0 (zero_word t.0))
 zero_stands ty (inr t) = subst (λ z. vm.is_value_of (register_type z) (Word 0) ≡ true) (sym t.1) refl
 
-not_there : (m : Memory) (f : Names) (ty : PlainType) (n1 : Memory) (v w : Value) (x : Bool) → IsScalarType ty → IsMemoryOf f m n1 → IsHeld ty v → IsIn f ty v w → TestIs m v x → vm.compare_answer n1 Equal (register_type ty) w (Word 0) ≡ Gives (Word (truth (not x)))
+not_there : (m : Memory) (f : Names) (ty : PlainType) (n1 : Memory) (v w : Value) (x : Bool) → IsScalarType ty → IsMemoryOf f m n1 → IsHeld ty v → IsInRegister f ty v w → TestIs m v x → vm.compare_answer n1 Equal (register_type ty) w (Word 0) ≡ Gives (Word (truth (not x)))
 not_there m f ty n1 v w x (inl t) h held rel is =
-    subst (λ z. vm.compare_answer n1 Equal (register_type z) w (Word 0) ≡ Gives (Word (truth (not x)))) (sym t.1) (integer_not m f t.0 n1 v w x (subst (λ z. IsHeld z v) t.1 held) (subst (λ z. IsIn f z v w) t.1 rel) is)
+    subst (λ z. vm.compare_answer n1 Equal (register_type z) w (Word 0) ≡ Gives (Word (truth (not x)))) (sym t.1) (integer_not m f t.0 n1 v w x (subst (λ z. IsHeld z v) t.1 held) (subst (λ z. IsInRegister f z v w) t.1 rel) is)
 not_there m f ty n1 v w x (inr t) h held rel is =
-    subst (λ z. vm.compare_answer n1 Equal (register_type z) w (Word 0) ≡ Gives (Word (truth (not x)))) (sym t.1) (pointer_not m f t.0 n1 v w x h (subst (λ z. IsHeld z v) t.1 held) (subst (λ z. IsIn f z v w) t.1 rel) is)
+    subst (λ z. vm.compare_answer n1 Equal (register_type z) w (Word 0) ≡ Gives (Word (truth (not x)))) (sym t.1) (pointer_not m f t.0 n1 v w x h (subst (λ z. IsHeld z v) t.1 held) (subst (λ z. IsInRegister f z v w) t.1 rel) is)
 
 truth_word : (x : Bool) → is_word i.Int (truth x) ≡ true
 truth_word true = refl
@@ -125,7 +125,7 @@ module _ (c : Setting) (found : slice_get c.functions c.number ≡ Some c.code) 
 
   -- ---- commas
 
-  commas_on : (x : Expr) (xs : Exprs) → ExprMeets c x → AllMeet c xs → (d : ℕ) (rest : List CodeItem) (heads : List ℕ) (p : CodePlace) (f : Names) (scope : Scope) (r : Registers) (s : CallState) (m : Memory) (K : Value → CallState → CodeObservation)
+  commas_on : (x : Expr) (xs : Exprs) → ExprMeets c x → AllOperandsMeet c xs → (d : ℕ) (rest : List CodeItem) (heads : List ℕ) (p : CodePlace) (f : Names) (scope : Scope) (r : Registers) (s : CallState) (m : Memory) (K : Value → CallState → CodeObservation)
       → Stands c heads p (expr_code L c.structs c.locals d x (commas_code L c.structs c.locals d xs rest)) → Fit c f scope r s m → s.world.meter.turns ≤ c.level → Follows c d (last_type x xs) heads rest f scope r s m K
       → EndsSo c (finish (last_of c.structs c.locals c.calls scope (eval c.structs c.locals c.calls scope x) xs s) K) p r s.world m
   unfolding opens
@@ -137,7 +137,7 @@ module _ (c : Setting) (found : slice_get c.functions c.number ≡ Some c.code) 
       commas_on y ys all.0 all.1 d rest heads q g scope q1 t m1 K at1 fit1 (omega (arith, aft.turned, low))
       (λ q2 w h u q3 m2 at2 aft2 fit2 kept2 held2 stands2. next q2 w h u q3 m2 at2 (after_on aft aft2) fit2 (kept_on (omega arith) kept kept2) held2 stands2)))
 
-  pub commas : (ty : PlainType) (x : Expr) (xs : Exprs) → last_type x xs ≡ ty → ExprMeets c x → AllMeet c xs → ExprMeets c (Comma ty (more_exprs x xs))
+  pub commas : (ty : PlainType) (x : Expr) (xs : Exprs) → last_type x xs ≡ ty → ExprMeets c x → AllOperandsMeet c xs → ExprMeets c (Comma ty (more_exprs x xs))
   commas ty x xs e hx all = record {
     by = λ d rest heads p f scope r s m K at fit low next. commas_on x xs hx all d rest heads p f scope r s m K at fit low (subst (λ z. Follows c d z heads rest f scope r s m K) (sym e) next);
   }
@@ -211,7 +211,7 @@ module _ (c : Setting) (found : slice_get c.functions c.number ≡ Some c.code) 
         (hx.by d rest heads p f scope r s m (λ v t. finish (convert (Pointer from) (Pointer to) v t) K) (subst (λ z. Stands c heads p z) code_e at) fit low
         (λ q v g t q1 m1 at1 aft fit1 kept held stands.
         used_meets c.rooms c.functions UsesNoValue v t K _ (λ set.
-        next1 q v g t q1 m1 at1 aft fit1 kept (held_pointer from to v (subst (λ z. IsHeld z v) ex held)) (subst (λ z. IsIn g z v (q1 (value_register L d z))) ex stands)))));
+        next1 q v g t q1 m1 at1 aft fit1 kept (held_pointer from to v (subst (λ z. IsHeld z v) ex held)) (subst (λ z. IsInRegister g z v (q1 (value_register L d z))) ex stands)))));
   }
 
   pub pointers : (from to : PlainType) (x : Expr) → type_of x ≡ Pointer from → ExprMeets c x → ExprMeets c (Convert (Pointer to) x)

@@ -13,12 +13,12 @@ abbrev pub last_type : Expr → Exprs → PlainType
 last_type x no_exprs = type_of x
 last_type x (more_exprs y ys) = last_type y ys
 
-abbrev pub AllMeet : Setting → Exprs → Type 0
-AllMeet c no_exprs = Unit {0}
-AllMeet c (more_exprs x xs) = ExprMeets c x × AllMeet c xs
+abbrev pub AllOperandsMeet : Setting → Exprs → Type 0
+AllOperandsMeet c no_exprs = Unit {0}
+AllOperandsMeet c (more_exprs x xs) = ExprMeets c x × AllOperandsMeet c xs
 
 pub record OperandForms (c : Setting) : Type 0 where
-  pub commas : (ty : PlainType) (x : Expr) (xs : Exprs) → last_type x xs ≡ ty → ExprMeets c x → AllMeet c xs
+  pub commas : (ty : PlainType) (x : Expr) (xs : Exprs) → last_type x xs ≡ ty → ExprMeets c x → AllOperandsMeet c xs
       → ExprMeets c (Comma ty (more_exprs x xs))
   pub nots : (x : Expr) → IsScalarType (type_of x) → ExprMeets c x → ExprMeets c (Unary (plain_of i.Int) u.Not x)
   pub drops : (x : Expr) → IsScalarType (type_of x) → ExprMeets c x → ExprMeets c (Cast Void x)

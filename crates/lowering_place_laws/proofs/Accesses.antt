@@ -50,7 +50,7 @@ use Rattle.lowering_expression_places.proofs.Behind.{at_plain}
 use Rattle.lowering_expression_laws.specs.Parts.{Setting, count, EndsSo, Stands, Fit, Aft, Follows, ExprMeets}
 use Rattle.lowering_expression_laws.proofs.Forms.{held_word, insn_on, bound}
 use Rattle.lowering_place_laws.specs.Places.{left_of, PlaceMeets}
-use Rattle.lowering_place_laws.specs.Laws.{IsWithin, IsWhole}
+use Rattle.lowering_place_laws.specs.Laws.{MemberIsWithin, HasWholeIntegers}
 use Rattle.lowering_place_laws.proofs.Places.{held_pointer, moved_held, same_moved, byte_of, exact, long_word, address_meets, address_of, pointer_in, moved_meets}
 
 pub array_held : (element : PlainType) (k : ℕ) (v : Value) → IsHeld (Array element k) v
@@ -200,7 +200,7 @@ module _ (c : Setting) (found : slice_get c.functions c.number ≡ Some c.code) 
         (λ v w heldv set relv stands2.
         next (next_place q) v g t (set_register reg w q1) m1 stands2 aft (fits_temporary d P64 w fit) (kept_temporary d P64 w (omega arith) kept) heldv (value_at g v w q1 reg relv))
 
-    pub load_on : (ty : PlainType) → IsWhole ty → Follows c d ty heads rest f scope r s m K → Stands c heads q (load_code L d ty left rest) → EndsSo c (finish (read_at ty at t) K) q q1 t.world m1
+    pub load_on : (ty : PlainType) → HasWholeIntegers ty → Follows c d ty heads rest f scope r s m K → Stands c heads q (load_code L d ty left rest) → EndsSo c (finish (read_at ty at t) K) q q1 t.world m1
     unfolding opens
     load_on Void whole next stands = meets_anything c.rooms c.functions refl
     load_on (Int b1 s1) whole next stands =
@@ -216,7 +216,7 @@ module _ (c : Setting) (found : slice_get c.functions c.number ≡ Some c.code) 
 
   -- ---- forms
 
-  pub statics : (ty : PlainType) (k : ℕ) → IsWhole ty → k < c.statics → ExprMeets c (Global ty k)
+  pub statics : (ty : PlainType) (k : ℕ) → HasWholeIntegers ty → k < c.statics → ExprMeets c (Global ty k)
   unfolding opens
   statics ty k whole lt = record {
     by = λ d rest heads place f scope r s m K at fit low next.
@@ -227,7 +227,7 @@ module _ (c : Setting) (found : slice_get c.functions c.number ≡ Some c.code) 
         (value_at f w w r reg (address_of c found f k k 0 (fit.statics k lt))) (omega arith) (inl (refl, refl)) ty whole next (at_plain c.code.blocks c.last c.end _ at));
   }
 
-  pub targets : (ty target : PlainType) (x : Expr) → IsWhole ty → type_of x ≡ Pointer target → ExprMeets c x → ExprMeets c (Unary ty u.Dereference x)
+  pub targets : (ty target : PlainType) (x : Expr) → HasWholeIntegers ty → type_of x ≡ Pointer target → ExprMeets c x → ExprMeets c (Unary ty u.Dereference x)
   unfolding opens
   targets ty target x whole ex hx = record {
     by = λ d rest heads place f scope r s m K at fit low next.
@@ -239,7 +239,7 @@ module _ (c : Setting) (found : slice_get c.functions c.number ≡ Some c.code) 
         load_on d 0 rest heads f scope r s m K q v v g t q1 m1 aft fit1 kept (held_pointer target Void v (subst (λ z. IsHeld z v) ex held)) (pointer_in c found g d (type_of x) target v q1 ex stands) (omega arith) (inl (refl, refl)) ty whole next at1))));
   }
 
-  pub members : (ty : PlainType) (x : Expr) (member : ℕ) → IsWhole ty → IsWithin c (type_of x) member ty → PlaceMeets c x → ExprMeets c (Field ty x member)
+  pub members : (ty : PlainType) (x : Expr) (member : ℕ) → HasWholeIntegers ty → MemberIsWithin c (type_of x) member ty → PlaceMeets c x → ExprMeets c (Field ty x member)
   unfolding opens
   members ty x member whole within hx = record {
     by = λ d rest heads p1 f scope r s m K at fit low next.
@@ -256,7 +256,7 @@ module _ (c : Setting) (found : slice_get c.functions c.number ≡ Some c.code) 
         load_on d (left_of c x off) rest heads f scope r s m K q base u g t q1 m1 aft fit1 kept (moved_held t.world.outer.memory v u (pos off) Void moved) stands small (is_base u (inr moved)) ty whole next at1)))));
   }
 
-  pub arrows : (ty target : PlainType) (x : Expr) (member : ℕ) → IsWhole ty → type_of x ≡ Pointer target → IsWithin c target member ty → ExprMeets c x → ExprMeets c (Arrow ty x member)
+  pub arrows : (ty target : PlainType) (x : Expr) (member : ℕ) → HasWholeIntegers ty → type_of x ≡ Pointer target → MemberIsWithin c target member ty → ExprMeets c x → ExprMeets c (Arrow ty x member)
   unfolding opens
   arrows ty target x member whole ex within hx = record {
     by = λ d rest heads p1 f scope r s m K at fit low next.

@@ -32,7 +32,7 @@ use Rattle.lowering_code.specs.Registers.{value_register, address_register, obje
 use Rattle.lowering_code.specs.Expressions.{address_code, member_plus, place_code}
 use Rattle.lowering_states.specs.Places.{CodePlace, next_place}
 use Rattle.lowering_states.specs.Runs.{opens, CodeObservation, finish}
-use Rattle.lowering_states.specs.States.{IsHeld, IsIn}
+use Rattle.lowering_states.specs.States.{IsHeld, IsInRegister}
 use Rattle.lowering_states.proofs.Steps.{meets_same, used_meets, known_meets}
 use Rattle.lowering_states.proofs.States.{kept_all, kept_temporary, value_at, after_same, fits_temporary}
 use Rattle.lowering_values.specs.Laws.{IsMoved}
@@ -40,7 +40,7 @@ use Rattle.lowering_expression_places.proofs.Behind.{at_plain}
 use Rattle.lowering_expression_laws.specs.Parts.{Setting, count, EndsSo, Stands, ExprMeets}
 use Rattle.lowering_expression_laws.proofs.Forms.{insn_on, bound}
 use Rattle.lowering_place_laws.specs.Places.{IsBase, left_of, PlaceMeets}
-use Rattle.lowering_place_laws.specs.Laws.{IsWithin}
+use Rattle.lowering_place_laws.specs.Laws.{MemberIsWithin}
 
 -- ---- pointers
 
@@ -143,8 +143,8 @@ module _ (c : Setting) (found : slice_get c.functions c.number ≡ Some c.code) 
   }
 
   -- the value of a pointer stands in the register of pointers
-  pub pointer_in : (f : Names) (d : ℕ) (ty target : PlainType) (v : Value) (q : Registers) → ty ≡ Pointer target → IsIn f ty v (q (value_register L d ty)) → IsValueOf f v (q (address_register L d))
-  pointer_in f d ty target v q e h = subst (λ z. IsIn f z v (q (value_register L d z))) e h
+  pub pointer_in : (f : Names) (d : ℕ) (ty target : PlainType) (v : Value) (q : Registers) → ty ≡ Pointer target → IsInRegister f ty v (q (value_register L d ty)) → IsValueOf f v (q (address_register L d))
+  pointer_in f d ty target v q e h = subst (λ z. IsInRegister f z v (q (value_register L d z))) e h
 
   pub targets : (ty target : PlainType) (x : Expr) → type_of x ≡ Pointer target → ExprMeets c x → PlaceMeets c (Unary ty u.Dereference x)
   unfolding opens
@@ -166,7 +166,7 @@ module _ (c : Setting) (found : slice_get c.functions c.number ≡ Some c.code) 
   moved_meets at off s K h =
       known_meets c.rooms c.functions (move_reason s.world.outer.memory at) (pointer_plus s.world.outer.memory at (pos off)) s K _ h
 
-  pub members : (ty : PlainType) (x : Expr) (member : ℕ) → IsWithin c (type_of x) member ty → PlaceMeets c x → PlaceMeets c (Field ty x member)
+  pub members : (ty : PlainType) (x : Expr) (member : ℕ) → MemberIsWithin c (type_of x) member ty → PlaceMeets c x → PlaceMeets c (Field ty x member)
   unfolding opens
   members ty x member within hx = record {
     by = λ d plus rest heads p1 f scope r s m K le fits at fit low next.
@@ -185,7 +185,7 @@ module _ (c : Setting) (found : slice_get c.functions c.number ≡ Some c.code) 
         (subst (λ k. IsBase t.world.outer.memory base k u plus) same (member_base t.world.outer.memory base v (left_of c x (off + plus)) off plus u is_base moved)))))));
   }
 
-  pub arrows : (ty target : PlainType) (x : Expr) (member : ℕ) → type_of x ≡ Pointer target → IsWithin c target member ty → ExprMeets c x → PlaceMeets c (Arrow ty x member)
+  pub arrows : (ty target : PlainType) (x : Expr) (member : ℕ) → type_of x ≡ Pointer target → MemberIsWithin c target member ty → ExprMeets c x → PlaceMeets c (Arrow ty x member)
   unfolding opens
   arrows ty target x member ex within hx = record {
     by = λ d plus rest heads p1 f scope r s m K le fits at fit low next.

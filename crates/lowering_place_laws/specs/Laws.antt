@@ -14,41 +14,41 @@ use Rattle.lowering_expression_laws.specs.Parts.{Setting, ExprMeets}
 use Rattle.lowering_place_laws.specs.Places.{PlaceMeets}
 
 -- the member of a struct lies within it, and the struct is no larger than the data may be
-pub record IsWithin (c : Setting) (struct : PlainType) (member : ℕ) (ty : PlainType) : Type 0 where
+pub record MemberIsWithin (c : Setting) (struct : PlainType) (member : ℕ) (ty : PlainType) : Type 0 where
   pub lies : offset_of c.structs struct member + size_of c.structs ty ≤ size_of c.structs struct
   pub size : size_of c.structs struct ≤ MOST_DATA
 
 -- the code of each of these places does what the place does, where that of its parts does
-pub record Places (c : Setting) : Type 0 where
+pub record EachPlaceMeets (c : Setting) : Type 0 where
   pub statics : (ty : PlainType) (k : ℕ) → k < c.statics → PlaceMeets c (Global ty k)
   pub locals : (ty : PlainType) (k : ℕ) (l : Local) → slice_get c.locals k ≡ Some l → l.in_memory ≡ true
       → PlaceMeets c (e.Local ty k)
   pub targets : (ty target : PlainType) (x : Expr) → type_of x ≡ Pointer target → ExprMeets c x
       → PlaceMeets c (Unary ty u.Dereference x)
-  pub members : (ty : PlainType) (x : Expr) (member : ℕ) → IsWithin c (type_of x) member ty → PlaceMeets c x
+  pub members : (ty : PlainType) (x : Expr) (member : ℕ) → MemberIsWithin c (type_of x) member ty → PlaceMeets c x
       → PlaceMeets c (Field ty x member)
   pub arrows : (ty target : PlainType) (x : Expr) (member : ℕ) → type_of x ≡ Pointer target
-      → IsWithin c target member ty → ExprMeets c x → PlaceMeets c (Arrow ty x member)
+      → MemberIsWithin c target member ty → ExprMeets c x → PlaceMeets c (Arrow ty x member)
 
 abbrev pub PlacesMeet : Type 0
-PlacesMeet = (c : Setting) → slice_get c.functions c.number ≡ Some c.code → Places c
+PlacesMeet = (c : Setting) → slice_get c.functions c.number ≡ Some c.code → EachPlaceMeets c
 
 -- an object's type, whose integers have a size and a sign that there is
-abbrev pub IsWhole : PlainType → Type 0
-IsWhole Void = Unit {0}
-IsWhole (Int bytes signed) = (t : IntegerType) × (Int bytes signed ≡ plain_of t)
-IsWhole (Pointer target) = Unit {0}
-IsWhole (Array element n) = Unit {0}
-IsWhole (Struct n) = Unit {0}
+abbrev pub HasWholeIntegers : PlainType → Type 0
+HasWholeIntegers Void = Unit {0}
+HasWholeIntegers (Int bytes signed) = (t : IntegerType) × (Int bytes signed ≡ plain_of t)
+HasWholeIntegers (Pointer target) = Unit {0}
+HasWholeIntegers (Array element n) = Unit {0}
+HasWholeIntegers (Struct n) = Unit {0}
 
 pub record Accesses (c : Setting) : Type 0 where
-  pub statics : (ty : PlainType) (k : ℕ) → IsWhole ty → k < c.statics → ExprMeets c (Global ty k)
-  pub targets : (ty target : PlainType) (x : Expr) → IsWhole ty → type_of x ≡ Pointer target → ExprMeets c x
+  pub statics : (ty : PlainType) (k : ℕ) → HasWholeIntegers ty → k < c.statics → ExprMeets c (Global ty k)
+  pub targets : (ty target : PlainType) (x : Expr) → HasWholeIntegers ty → type_of x ≡ Pointer target → ExprMeets c x
       → ExprMeets c (Unary ty u.Dereference x)
-  pub members : (ty : PlainType) (x : Expr) (member : ℕ) → IsWhole ty → IsWithin c (type_of x) member ty
+  pub members : (ty : PlainType) (x : Expr) (member : ℕ) → HasWholeIntegers ty → MemberIsWithin c (type_of x) member ty
       → PlaceMeets c x → ExprMeets c (Field ty x member)
-  pub arrows : (ty target : PlainType) (x : Expr) (member : ℕ) → IsWhole ty → type_of x ≡ Pointer target
-      → IsWithin c target member ty → ExprMeets c x → ExprMeets c (Arrow ty x member)
+  pub arrows : (ty target : PlainType) (x : Expr) (member : ℕ) → HasWholeIntegers ty → type_of x ≡ Pointer target
+      → MemberIsWithin c target member ty → ExprMeets c x → ExprMeets c (Arrow ty x member)
   pub addresses : (target : PlainType) (x : Expr) → PlaceMeets c x
       → ExprMeets c (Unary (Pointer target) u.Address x)
 

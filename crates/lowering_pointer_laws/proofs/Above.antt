@@ -34,14 +34,14 @@ use Rattle.lowering_code.specs.Registers.{register_type, value_register, address
 use Rattle.lowering_code.specs.Expressions.{plain_of, cap_offset, sized_code, scaled_code, add_code, binary_code, element_code, load_code, expr_code}
 use Rattle.lowering_states.specs.Places.{CodePlace, next_place}
 use Rattle.lowering_states.specs.Runs.{opens, CodeObservation, finish}
-use Rattle.lowering_states.specs.States.{IsIn, KeepsLower}
+use Rattle.lowering_states.specs.States.{IsInRegister, KeepsLower}
 use Rattle.lowering_states.proofs.Steps.{meets_same, number_meets, known_meets}
 use Rattle.lowering_states.proofs.States.{kept_on, kept_reads, kept_temporary, after_on, value_at, fits_temporary}
 use Rattle.lowering_expression_places.proofs.Behind.{at_plain}
 use Rattle.lowering_expression_laws.specs.Parts.{Setting, count, EndsSo, Stands, Fit, Follows, ExprMeets}
 use Rattle.lowering_expression_laws.proofs.Forms.{WordIn, word_in, insn_on, bound}
 use Rattle.lowering_place_laws.specs.Places.{PlaceMeets}
-use Rattle.lowering_place_laws.specs.Laws.{IsWhole}
+use Rattle.lowering_place_laws.specs.Laws.{HasWholeIntegers}
 use Rattle.lowering_place_laws.proofs.Places.{held_pointer, moved_held, own_base}
 use Rattle.lowering_place_laws.proofs.Accesses.{load_on}
 use Rattle.lowering_pointer_laws.specs.Laws.{PointersAboveAreMoved}
@@ -138,7 +138,7 @@ module _ (c : Setting) (found : slice_get c.functions c.number ≡ Some c.code) 
       (hy.by (suc d) tail heads q g scope q1 t1 m1 (λ w u. finish (move_by c.structs target t w v u) K) at1 fit1 (omega (arith, aft.turned, low))
       (λ q2 w h u q3 m2 at2 aft2 fit2 kept2 held2 stands2.
       let moves : ℕ → Run Value = (λ k. move_elements w (value t k *ℤ pos size)) in
-      let rel : IsValueOf h w (q3 (address_register (count c) (suc d))) = subst (λ z. IsIn h z w (q3 (value_register (count c) (suc d) z))) ey stands2 in
+      let rel : IsValueOf h w (q3 (address_register (count c) (suc d))) = subst (λ z. IsInRegister h z w (q3 (value_register (count c) (suc d) z))) ey stands2 in
       bound c found (number v u) moves K q2 q3 u.world m2
       (number_meets c.rooms c.functions v u (λ k u1. finish (moves k u1) K) _ (λ k is.
       let word1 = word_in g (count c) d (type_of x) t v k q1 ex is held stands in
@@ -168,7 +168,7 @@ module _ (c : Setting) (found : slice_get c.functions c.number ≡ Some c.code) 
   element_run scope s =
       ap (λ z. run_by (λ v w. element c.structs z (type_of y) v w) scope s) ex ∙ ap (λ z. run_by (λ v w. element c.structs (plain_of t) z v w) scope s) ey ∙ ap (λ z. run_by z scope s) (element_is c.structs target t)
 
-  pub elements : (ty : PlainType) → IsWhole ty → ExprMeets c (Index ty x y)
+  pub elements : (ty : PlainType) → HasWholeIntegers ty → ExprMeets c (Index ty x y)
   unfolding opens
   elements ty whole = record {
     by = λ d rest heads p f scope r s m K at fit low next.

@@ -34,7 +34,7 @@ use Rattle.lowering_code.specs.Registers.{register_type, value_register, address
 use Rattle.lowering_code.specs.Expressions.{plain_of, binary_code, expr_code}
 use Rattle.lowering_states.specs.Places.{CodePlace, next_place}
 use Rattle.lowering_states.specs.Runs.{opens, CodeObservation, finish}
-use Rattle.lowering_states.specs.States.{IsIn, KeepsLower}
+use Rattle.lowering_states.specs.States.{IsInRegister, KeepsLower}
 use Rattle.lowering_states.proofs.Steps.{meets_same, known_meets}
 use Rattle.lowering_states.proofs.States.{kept_on, kept_reads, kept_temporary, after_on, value_at, fits_temporary}
 use Rattle.lowering_expression_places.proofs.Behind.{at_plain}
@@ -76,8 +76,8 @@ module _ (c : Setting) (found : slice_get c.functions c.number ≡ Some c.code) 
       bound c found (eval c.structs c.locals c.calls scope y t1) (done v) K q q1 t1.world m1
       (hy.by (suc d) tail heads q g scope q1 t1 m1 (λ w u. finish (done v w u) K) at1 fit1 (omega (arith, aft.turned, low))
       (λ q2 w h u q3 m2 at2 aft2 fit2 kept2 held2 stands2.
-      let first : IsIn g (Pointer target) v (q1 (address_register L d)) = subst (λ z. IsIn g z v (q1 (value_register L d z))) ex stands in
-      let second : IsIn h (Pointer other) w (q3 (address_register L (suc d))) = subst (λ z. IsIn h z w (q3 (value_register L (suc d) z))) ey stands2 in
+      let first : IsInRegister g (Pointer target) v (q1 (address_register L d)) = subst (λ z. IsInRegister g z v (q1 (value_register L d z))) ex stands in
+      let second : IsInRegister h (Pointer other) w (q3 (address_register L (suc d))) = subst (λ z. IsInRegister h z w (q3 (value_register L (suc d) z))) ey stands2 in
       let same : q3 (address_register L d) ≡ q1 (address_register L d) = kept_reads d P64 (omega arith) kept2 in
       next q2 v w h u q3 m2 at2 (record {
         aft = after_on aft aft2;

@@ -39,7 +39,7 @@ use Rattle.lowering_code.specs.Registers.{value_register, address_register, byte
 use Rattle.lowering_code.specs.Expressions.{plain_of, cap_offset, sized_code, scaled_code, add_code, binary_code, negate_code, expr_code}
 use Rattle.lowering_states.specs.Places.{CodePlace, next_place}
 use Rattle.lowering_states.specs.Runs.{opens, CodeObservation, finish}
-use Rattle.lowering_states.specs.States.{IsIn, KeepsLower}
+use Rattle.lowering_states.specs.States.{IsInRegister, KeepsLower}
 use Rattle.lowering_states.proofs.Steps.{meets_same, number_meets, known_meets}
 use Rattle.lowering_states.proofs.States.{set_same, kept_all, kept_on, kept_reads, kept_temporary, after_on, value_at, fits_temporary}
 use Rattle.lowering_expression_places.proofs.Behind.{at_plain}
@@ -150,7 +150,7 @@ module _ (c : Setting) (found : slice_get c.functions c.number ≡ Some c.code) 
         (hy.by (suc d) tail heads q g scope q1 t1 m1 (λ w u. finish (pointer_and_integer c.structs b.Subtract target t v w u) K) at1 fit1 (omega (arith, aft.turned, low))
         (λ q2 w h u q3 m2 at2 aft2 fit2 kept2 held2 stands2.
         let moves : ℕ → Run Value = (λ k. move_elements v (neg_ℤ (value t k) *ℤ pos size)) in
-        let first : IsIn g (Pointer target) v (q1 addr) = subst (λ z. IsIn g z v (q1 (value_register (count c) d z))) ex stands in
+        let first : IsInRegister g (Pointer target) v (q1 addr) = subst (λ z. IsInRegister g z v (q1 (value_register (count c) d z))) ex stands in
         let same : q3 addr ≡ q1 addr = kept_reads d P64 (omega arith) kept2 in
         let rel : IsValueOf h v (q3 addr) = subst (λ z. IsValueOf h v z) (sym same) (values_stay g h v (q1 addr) aft2.names first) in
         bound c found (number w u) moves K q2 q3 u.world m2

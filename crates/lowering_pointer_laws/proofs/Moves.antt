@@ -47,7 +47,7 @@ use Rattle.lowering_code.specs.Registers.{register_type, temporary, value_regist
 use Rattle.lowering_code.specs.Expressions.{plain_of, cap_offset, is_kept, narrow_type, convert_code, sized_code, scaled_code, add_code, binary_code, element_code, load_code, expr_code}
 use Rattle.lowering_states.specs.Places.{CodePlace, next_place}
 use Rattle.lowering_states.specs.Runs.{opens, CodeObservation, finish}
-use Rattle.lowering_states.specs.States.{IsIn, KeepsLower}
+use Rattle.lowering_states.specs.States.{IsInRegister, KeepsLower}
 use Rattle.lowering_states.proofs.Steps.{meets_same, number_meets, known_meets}
 use Rattle.lowering_states.proofs.States.{set_same, set_other, other_depth, kept_all, kept_on, kept_reads, kept_temporary, after_on, value_at, fits_temporary}
 use Rattle.lowering_values.proofs.Integers.{kept_is, register-promoted, kept_conversion, made_conversion}
@@ -56,7 +56,7 @@ use Rattle.lowering_expression_places.proofs.Behind.{at_plain}
 use Rattle.lowering_expression_laws.specs.Parts.{Setting, count, EndsSo, Stands, Fit, Follows, ExprMeets}
 use Rattle.lowering_expression_laws.proofs.Forms.{WordIn, word_in, insn_on, bound, value_of_word}
 use Rattle.lowering_place_laws.specs.Places.{PlaceMeets}
-use Rattle.lowering_place_laws.specs.Laws.{IsWhole}
+use Rattle.lowering_place_laws.specs.Laws.{HasWholeIntegers}
 use Rattle.lowering_place_laws.proofs.Places.{held_pointer, long_word, moved_held, own_base}
 use Rattle.lowering_place_laws.proofs.Accesses.{load_on}
 use Rattle.lowering_pointer_laws.proofs.Numbers.{IsSmall, small_fits, moved_small, elements_small}
@@ -262,7 +262,7 @@ module _ (c : Setting) (found : slice_get c.functions c.number ≡ Some c.code) 
       (hy.by (suc d) tail heads q g scope q1 t1 m1 (λ w u. finish (move_by c.structs target t v w u) K) at1 fit1 (omega (arith, aft.turned, low))
       (λ q2 w h u q3 m2 at2 aft2 fit2 kept2 held2 stands2.
       let moves : ℕ → Run Value = (λ k. move_elements v (value t k *ℤ pos size)) in
-      let first : IsIn g (Pointer target) v (q1 addr) = subst (λ z. IsIn g z v (q1 (value_register (count c) d z))) ex stands in
+      let first : IsInRegister g (Pointer target) v (q1 addr) = subst (λ z. IsInRegister g z v (q1 (value_register (count c) d z))) ex stands in
       let same : q3 addr ≡ q1 addr = kept_reads d P64 (omega arith) kept2 in
       let rel : IsValueOf h v (q3 addr) = subst (λ z. IsValueOf h v z) (sym same) (values_stay g h v (q1 addr) aft2.names first) in
       bound c found (number w u) moves K q2 q3 u.world m2
@@ -303,7 +303,7 @@ module _ (c : Setting) (found : slice_get c.functions c.number ≡ Some c.code) 
   element_run scope s =
       ap (λ z. run_by (λ v w. element c.structs z (type_of y) v w) scope s) ex ∙ ap (λ z. run_by (λ v w. element c.structs (Pointer target) z v w) scope s) ey ∙ ap (λ z. run_by z scope s) (element_is c.structs target t)
 
-  pub elements : (ty : PlainType) → IsWhole ty → ExprMeets c (Index ty x y)
+  pub elements : (ty : PlainType) → HasWholeIntegers ty → ExprMeets c (Index ty x y)
   unfolding opens
   elements ty whole = record {
     by = λ d rest heads p f scope r s m K at fit low next.

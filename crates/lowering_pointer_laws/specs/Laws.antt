@@ -10,7 +10,7 @@ use Rattle.c_typed_tree.specs.Expressions.{Expr, Binary, Index, type_of}
 use Rattle.lowering_code.specs.Expressions.{plain_of}
 use Rattle.lowering_expression_laws.specs.Parts.{Setting, ExprMeets}
 use Rattle.lowering_place_laws.specs.Places.{PlaceMeets}
-use Rattle.lowering_place_laws.specs.Laws.{IsWhole}
+use Rattle.lowering_place_laws.specs.Laws.{HasWholeIntegers}
 
 pub record Pointers (c : Setting) : Type 0 where
   pub sums : (target : PlainType) (t : IntegerType) (x y : Expr) → size_of c.structs target ≤ MOST_DATA
@@ -20,7 +20,7 @@ pub record Pointers (c : Setting) : Type 0 where
       → type_of x ≡ Pointer target → type_of y ≡ plain_of t → ExprMeets c x → ExprMeets c y
       → ExprMeets c (Binary (Pointer target) b.Subtract x y)
   -- what stands at an element, and its place
-  pub elements : (ty target : PlainType) (t : IntegerType) (x y : Expr) → IsWhole ty
+  pub elements : (ty target : PlainType) (t : IntegerType) (x y : Expr) → HasWholeIntegers ty
       → size_of c.structs target ≤ MOST_DATA → type_of x ≡ Pointer target → type_of y ≡ plain_of t → ExprMeets c x
       → ExprMeets c y → ExprMeets c (Index ty x y)
   pub places : (ty target : PlainType) (t : IntegerType) (x y : Expr) → size_of c.structs target ≤ MOST_DATA
@@ -56,7 +56,7 @@ pub record PointersAbove (c : Setting) : Type 0 where
   pub sums : (target : PlainType) (t : IntegerType) (x y : Expr) → size_of c.structs target ≤ MOST_DATA
       → type_of x ≡ plain_of t → type_of y ≡ Pointer target → ExprMeets c x → ExprMeets c y
       → ExprMeets c (Binary (Pointer target) b.Add x y)
-  pub elements : (ty target : PlainType) (t : IntegerType) (x y : Expr) → IsWhole ty
+  pub elements : (ty target : PlainType) (t : IntegerType) (x y : Expr) → HasWholeIntegers ty
       → size_of c.structs target ≤ MOST_DATA → type_of x ≡ plain_of t → type_of y ≡ Pointer target → ExprMeets c x
       → ExprMeets c y → ExprMeets c (Index ty x y)
   pub places : (ty target : PlainType) (t : IntegerType) (x y : Expr) → size_of c.structs target ≤ MOST_DATA

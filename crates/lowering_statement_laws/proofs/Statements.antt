@@ -30,7 +30,7 @@ use Rattle.lowering_code.specs.Expressions.{plain_of, branch_code, expr_code}
 use Rattle.lowering_code.specs.Statements.{stmt_code, stmts_code}
 use Rattle.lowering_states.specs.Places.{CodePlace, next_block, start_of_block}
 use Rattle.lowering_states.specs.Runs.{opens, CodeObservation, finish}
-use Rattle.lowering_states.specs.States.{IsHeld, IsIn}
+use Rattle.lowering_states.specs.States.{IsHeld, IsInRegister}
 use Rattle.lowering_states.proofs.Steps.{fall, jump, returning, used_meets}
 use Rattle.lowering_states.proofs.States.{after_same, after_on}
 use Rattle.lowering_expression_places.specs.Behind.{Somewhere}
@@ -44,16 +44,16 @@ use Rattle.lowering_statement_laws.proofs.Apart.{inner_least}
 use Rattle.lowering_statement_laws.proofs.Behind.{left_stmt}
 
 -- a value that is set may be returned in the register of its type
-returnable : (f : Names) (ty : PlainType) (v w : Value) → IsScalarType ty → IsHeld ty v → IsIn f ty v w → vm.is_set v ≡ true → (vm.is_value_of (register_type ty) w ≡ true) × IsValueOf f v w
+returnable : (f : Names) (ty : PlainType) (v w : Value) → IsScalarType ty → IsHeld ty v → IsInRegister f ty v w → vm.is_set v ≡ true → (vm.is_value_of (register_type ty) w ≡ true) × IsValueOf f v w
 returnable f ty v w (inl t) held rel set =
-    subst (λ z. (vm.is_value_of (register_type z) w ≡ true) × IsValueOf f v w) (sym t.1) (words v (subst (λ z. IsHeld z v) t.1 held) (subst (λ z. IsIn f z v w) t.1 rel) set)
+    subst (λ z. (vm.is_value_of (register_type z) w ≡ true) × IsValueOf f v w) (sym t.1) (words v (subst (λ z. IsHeld z v) t.1 held) (subst (λ z. IsInRegister f z v w) t.1 rel) set)
   where
     words : (v : Value) → IsHeld (plain_of t.0) v → IsValueOf f v w → vm.is_set v ≡ true → (vm.is_value_of (register_type (plain_of t.0)) w ≡ true) × IsValueOf f v w
     words (Word k) h r x = (ap (vm.is_value_of (register_type (plain_of t.0))) r ∙ value_of_word t.0 k (word_held t.0 k h), r)
     words (Address k) h r x = absurd h
     words Unset h r x = absurd (cc)
 returnable f ty v w (inr t) held rel set =
-    subst (λ z. (vm.is_value_of (register_type z) w ≡ true) × IsValueOf f v w) (sym t.1) (pointers v (subst (λ z. IsIn f z v w) t.1 rel) set)
+    subst (λ z. (vm.is_value_of (register_type z) w ≡ true) × IsValueOf f v w) (sym t.1) (pointers v (subst (λ z. IsInRegister f z v w) t.1 rel) set)
   where
     pointers : (v : Value) → IsValueOf f v w → vm.is_set v ≡ true → (vm.is_set w ≡ true) × IsValueOf f v w
     pointers (Word k) r x = (ap vm.is_set r, r)
@@ -137,7 +137,7 @@ module _ (c : Setting) (found : slice_get c.functions c.number ≡ Some c.code) 
         test_meets c found v t (λ k t1. finish (run k t1) K) _ (λ k is. by_test q g t q1 m1 v k at1 aft fit1 held stands is))))
       where
         by_test : (q : CodePlace) (g : Names) (t : CallState) (q1 : Registers) (m1 : Memory) (v : Value) (k : Bool) → Stands c heads q (branch_code L IfFalse 0 (type_of x) name holds_code) → Aft c f s m g t m1 → Fit c g scope q1 t m1
-            → IsHeld (type_of x) v → IsIn g (type_of x) v (q1 (value_register L 0 (type_of x))) → TestIs t.world.outer.memory v k → EndsSo c (finish (run k t) K) q q1 t.world m1
+            → IsHeld (type_of x) v → IsInRegister g (type_of x) v (q1 (value_register L 0 (type_of x))) → TestIs t.world.outer.memory v k → EndsSo c (finish (run k t) K) q q1 t.world m1
         by_test q g t q1 m1 v true at1 aft fit1 held stands is =
             passes c found IfFalse 0 (type_of x) scalar name holds_code heads q g scope q1 t m1 v true at1 fit1 held stands is refl
             (on_true (next_block q) g t q1 m1 (at_branch c.code.blocks c.last c.end IfFalse _ _ _ at1) aft fit1)

@@ -15,8 +15,8 @@ use Rattle.lowering_expression_laws.specs.Parts.{Setting, ExprMeets}
 use Rattle.lowering_expression_laws.specs.Laws.{IsScalarType}
 use Rattle.lowering_statement_laws.specs.Parts.{StmtMeets, StmtsMeet}
 
-abbrev pub CodeIsLeft : Type 0
-CodeIsLeft =
+abbrev pub StatementCodeIsLeft : Type 0
+StatementCodeIsLeft =
     (blocks : List (List VmInsn)) (last : ℕ) (end : List VmInsn) (locals : ℕ) (ds : List StructDef) (ls : List Local)
     (break_to continue_to : ℕ) (x : Stmt) → IsLeft blocks last end
     (λ is. stmt_code locals ds ls break_to continue_to x is)

@@ -33,7 +33,7 @@ use Rattle.lowering_loop_laws.proofs.Loops.{loops_meet}
 use Rattle.lowering_loop_laws.proofs.DoLoops.{do_loops_meet}
 use Rattle.lowering_for_laws.specs.Laws.{StepMeets, ConditionMeets}
 use Rattle.lowering_for_laws.proofs.ForLoops.{for_loops_meet}
-use Rattle.lowering_declaration_laws.specs.Laws.{MayDeclare, MayDeclareAll, AllMeet, Declarations}
+use Rattle.lowering_declaration_laws.specs.Laws.{MayDeclare, MayDeclareAll, AllDeclarationsMeet, Declarations}
 use Rattle.lowering_declaration_laws.proofs.Declarations.{declarations_meet}
 use Rattle.lowering_declaration_laws.proofs.ForLoops.{declaring_for_loops_meet}
 use Rattle.lowering_switch_laws.specs.Laws.{IsLabelOf, SectionsMeet}
@@ -215,7 +215,7 @@ module _ (u : TypedUnit) (f : TypedFn) (c : Setting) (levels : LevelMeanings) (l
   declaration : (d : LocalDeclaration) → IsTrue (is_declared K d) → Meets (q.Declare d)
   declaration d h = declared d.number d.init (slice_get f.locals d.number) refl h
 
-  all_declared : (ds : List LocalDeclaration) → IsTrue (list_all (is_declared K) ds) → (k : ℕ) → AllMeet (S k) (levels.statements k) ds
+  all_declared : (ds : List LocalDeclaration) → IsTrue (list_all (is_declared K) ds) → (k : ℕ) → AllDeclarationsMeet (S k) (levels.statements k) ds
   all_declared [] h k = tt
   all_declared (d ∷ ds) h k = (declaration d (front (is_declared K d) (list_all (is_declared K) ds) h) k, all_declared ds (back (is_declared K d) (list_all (is_declared K) ds) h) k)
 

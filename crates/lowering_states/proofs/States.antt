@@ -21,7 +21,7 @@ use Rattle.c_semantics.specs.Runs as c
 use Rattle.c_semantics.specs.Objects.{Scope}
 use Rattle.vm_meaning.specs.Behave.{Registers, set_register}
 use Rattle.lowering_code.specs.Registers.{type_place, temporary, object_of}
-use Rattle.lowering_states.specs.States.{IsHeld, IsIn, is_live, type_at, Fits, KeepsLower, After}
+use Rattle.lowering_states.specs.States.{IsHeld, IsInRegister, is_live, type_at, Fits, KeepsLower, After}
 
 -- ---- registers
 
@@ -77,22 +77,22 @@ kept_reads {L = L} d ty lt a = let p = place_small ty in a.same (temporary L d t
 
 -- ---- values
 
-pub is_in : (f : Names) (ty : PlainType) (v w : Value) → IsValueOf f v w → IsIn f ty v w
+pub is_in : (f : Names) (ty : PlainType) (v w : Value) → IsValueOf f v w → IsInRegister f ty v w
 is_in f Void v w h = tt
 is_in f (Int b s) v w h = h
 is_in f (Pointer t) v w h = h
 is_in f (Array t n) v w h = h
 is_in f (Struct n) v w h = h
 
-pub is_in_stays : (f g : Names) (ty : PlainType) (v w : Value) → MoreNames f g → IsIn f ty v w → IsIn g ty v w
+pub is_in_stays : (f g : Names) (ty : PlainType) (v w : Value) → MoreNames f g → IsInRegister f ty v w → IsInRegister g ty v w
 is_in_stays f g Void v w m h = tt
 is_in_stays f g (Int b s) v w m h = values_stay f g v w m h
 is_in_stays f g (Pointer t) v w m h = values_stay f g v w m h
 is_in_stays f g (Array t n) v w m h = values_stay f g v w m h
 is_in_stays f g (Struct n) v w m h = values_stay f g v w m h
 
-pub is_at : (f : Names) (ty : PlainType) (v w : Value) (r : Registers) (k : ℕ) → IsIn f ty v w → IsIn f ty v (set_register k w r k)
-is_at f ty v w r k h = subst (λ z. IsIn f ty v z) (sym (set_same r k w)) h
+pub is_at : (f : Names) (ty : PlainType) (v w : Value) (r : Registers) (k : ℕ) → IsInRegister f ty v w → IsInRegister f ty v (set_register k w r k)
+is_at f ty v w r k h = subst (λ z. IsInRegister f ty v z) (sym (set_same r k w)) h
 
 pub value_at : (f : Names) (v w : Value) (r : Registers) (k : ℕ) → IsValueOf f v w → IsValueOf f v (set_register k w r k)
 value_at f v w r k h = subst (λ z. IsValueOf f v z) (sym (set_same r k w)) h
@@ -124,7 +124,7 @@ after_turn le a = record { names = a.names; lives = a.lives; sizes = a.sizes; lo
 -- ---- the relation
 
 -- a register of an expression is written
-pub fits_temporary : {G : ℕ} {ds : List StructDef} {ls : List Local} {own : ℕ} {f : Names} {scope : Scope} {r : Registers} {l : c.Registers} {m n : Memory} {input : List ℕ}
+pub fits_temporary : {G : ℕ} {ds : List StructDef} {ls : List Local} {own : ℕ} {f : Names} {scope : Scope} {r : Registers} {l : c.LocalRegisters} {m n : Memory} {input : List ℕ}
     (e : ℕ) (ty : VmType) (w : Value) → Fits G ds ls own f scope r l m n input → Fits G ds ls own f scope (set_register (temporary (length ls) e ty) w r) l m n input
 fits_temporary {ls = ls} {f = f} {r = r} {l = l} e ty w a = record {
   locals = λ k lt.
@@ -140,13 +140,13 @@ fits_temporary {ls = ls} {f = f} {r = r} {l = l} e ty w a = record {
   bytes = a.bytes;
 }
 
-with_same : (l : c.Registers) (k : ℕ) (v : Value) → with_register l k v k ≡ v
+with_same : (l : c.LocalRegisters) (k : ℕ) (v : Value) → with_register l k v k ≡ v
 with_same l k v = ap (λ t. if t then v else l k) (eq-eqb k k refl)
 
-with_other : (l : c.Registers) (k j : ℕ) (v : Value) → j ≢ k → with_register l k v j ≡ l j
+with_other : (l : c.LocalRegisters) (k j : ℕ) (v : Value) → j ≢ k → with_register l k v j ≡ l j
 with_other l k j v ne = ap (λ t. if t then v else l j) (ne_eqb j k ne)
 
-held_with : (ls : List Local) (l : c.Registers) (k : ℕ) (v : Value) → ((j : ℕ) → IsHeld (type_at (slice_get ls j)) (l j)) → IsHeld (type_at (slice_get ls k)) v
+held_with : (ls : List Local) (l : c.LocalRegisters) (k : ℕ) (v : Value) → ((j : ℕ) → IsHeld (type_at (slice_get ls j)) (l j)) → IsHeld (type_at (slice_get ls k)) v
     → (j : ℕ) → IsHeld (type_at (slice_get ls j)) (with_register l k v j)
 held_with ls l k v a h j = elim (cases_eq j k) [
   | inl e ↦ subst (λ i. IsHeld (type_at (slice_get ls i)) (with_register l k v i)) (sym e) (subst (λ z. IsHeld (type_at (slice_get ls k)) z) (sym (with_same l k v)) h)
@@ -154,7 +154,7 @@ held_with ls l k v a h j = elim (cases_eq j k) [
 ]
 
 -- a local is written
-pub fits_local : {G : ℕ} {ds : List StructDef} {ls : List Local} {own : ℕ} {f : Names} {scope : Scope} {r : Registers} {l : c.Registers} {m n : Memory} {input : List ℕ}
+pub fits_local : {G : ℕ} {ds : List StructDef} {ls : List Local} {own : ℕ} {f : Names} {scope : Scope} {r : Registers} {l : c.LocalRegisters} {m n : Memory} {input : List ℕ}
     (k : ℕ) (v w : Value) → IsValueOf f v w → IsHeld (type_at (slice_get ls k)) v → Fits G ds ls own f scope r l m n input
     → Fits G ds ls own f scope (set_register k w r) (with_register l k v) m n input
 fits_local {ls = ls} {f = f} {r = r} {l = l} k v w h held a = record {
@@ -173,7 +173,7 @@ fits_local {ls = ls} {f = f} {r = r} {l = l} k v w h held a = record {
 }
 
 -- a local in a register begins without a value: the code does nothing
-pub fits_unset : {G : ℕ} {ds : List StructDef} {ls : List Local} {own : ℕ} {f : Names} {scope : Scope} {r : Registers} {l : c.Registers} {m n : Memory} {input : List ℕ}
+pub fits_unset : {G : ℕ} {ds : List StructDef} {ls : List Local} {own : ℕ} {f : Names} {scope : Scope} {r : Registers} {l : c.LocalRegisters} {m n : Memory} {input : List ℕ}
     (k : ℕ) → Fits G ds ls own f scope r l m n input → Fits G ds ls own f scope r (with_register l k Unset) m n input
 fits_unset {ls = ls} {f = f} {r = r} {l = l} k a = record {
   locals = λ j lt. elim (cases_eq j k) [
@@ -191,7 +191,7 @@ fits_unset {ls = ls} {f = f} {r = r} {l = l} k a = record {
 }
 
 -- another part of the run kept what belongs to the call
-pub fits_after : {G : ℕ} {ds : List StructDef} {ls : List Local} {own : ℕ} {f g : Names} {scope : Scope} {r : Registers} {l : c.Registers} {m n m1 n1 : Memory} {t t1 : ℕ} {input input1 : List ℕ}
+pub fits_after : {G : ℕ} {ds : List StructDef} {ls : List Local} {own : ℕ} {f g : Names} {scope : Scope} {r : Registers} {l : c.LocalRegisters} {m n m1 n1 : Memory} {t t1 : ℕ} {input input1 : List ℕ}
     → After f m n t g m1 n1 t1 → IsMemoryOf g m1 n1 → All (λ b. b < 256) input1 → Fits G ds ls own f scope r l m n input → Fits G ds ls own g scope r l m1 n1 input1
 fits_after {ds = ds} {ls = ls} {own = own} {f = f} {g = g} {r = r} {l = l} {m = m} {m1 = m1} x mem bytes a = record {
   locals = λ k lt. values_stay f g (l k) (r k) x.names (a.locals k lt);

@@ -70,7 +70,7 @@ CodeLeads =
 abbrev pub StatesStay : Type 0
 StatesStay =
     (globals : ℕ) (ds : List StructDef) (ls : List Local) (own : ℕ) (f g : Names) (scope : Scope) (r : Registers)
-    (l : c.Registers) (m n m1 n1 : Memory) (t t1 : ℕ) (input input1 : List ℕ) → After f m n t g m1 n1 t1 →
+    (l : c.LocalRegisters) (m n m1 n1 : Memory) (t t1 : ℕ) (input input1 : List ℕ) → After f m n t g m1 n1 t1 →
     IsMemoryOf g m1 n1 → All (λ b. b < 256) input1 → Fits globals ds ls own f scope r l m n input →
     Fits globals ds ls own g scope r l m1 n1 input1
 
@@ -78,6 +78,6 @@ StatesStay =
 abbrev pub LocalsAreWritten : Type 0
 LocalsAreWritten =
     (globals : ℕ) (ds : List StructDef) (ls : List Local) (own : ℕ) (f : Names) (scope : Scope) (r : Registers)
-    (l : c.Registers) (m n : Memory) (input : List ℕ) (k : ℕ) (v w : Value) → IsValueOf f v w →
+    (l : c.LocalRegisters) (m n : Memory) (input : List ℕ) (k : ℕ) (v w : Value) → IsValueOf f v w →
     IsHeld (type_at (slice_get ls k)) v → Fits globals ds ls own f scope r l m n input →
     Fits globals ds ls own f scope (set_register k w r) (c.with_register l k v) m n input

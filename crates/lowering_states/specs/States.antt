@@ -31,12 +31,12 @@ IsHeld (Array element n) v = Unit {0}
 IsHeld (Struct n) v = Unit {0}
 
 -- what stands in a register for a value of a type; nothing where the type is void
-abbrev pub IsIn : Names → PlainType → Value → Value → Type 0
-IsIn f Void v w = Unit {0}
-IsIn f (Int bytes signed) v w = IsValueOf f v w
-IsIn f (Pointer target) v w = IsValueOf f v w
-IsIn f (Array element n) v w = IsValueOf f v w
-IsIn f (Struct n) v w = IsValueOf f v w
+abbrev pub IsInRegister : Names → PlainType → Value → Value → Type 0
+IsInRegister f Void v w = Unit {0}
+IsInRegister f (Int bytes signed) v w = IsValueOf f v w
+IsInRegister f (Pointer target) v w = IsValueOf f v w
+IsInRegister f (Array element n) v w = IsValueOf f v w
+IsInRegister f (Struct n) v w = IsValueOf f v w
 
 -- ---- calls
 
@@ -59,7 +59,7 @@ in_memory_at (Some l) = l.in_memory
 -- with these locals, whose first object has the number own. names says which object of the code stands for one of the
 -- C meaning.
 pub record Fits (globals : ℕ) (ds : List StructDef) (ls : List Local) (own : ℕ) (f : Names) (scope : Scope)
-    (r : Registers) (l : c.Registers) (m n : Memory) (input : List ℕ) : Type 0 where
+    (r : Registers) (l : c.LocalRegisters) (m n : Memory) (input : List ℕ) : Type 0 where
   pub locals : (k : ℕ) → k < length ls → IsValueOf f (l k) (r k)
   pub held : (k : ℕ) → IsHeld (type_at (slice_get ls k)) (l k)
   pub statics : (k : ℕ) → k < globals → f k ≡ Some k

@@ -20,7 +20,7 @@ use Rattle.lowering_code.specs.Registers.{value_register, address_register}
 use Rattle.lowering_code.specs.Expressions.{moved_code, copy_code, register_of, assign_code, conversion_code, expr_code, place_code}
 use Rattle.lowering_states.specs.Places.{CodePlace, next_place}
 use Rattle.lowering_states.specs.Runs.{opens, CodeObservation, finish}
-use Rattle.lowering_states.specs.States.{IsHeld, IsIn}
+use Rattle.lowering_states.specs.States.{IsHeld, IsInRegister}
 use Rattle.lowering_states.proofs.Steps.{meets_same}
 use Rattle.lowering_states.proofs.States.{kept_on, kept_reads, after_on}
 use Rattle.lowering_expression_laws.specs.Parts.{Setting, count, EndsSo, Stands, Fit, Follows, ExprMeets}
@@ -92,7 +92,7 @@ module _ (c : Setting) (found : slice_get c.functions c.number ≡ Some c.code) 
         bound c found (eval c.structs c.locals c.calls scope y t) (assign c.structs ty (type_of y) None (obj.At to)) K q2 q3 t.world m1
         (hy.by (suc d) tail heads q2 g scope q3 t m1 (λ v u. finish (assign c.structs ty (type_of y) None (obj.At to) v u) K) at2 fit2 (omega (arith, aft.turned, low))
         (λ q4 v h u q5 m2 at3 aft2 fit3 kept3 held3 stands3.
-        let stands4 : IsIn h ty v (q5 (value_register L (suc d) ty)) = subst (λ z. IsIn h z v (q5 (value_register L (suc d) z))) ey stands3 in
+        let stands4 : IsInRegister h ty v (q5 (value_register L (suc d) ty)) = subst (λ z. IsInRegister h z v (q5 (value_register L (suc d) z))) ey stands3 in
         let same : q5 (address_register L d) ≡ q3 (address_register L d) = kept_reads d P64 (omega arith) kept3 in
         let to_rel : IsValueOf h to (q5 (address_register L d)) = subst (λ z. IsValueOf h to z) (sym same) (values_stay g h to (q3 (address_register L d)) aft2.names rel2) in
         bound c found (write_at c.structs ty to v u) (λ _. pure to) K q4 q5 u.world m2

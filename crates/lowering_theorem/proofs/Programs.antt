@@ -3,7 +3,7 @@ use Rattle.std.proofs.Common.{◌≡◌, ◌≢◌, ℕ, suc, ◌+◌, ◌<◌, 
 use Rattle.std.specs.Prelude.{bytes_eq, codes, position, unwrap_or}
 use Rattle.std.specs.List.{position_or_len}
 use Rattle.std.proofs.lemmas.Bool.{lt-ltb}
-use Rattle.mem_model.specs.Ending.{Ending, Done, Trap, Undefined, More, EndsAs, ending_peak}
+use Rattle.mem_model.specs.Ending.{Ending, Done, Trap, Undefined, More, EndsAs, ending_peak, IsDefined}
 use Rattle.suifvm_ir.specs.declared.insn.VmInsn.{VmInsn}
 use Rattle.suifvm_ir.specs.Programs as program
 use Rattle.suifvm_ir.specs.Programs.{VmFunction}
@@ -19,7 +19,7 @@ use Rattle.c_semantics.specs.Behaves as c
 use Rattle.c_semantics.specs.Behaves.{place_of_main, behaviour_of, rooms_of, run}
 use Rattle.lowering.specs.Lowered.{IsLowered, AreLowered}
 use Rattle.lowering_unit_theorem.specs.LoweringFunctionLaws.{code_for}
-use Rattle.lowering_unit_theorem.specs.Laws.{IsDefined, RunsTo}
+use Rattle.lowering_unit_theorem.specs.Laws.{RunsTo}
 use Rattle.lowering_unit_theorem.proofs.Units.{code_keeps_meaning}
 use Rattle.lowering_theorem.specs.Laws.{VmRunsTo, ProgramsKeepMeaning, BehavioursAreKept}
 

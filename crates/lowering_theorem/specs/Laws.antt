@@ -1,7 +1,7 @@
 -- The program of a unit runs as the unit does (C99 5.1.2.3).
 use Rattle.std.specs.Prelude.{◌≡◌, ◌≢◌, ℕ, ◌<◌, List, All}
 use Rattle.mem_model.specs.World.{Rooms}
-use Rattle.mem_model.specs.Ending.{Ending, EndsAs, ending_peak}
+use Rattle.mem_model.specs.Ending.{Ending, EndsAs, ending_peak, IsDefined}
 use Rattle.suifvm_ir.specs.declared.program.VmProgram.{VmProgram}
 use Rattle.vm_meaning.specs.Behave.{behave_vm}
 use Rattle.c_mean.specs.Behaviour as b
@@ -9,7 +9,6 @@ use Rattle.c_typed_tree.specs.declared.units.TypedUnit.{TypedUnit}
 use Rattle.c_typed_tree.specs.Lawful.{IsTypedUnit}
 use Rattle.c_semantics.specs.Behaves.{behave_c, behaviour_of, peak, rooms_of, run}
 use Rattle.lowering.specs.Lowered.{AreLowered}
-use Rattle.lowering_unit_theorem.specs.Laws.{IsDefined}
 
 -- a program is the code of a unit: its functions are that of the unit's, by their numbers, and its objects are those of
 -- the unit

@@ -5,7 +5,7 @@ use Rattle.mem_model.specs.declared.value.Value.{Value}
 use Rattle.mem_model.specs.declared.value.Value.TheVariants.{Word, Address, Unset}
 use Rattle.mem_model.specs.Memory.{Memory, begin_objects}
 use Rattle.mem_model.specs.World.{World, Rooms, with_memory, with_meter, leave_call}
-use Rattle.mem_model.specs.Ending.{Ending, Done, Trap, Undefined, More, EndsAs, SameShown, Evaluation, Gives, Ends}
+use Rattle.mem_model.specs.Ending.{Ending, Done, Trap, Undefined, More, EndsAs, SameShown, Evaluation, Gives, Ends, IsDefined}
 use Rattle.mem_model.specs.Related.{Names, IsValueOf, IsMemoryOf}
 use Rattle.data_object.specs.Start.{start_memory}
 use Rattle.machine_model.specs.Machine as machine
@@ -28,7 +28,7 @@ use Rattle.lowering_states.specs.States.{IsHeld, After}
 use Rattle.lowering_states.proofs.Steps.{finish-bind}
 use Rattle.lowering_call_laws.specs.Laws.{AreArguments, FunctionMeets}
 use Rattle.lowering_function_laws.specs.Laws.{code_for, IsMet}
-use Rattle.lowering_unit_theorem.specs.Laws.{IsDefined, IsOver, RunsTo, CodeKeepsMeaning}
+use Rattle.lowering_unit_theorem.specs.Laws.{IsOver, RunsTo, CodeKeepsMeaning}
 use Rattle.lowering_unit_theorem.proofs.Starts.{own_names, own_name, start_self, start_small}
 use Rattle.lowering_unit_theorem.proofs.Called.{MainIs, main_of_unit, main_has_no_parameter}
 use Rattle.lowering_unit_theorem.proofs.Meets.{codes, top, all_meet}

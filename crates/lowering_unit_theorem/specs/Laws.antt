@@ -1,7 +1,7 @@
 -- The run of the code of a unit ends as the run of the unit (C99 5.1.2.3).
 use Rattle.std.specs.Prelude.{◌≡◌, ℕ, ◌<◌, List, All, map}
 use Rattle.mem_model.specs.World.{Rooms}
-use Rattle.mem_model.specs.Ending.{Ending, Undefined, EndsAs}
+use Rattle.mem_model.specs.Ending.{Ending, EndsAs, IsDefined}
 use Rattle.machine_model.specs.Machine.{Over}
 use Rattle.data_object.specs.declared.DataObject.{DataObject}
 use Rattle.vm_meaning.specs.Behave.{FunctionCode, vm_run, start_world}
@@ -9,11 +9,6 @@ use Rattle.c_typed_tree.specs.declared.units.TypedUnit.{TypedUnit}
 use Rattle.c_typed_tree.specs.Lawful.{IsTypedUnit}
 use Rattle.c_semantics.specs.Behaves.{main_of, run}
 use Rattle.lowering_function_laws.specs.Laws.{code_for}
-
--- an ending that is not for want of a meaning
-abbrev pub IsDefined : Ending → Type 0
-IsDefined (Undefined w at) = ⊥
-IsDefined _ = Unit {0}
 
 -- a run of functions from one with a number is over after so many steps with an ending
 pub record IsOver (rooms : Rooms) (functions : List FunctionCode) (main : ℕ) (globals : List DataObject)

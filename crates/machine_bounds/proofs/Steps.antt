@@ -193,7 +193,7 @@ module _ (p : Program) (s : State) (h : IsBounded s) where
       by_tests false true = tt
       by_tests false false = tt
 
-  insn-bounded : (insn : Fields) → lawful.IsLawful insn → next_pc s < 2 ^ 64 → NextIsBounded (insn_step p insn s)
+  insn-bounded : (insn : Fields) → lawful.AreLawfulFields insn → next_pc s < 2 ^ 64 → NextIsBounded (insn_step p insn s)
   insn-bounded (fields.Memory op ra rb disp) is small = memory-bounded op ra rb disp
   insn-bounded (fields.Branch op ra disp) is small = branch-bounded op ra disp small
   insn-bounded (fields.Jump op ra rb) is small = at-place (register s rb / 4 * 4) (with_register ra (next_pc s) s) (written ra (next_pc s) s small h)
@@ -204,7 +204,7 @@ module _ (p : Program) (s : State) (h : IsBounded s) where
 
 -- where an instruction stands
 record Stands (p : Program) (pc : ℕ) (insn : Fields) : Type 0 where
-  decoded : lawful.IsLawful insn
+  decoded : lawful.AreLawfulFields insn
   small : pc + 4 < 2 ^ 64
 
 stands-at : (p : Program) → IsLawful p → (pc : ℕ) (insn : Fields) → instruction_at p pc ≡ Some insn → Stands p pc insn

@@ -60,8 +60,8 @@ StepsKeepEndings V S =
     (rooms : Rooms) (c : Code V S) (n more : ℕ) (k : Config S) (e : Ending) → exec V S rooms c n k ≡ Over e →
     exec V S rooms c (n + more) k ≡ Over e
 
-abbrev pub OneEnding : (V S : Type 0) → Type 0
-OneEnding V S =
+abbrev pub MachineHasOneEnding : (V S : Type 0) → Type 0
+MachineHasOneEnding V S =
     (rooms : Rooms) (c : Code V S) (n m : ℕ) (k : Config S) (e f : Ending) → exec V S rooms c n k ≡ Over e →
     exec V S rooms c m k ≡ Over f → e ≡ f
 

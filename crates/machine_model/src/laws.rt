@@ -5,13 +5,13 @@ ghost use Rattle.std.specs.Prelude.{◌≡◌};
 ghost use Rattle.mem_model.specs.Ending.{Done};
 ghost use Rattle.machine_model.specs.Machine.{Over};
 ghost use Rattle.machine_model.specs.Example.{run, last_world};
-ghost use Rattle.machine_model.specs.Laws.{StepsAddUp, StepsKeepEndings, OneEnding, TurnsKeepEndings, PeakRises, OutputGrows, TurnsExtendOutput};
+ghost use Rattle.machine_model.specs.Laws.{StepsAddUp, StepsKeepEndings, MachineHasOneEnding, TurnsKeepEndings, PeakRises, OutputGrows, TurnsExtendOutput};
 
 /// Steps add up, and an ending stays with more steps, so a run has one at most.
 pub fn one_ending<V, S>()
     ensures sum { StepsAddUp V S }
     ensures steps { StepsKeepEndings V S }
-    ensures one { OneEnding V S }
+    ensures one { MachineHasOneEnding V S }
 {}
 
 /// More turns keep an ending.

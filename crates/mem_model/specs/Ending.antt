@@ -23,6 +23,19 @@ ending_output e = (ending_world e).outer.output
 abbrev pub ending_peak : Ending → ℕ
 ending_peak e = (ending_world e).meter.peak
 
+-- an ending that is not for want of a meaning
+abbrev pub IsDefined : Ending → Type 0
+IsDefined (Undefined w at) = ⊥
+IsDefined _ = Unit {0}
+
+-- the same ending, in the same world and so with the same output, turns left and peak; the number of an instruction
+-- without a meaning may be another one
+abbrev pub SameEnding : Ending → Ending → Type 0
+SameEnding (Done w status) e = e ≡ Done w status
+SameEnding (Trap w code) e = e ≡ Trap w code
+SameEnding (Undefined w at) e = (other : ℕ) × (e ≡ Undefined w other)
+SameEnding (More w) e = e ≡ More w
+
 -- two worlds with the same output, input left, takings, turns left and peak. Their memories may differ, as that
 -- of a program and that of its code do
 pub record SameShown (v w : World) : Type 0 where

@@ -7,12 +7,12 @@ use Rattle.alpha_items.specs.Assembly.{Assembly, IsWhole}
 use Rattle.alpha_items.specs.Layout.{text_words}
 use Rattle.alpha_items.specs.Words.{Words}
 use Rattle.alpha_text.specs.Texts.{Texts, HasText, asm_text}
-use Rattle.alpha_text.specs.Read.{IsFault}
+use Rattle.alpha_text.specs.Read.{IsTextFault}
 use Rattle.alpha_text.specs.declared.fault.TextFault.{TextFault}
 use Rattle.alpha_text.specs.declared.fault.TextFault.TheVariants as lines
 use Rattle.alpha_text.proofs.Sizes.{count_in_text, words_in_text}
 use Rattle.alpha_text.proofs.Again.{fault_again}
-use Rattle.alpha_asm.specs.Fault.{HasFewWords, IsFaultOf}
+use Rattle.alpha_asm.specs.Fault.{HasFewWords, IsAsmFault}
 use Rattle.alpha_asm.specs.declared.assemble.AsmFault.TheVariants as asm
 use Rattle.call_outcomes.specs.declared.outcome.Outcome.{Outcome}
 use Rattle.call_outcomes.specs.declared.outcome.Outcome.TheVariants.{Built, FileFault, InputFault, WriteFault, Limit, BadAsm, NoMemory}
@@ -23,7 +23,7 @@ use Rattle.call_outcomes.specs.FromFile.{IsCause, text_of}
 use Rattle.msc_cli.specs.AssembleText.{IsAssembled, SpellsNoImage, RefusesAssembly, Assembles}
 
 -- a text within the limit has neither too many bytes of data nor too many words
-few_bytes : (text : List ℕ) (n : ℕ) → length text ≤ 67108864 → IsFault text (lines.Data n) → ⊥
+few_bytes : (text : List ℕ) (n : ℕ) → length text ≤ 67108864 → IsTextFault text (lines.Data n) → ⊥
 few_bytes text n low counted = omega (arith, low, count_in_text text n counted.0, counted.1)
 
 pub few_words : (text : List ℕ) (a : Assembly) → length text ≤ 67108864 → Texts text a → HasFewWords a
@@ -34,11 +34,11 @@ few_words text a low is = record {
 }
 
 -- an assembly with few words is not refused for their number
-pub no_more_words : (a : Assembly) (n : ℕ) → HasFewWords a → IsFaultOf a (asm.CodeTooLong n) → ⊥
+pub no_more_words : (a : Assembly) (n : ℕ) → HasFewWords a → IsAsmFault a (asm.CodeTooLong n) → ⊥
 no_more_words a n few fault = let most = few.most n fault.0 in omega (arith, most, fault.1)
 
 -- why there is no image
-pub text_cause : (text : List ℕ) (f : TextFault) → length text ≤ 67108864 → IsFault text f → IsCause (RefusesAssembly (Some text)) (outcome_of_text_fault f)
+pub text_cause : (text : List ℕ) (f : TextFault) → length text ≤ 67108864 → IsTextFault text f → IsCause (RefusesAssembly (Some text)) (outcome_of_text_fault f)
 text_cause text (lines.Line n) low h = (low, h)
 text_cause text (lines.Data n) low h = absurd (few_bytes text n low h)
 text_cause text lines.NoMemory low h = inl h

@@ -2,7 +2,7 @@
 use Rattle.std.proofs.Common.{◌≡◌, inl, inr, Option, None, refl, sym, subst}
 use Rattle.bk_memory.specs.Shortage.{MemoryIsShort}
 use Rattle.bk_io.specs.Shelf.{Shelf}
-use Rattle.alpha_run.specs.Run.{Traffic}
+use Rattle.bk_io.specs.Outside.{Traffic}
 use Rattle.call_outcomes.specs.declared.outcome.Outcome.{Outcome}
 use Rattle.call_outcomes.specs.declared.outcome.Outcome.TheVariants.{Usage, NoMemory}
 use Rattle.msc_cli.specs.Call.{Call, AnswersCall, FailsWhereDue, told_after, AnswersWords}

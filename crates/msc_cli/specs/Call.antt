@@ -2,8 +2,7 @@
 use Rattle.std.specs.Prelude.{◌≡◌, ◌↔◌, ◌⊎◌, ℕ, List, Option, Some, None, IfSome, IsTrue, option_map}
 use Rattle.bk_memory.specs.Shortage.{MemoryIsShort}
 use Rattle.bk_io.specs.Shelf.{Shelf, is_due, after_call}
-use Rattle.alpha_run.specs.Run.{Traffic}
-use Rattle.suifvm_run.specs.Run as vm
+use Rattle.bk_io.specs.Outside.{Traffic}
 use Rattle.call_outcomes.specs.declared.outcome.Outcome.{Outcome}
 use Rattle.call_outcomes.specs.declared.outcome.Outcome.TheVariants.{Usage, FileFault, NoMemory}
 use Rattle.call_outcomes.specs.FromFile.{text_of}
@@ -27,10 +26,6 @@ Call = Option (Command × List ℕ)
 abbrev pub LeavesInput : Traffic → Traffic → Type 0
 LeavesInput before after = (after.left ≡ before.left) × (after.made ≡ before.made)
 
--- what the input and the output tell, as runs over virtual registers have it
-abbrev pub vm_traffic : Traffic → vm.Traffic
-vm_traffic t = record { left = t.left; made = t.made; taken = t.taken }
-
 -- the allocator of a compile by a command that does not ask for one
 abbrev pub default_allocator : Allocator
 default_allocator = Plain
@@ -44,7 +39,7 @@ AnswersCall (Some (Build options, file)) told answer before after =
 AnswersCall (Some (Run options limits, file)) told answer before after =
     Runs options.allocator limits (text_of told file) answer before after
 AnswersCall (Some (Vm turns, file)) told answer before after =
-    RunsText default_allocator turns (text_of told file) answer (vm_traffic before) (vm_traffic after)
+    RunsText default_allocator turns (text_of told file) answer before after
 AnswersCall (Some (Exec limits, file)) told answer before after =
     Executes limits (text_of told file) answer before after
 AnswersCall (Some (Migrate, file)) told answer before after =

@@ -5,13 +5,13 @@ ghost use Rattle.std.specs.Bool.{OnTrue};
 ghost use Rattle.data_object.specs.declared.DataCell.{DataCell};
 ghost use Rattle.data_object.specs.declared.DataCell.TheVariants.{AddressPart};
 ghost use Rattle.data_object.specs.Globals.{AreLawful, IsLawfulCell, IsLawfulObject, Reaches, StandsWhole};
-ghost use Rattle.data_object.specs.Layout.{LieFrom};
+ghost use Rattle.data_object.specs.Layout.{ObjectsLieFrom};
 
 use data_object::{DataCell, DataObject, MOST_DATA, next_place};
 
 /// Whether objects lie one behind the other, none of them past the end of the most data.
 fn lie_in_order(globals: &[DataObject]) -> bool
-    ensures { OnTrue result (LieFrom 0 globals.now) }
+    ensures { OnTrue result (ObjectsLieFrom 0 globals.now) }
 {
     let mut end = 0;
     for object in globals {

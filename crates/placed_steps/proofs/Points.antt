@@ -24,10 +24,10 @@ use Rattle.alloc_model.specs.Effect.{Fixed, places_written, does}
 use Rattle.alloc_model.specs.Places.{Places, Place, Reg, In, place_eq, home_of, places_read_at, places_written_at, is_ended, source_of, target_of, do_all}
 use Rattle.flat_frames.specs.Shapes.{FrameShape}
 use Rattle.frame_transfers.specs.Items.{items_of_transfers}
-use Rattle.frame_transfers.specs.Laws.{Call, FitsTheStack, StandsFor, known_after, known_behind, CanTransfer, CanTransferAll, IsKept}
+use Rattle.frame_transfers.specs.Laws.{CallAt, FitsTheStack, StandsFor, known_after, known_behind, CanTransfer, CanTransferAll, IsKept}
 use Rattle.frame_transfers.proofs.Runs.{transfers_are_done}
 use Rattle.division_calls.specs.Items.{ItemSetting, insn_items}
-use Rattle.division_calls.specs.Laws.{usable, IsStated, IsThere, HasOuter, IsOver, ActIsDone, is_no_call, store_behind}
+use Rattle.division_calls.specs.Laws.{usable, IsStated, IsThere, HasOuter, RunIsOver, ActIsDone, is_no_call, store_behind}
 use Rattle.division_calls.proofs.Runs.{usable-values, more-usable, writable, no-registers}
 use Rattle.division_calls.proofs.Instructions.{instructions_are_done}
 use Rattle.division_calls.specs.Stacks.{Waiting, Start, StackIs}
@@ -108,7 +108,7 @@ behind-in registers x held cs k =
     put-in (places_written_at registers x) cs (without (is_ended x) held) k
     (fixed-in (drop (length (reads_of x)) registers) (map home_of (map Fixed (fixed_writes_of x) ++ places_written x)) (homes-in x (fixed_writes_of x)))
 
-module _ (p : Program) (there : Labels) (start : Start) (g : ItemSetting) (rest : List AsmItem) (end : ℕ) (c : Call) (gs : List Waiting) (o : Outer) (store : Places) (s : State) (call : FitsTheStack c) (shape : g.shape ≡ c.shape) (stack : StackIs p there start c gs store s) (outer : HasOuter o s) (routines : RoutinesStand p there) (scratch : HasScratch p c s) (widest : ℕ) (few : widest ≤ c.shape.outgoing + 6) (transfers : List Transfer) (registers : List ℕ) (x : TempInsn) (may : AllMayTransfer c.shape transfers) (st : IsStated c.shape registers x) (is : IsThere p g c x) (h : StandsFor p there (items_of_transfers c.shape transfers (insn_items g registers x ++ rest)) end c o.memory usable store s) where
+module _ (p : Program) (there : Labels) (start : Start) (g : ItemSetting) (rest : List AsmItem) (end : ℕ) (c : CallAt) (gs : List Waiting) (o : Outer) (store : Places) (s : State) (call : FitsTheStack c) (shape : g.shape ≡ c.shape) (stack : StackIs p there start c gs store s) (outer : HasOuter o s) (routines : RoutinesStand p there) (scratch : HasScratch p c s) (widest : ℕ) (few : widest ≤ c.shape.outgoing + 6) (transfers : List Transfer) (registers : List ℕ) (x : TempInsn) (may : AllMayTransfer c.shape transfers) (st : IsStated c.shape registers x) (is : IsThere p g c x) (h : StandsFor p there (items_of_transfers c.shape transfers (insn_items g registers x ++ rest)) end c o.memory usable store s) where
   abbrev held : Places
   held = do_all transfers store
 
@@ -156,7 +156,7 @@ module _ (p : Program) (there : Labels) (start : Start) (g : ItemSetting) (rest 
   passed m (Returns cs new) d = tt
   passed m (Stops (Exits status) new) d = over m new (step.Done status) d
     where
-      over : (m : Moved) (new : Outer) (halt : Halt) → IsOver p new halt m.to → IsOver p new halt s
+      over : (m : Moved) (new : Outer) (halt : Halt) → RunIsOver p new halt m.to → RunIsOver p new halt s
       over m new halt d = record {
         steps = m.comes.steps + d.steps;
         last = d.last;
@@ -182,7 +182,7 @@ module _ (p : Program) (there : Labels) (start : Start) (g : ItemSetting) (rest 
   scratch-moved m = record { room = scratch.room; free = scratch.free; reached = λ y from to. m.kept.reach y ∙ scratch.reached y from to }
 
 -- by the instruction: a division, or another one
-point-done : (p : Program) (there : Labels) (start : Start) (g : ItemSetting) (rest : List AsmItem) (end : ℕ) (c : Call) (gs : List Waiting) (o : Outer) (store : Places) (s : State) → FitsTheStack c → g.shape ≡ c.shape → StackIs p there start c gs store s → HasOuter o s → RoutinesStand p there → HasScratch p c s → (widest : ℕ) → widest ≤ c.shape.outgoing + 6 → (transfers : List Transfer) (registers : List ℕ) (x : TempInsn) → AllMayTransfer c.shape transfers → is_local x ≡ true → IsStated c.shape registers x → IsThere p g c x → StandsFor p there (items_of_transfers c.shape transfers (insn_items g registers x ++ rest)) end c o.memory usable store s → PointIsDone p there start g rest end c gs (store_behind registers x (do_all transfers store)) x s (does widest x c.own (map (do_all transfers store) (places_read_at registers x)) o)
+point-done : (p : Program) (there : Labels) (start : Start) (g : ItemSetting) (rest : List AsmItem) (end : ℕ) (c : CallAt) (gs : List Waiting) (o : Outer) (store : Places) (s : State) → FitsTheStack c → g.shape ≡ c.shape → StackIs p there start c gs store s → HasOuter o s → RoutinesStand p there → HasScratch p c s → (widest : ℕ) → widest ≤ c.shape.outgoing + 6 → (transfers : List Transfer) (registers : List ℕ) (x : TempInsn) → AllMayTransfer c.shape transfers → is_local x ≡ true → IsStated c.shape registers x → IsThere p g c x → StandsFor p there (items_of_transfers c.shape transfers (insn_items g registers x ++ rest)) end c o.memory usable store s → PointIsDone p there start g rest end c gs (store_behind registers x (do_all transfers store)) x s (does widest x c.own (map (do_all transfers store) (places_read_at registers x)) o)
 point-done p there start g rest end c gs o store s call shape stack outer routines scratch widest few xs rs (i.Divide r) may local st is h =
     let none = no-registers rs st.count in
     let m = moved p there start g rest end c gs o store s call shape stack outer routines scratch widest few xs rs (i.Divide r) may st is h in
@@ -209,5 +209,5 @@ point-done p there start g rest end c gs o store s call shape stack outer routin
 point-done p there start g rest end c gs o store s call shape stack outer routines scratch widest few xs rs (i.Call function arguments) may local st is h = absurd (cc)
 point-done p there start g rest end c gs o store s call shape stack outer routines scratch widest few xs rs (i.Return with_value) may local st is h = absurd (cc)
 
-pub points_are_done : (p : Program) (there : Labels) (start : Start) (g : ItemSetting) (rest : List AsmItem) (end : ℕ) (c : Call) (gs : List Waiting) (o : Outer) (store : Places) (s : State) → FitsTheStack c → g.shape ≡ c.shape → StackIs p there start c gs store s → HasOuter o s → RoutinesStand p there → HasScratch p c s → (widest : ℕ) → widest ≤ c.shape.outgoing + 6 → (transfers : List Transfer) (registers : List ℕ) (x : TempInsn) → AllMayTransfer c.shape transfers → is_local x ≡ true → IsStated c.shape registers x → IsThere p g c x → StandsFor p there (items_of_transfers c.shape transfers (insn_items g registers x ++ rest)) end c o.memory usable store s → PointIsDone p there start g rest end c gs (store_behind registers x (do_all transfers store)) x s (does widest x c.own (map (do_all transfers store) (places_read_at registers x)) o)
+pub points_are_done : (p : Program) (there : Labels) (start : Start) (g : ItemSetting) (rest : List AsmItem) (end : ℕ) (c : CallAt) (gs : List Waiting) (o : Outer) (store : Places) (s : State) → FitsTheStack c → g.shape ≡ c.shape → StackIs p there start c gs store s → HasOuter o s → RoutinesStand p there → HasScratch p c s → (widest : ℕ) → widest ≤ c.shape.outgoing + 6 → (transfers : List Transfer) (registers : List ℕ) (x : TempInsn) → AllMayTransfer c.shape transfers → is_local x ≡ true → IsStated c.shape registers x → IsThere p g c x → StandsFor p there (items_of_transfers c.shape transfers (insn_items g registers x ++ rest)) end c o.memory usable store s → PointIsDone p there start g rest end c gs (store_behind registers x (do_all transfers store)) x s (does widest x c.own (map (do_all transfers store) (places_read_at registers x)) o)
 points_are_done = point-done

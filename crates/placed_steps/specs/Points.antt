@@ -18,9 +18,9 @@ use Rattle.alloc_model.specs.Contents.{Content}
 use Rattle.alloc_model.specs.Places.{Places, placed_site}
 use Rattle.flat_frames.specs.Shapes.{FrameShape}
 use Rattle.frame_transfers.specs.Items.{items_of_transfers}
-use Rattle.frame_transfers.specs.Laws.{Call, FitsTheStack, StandsFor}
+use Rattle.frame_transfers.specs.Laws.{CallAt, FitsTheStack, StandsFor}
 use Rattle.division_calls.specs.Items.{ItemSetting, insn_items}
-use Rattle.division_calls.specs.Laws.{usable, MayHold, IsStated, IsThere, HasOuter, IsOver}
+use Rattle.division_calls.specs.Laws.{usable, MayHold, IsStated, IsThere, HasOuter, RunIsOver}
 use Rattle.division_calls.specs.Stacks.{Waiting, Start, StackIs}
 use Rattle.division_calls.specs.Divisions.{RoutinesStand, HasScratch}
 
@@ -41,7 +41,7 @@ is_local (i.Return with_value) = false
 is_local _ = true
 
 -- the machine stands behind the point, or at the label of a block, with the stack of the run
-pub record PointIsPassed (p : Program) (there : Labels) (start : Start) (items : List AsmItem) (end : ℕ) (c : Call)
+pub record PointIsPassed (p : Program) (there : Labels) (start : Start) (items : List AsmItem) (end : ℕ) (c : CallAt)
     (gs : List Waiting) (o : Outer) (held : Places) (s : State) : Type 0 where
   pub to : State
   pub comes : Comes p s to
@@ -49,7 +49,8 @@ pub record PointIsPassed (p : Program) (there : Labels) (start : Start) (items :
   pub stack : StackIs p there start c gs held to
   pub outer : HasOuter o to
 
-pub record PointIsLeft (p : Program) (there : Labels) (start : Start) (l : ℕ) (c : Call) (gs : List Waiting) (o : Outer)
+pub record PointIsLeft (p : Program) (there : Labels) (start : Start) (l : ℕ) (c : CallAt) (gs : List Waiting)
+    (o : Outer)
     (held : Places) (s : State) : Type 0 where
   pub to : State
   pub comes : Comes p s to
@@ -60,7 +61,7 @@ pub record PointIsLeft (p : Program) (there : Labels) (start : Start) (l : ℕ) 
   pub outer : HasOuter o to
 
 -- the machine does what an act is, where contents are written by a function of them
-abbrev pub PointIsDone : Program → Labels → Start → ItemSetting → (rest : List AsmItem) → (end : ℕ) → Call →
+abbrev pub PointIsDone : Program → Labels → Start → ItemSetting → (rest : List AsmItem) → (end : ℕ) → CallAt →
     List Waiting →
     (written : List Content → Places) → TempInsn → State → Act Content → Type 0
 PointIsDone p there start g rest end c gs written x s (Writes cs o) =
@@ -70,14 +71,14 @@ PointIsDone p there start g rest end c gs written x s (Jumps target o) =
     PointIsLeft p there start (g.block_label block) c gs o (written []) s
 PointIsDone p there start g rest end c gs written x s (Calls function cs o) = Unit {0}
 PointIsDone p there start g rest end c gs written x s (Returns cs o) = Unit {0}
-PointIsDone p there start g rest end c gs written x s (Stops (Exits status) o) = IsOver p o (step.Done status) s
-PointIsDone p there start g rest end c gs written x s (Stops (Traps code) o) = IsOver p o (step.Trap code) s
+PointIsDone p there start g rest end c gs written x s (Stops (Exits status) o) = RunIsOver p o (step.Done status) s
+PointIsDone p there start g rest end c gs written x s (Stops (Traps code) o) = RunIsOver p o (step.Trap code) s
 PointIsDone p there start g rest end c gs written x s (Stops HasNoMeaning o) = Unit {0}
 
 -- a site over registers and slots is done where its transfers and its instruction stand
 abbrev pub PointsAreDone : Type 0
 PointsAreDone =
-    (p : Program) (there : Labels) (start : Start) (g : ItemSetting) (rest : List AsmItem) (end : ℕ) (c : Call)
+    (p : Program) (there : Labels) (start : Start) (g : ItemSetting) (rest : List AsmItem) (end : ℕ) (c : CallAt)
     (gs : List Waiting) (o : Outer) (store : Places) (s : State) → FitsTheStack c → g.shape ≡ c.shape →
     StackIs p there start c gs store s → HasOuter o s → RoutinesStand p there → HasScratch p c s →
     (widest : ℕ) → widest ≤ c.shape.outgoing + 6 →

@@ -20,7 +20,7 @@ use Rattle.alloc_model.specs.Places.{Place, Slot, Plan, plan_of, transfers_at, r
 use Rattle.alloc_model.specs.Lifetimes.{Blocks, is_live}
 use Rattle.alloc_model.specs.Needs.{named_place, place_at_top, IsNeeded}
 use Rattle.alloc_model.specs.Needs.IsNeeded.{Relied, Handed}
-use Rattle.alloc_model.specs.Faithful.{Held, Includes, move_all, MovesAsk, ReadsAsk, FixedAsk, behind_insn, at_top, at_entry, at_start, at_bottom, before, KeepsEdge, IsGiven, IsGivenOrScratch, IsStanding, HasLists, Faithful}
+use Rattle.alloc_model.specs.Faithful.{Held, Includes, move_all, MovesAsk, ReadsAsk, FixedAsk, behind_insn, at_top, at_entry, at_start, at_bottom, before, KeepsEdge, IsGivenRegister, IsGivenOrScratch, IsStanding, HasLists, Faithful}
 use Rattle.plain_lists.specs.Plain.{loads, registers_of, writes_in, first_in, stores_behind, transfers_from, plain_plan}
 use Rattle.plain_lists.proofs.Sets.{same_or_not, slot_no_register, stores_ask, stores_done, stores_keep_slots}
 use Rattle.plain_lists.proofs.Registers.{and_first, and_second, has_contains, arguments_high}
@@ -202,7 +202,7 @@ module _ (f : TemporaryCode) (params temps : ℕ) where
           ap length (registers_are block at insns x block_is at_is) ∙ range_length 1 (length (reads_of x) + length (writes_of x));
       edges = edges_all 0 f.blocks;
       standing = (none, none);
-      transfers = all_transfers_given temps IsGiven (λ r is. is) f.blocks ok.registers;
+      transfers = all_transfers_given temps IsGivenRegister (λ r is. is) f.blocks ok.registers;
       edge_transfers = all_edges_given temps IsGivenOrScratch or_scratch 0 f.blocks ok.registers;
       given = all_registers_given f.blocks;
     }

@@ -8,30 +8,30 @@ use Rattle.temp_ir.specs.declared.insn.TempInsn.{TempInsn}
 use Rattle.temp_ir.specs.Insns.{reads_of, writes_of, targets_of, flows_on_of}
 use Rattle.alloc_model.specs.declared.allocation.EdgeCode.{EdgeCode}
 use Rattle.alloc_model.specs.declared.allocation.Transfer.TheVariants.{Store, Load}
-use Rattle.alloc_model.specs.Faithful.{given_registers, IsGiven, IsGivenOrScratch, IsTransfer, rising}
+use Rattle.alloc_model.specs.Faithful.{given_registers, IsGivenRegister, IsGivenOrScratch, IsTransfer, rising}
 use Rattle.plain_lists.specs.Plain.{loads, stores, registers_of, stores_behind, transfers_from, edge_code, edges_behind, all_edges}
 use Rattle.plain_lists.proofs.Registers.{few}
 
-given : (r : ℕ) → 1 ≤ r → r ≤ 3 → IsGiven r
+given : (r : ℕ) → 1 ≤ r → r ≤ 3 → IsGivenRegister r
 given zero low high = absurd (omega (arith, low))
 given (suc zero) low high = (0, omega arith, refl)
 given (suc (suc zero)) low high = (1, omega arith, refl)
 given (suc (suc (suc zero))) low high = (2, omega arith, refl)
 given (suc (suc (suc (suc r)))) low high = absurd (omega (arith, high))
 
-range_given : (r n : ℕ) → 1 ≤ r → r + n ≤ 4 → All IsGiven (range_with_len r n)
-range_given r zero low high = All-nil IsGiven
+range_given : (r n : ℕ) → 1 ≤ r → r + n ≤ 4 → All IsGivenRegister (range_with_len r n)
+range_given r zero low high = All-nil IsGivenRegister
 range_given r (suc n) low high =
-    All-cons IsGiven r (range_with_len (r + 1) n) (given r low (omega (arith, high))) (range_given (r + 1) n (omega arith) (omega (arith, high)))
+    All-cons IsGivenRegister r (range_with_len (r + 1) n) (given r low (omega (arith, high))) (range_given (r + 1) n (omega arith) (omega (arith, high)))
 
-pub or_scratch : (r : ℕ) → IsGiven r → IsGivenOrScratch r
+pub or_scratch : (r : ℕ) → IsGivenRegister r → IsGivenOrScratch r
 or_scratch r is = Contains-append_right (28 ∷ []) given_registers r is
 
 module _ (temps : ℕ) where
   abbrev Uses : TempInsn → Type 0
   Uses x = UsesRegisters reads_of writes_of temps x
 
-  module _ (P : ℕ → Type 0) (each : (r : ℕ) → IsGiven r → P r) where
+  module _ (P : ℕ → Type 0) (each : (r : ℕ) → IsGivenRegister r → P r) where
     one : (r : ℕ) → 1 ≤ r → r ≤ 3 → All P (r ∷ [])
     one r low high = All-cons P r [] (each r (given r low high)) (All-nil P)
 
@@ -91,16 +91,16 @@ module _ (temps : ℕ) where
         (λ k d within. behind_given (last_of b) (uses_at b (length b - 1) (All-head (All Uses) b bs all))))
         (all_edges_given (suc start) bs (All-tail (All Uses) b bs all))
 
-registers_given : (insns : List TempInsn) → All (All IsGiven) (map registers_of insns)
-registers_given [] = All-nil (All IsGiven)
+registers_given : (insns : List TempInsn) → All (All IsGivenRegister) (map registers_of insns)
+registers_given [] = All-nil (All IsGivenRegister)
 registers_given (x ∷ insns) =
     let most = few x in
     let reads = most.0 in
     let writes = most.1 in
-    All-cons (All IsGiven) (registers_of x) (map registers_of insns)
+    All-cons (All IsGivenRegister) (registers_of x) (map registers_of insns)
     (range_given 1 (length (reads_of x) + length (writes_of x)) (omega arith) (omega (arith, reads, writes))) (registers_given insns)
 
-pub all_registers_given : (blocks : List (List TempInsn)) → All (All IsGiven) (flat_map (map registers_of) blocks)
-all_registers_given [] = All-nil (All IsGiven)
+pub all_registers_given : (blocks : List (List TempInsn)) → All (All IsGivenRegister) (flat_map (map registers_of) blocks)
+all_registers_given [] = All-nil (All IsGivenRegister)
 all_registers_given (b ∷ bs) =
-    All-append (All IsGiven) (map registers_of b) (flat_map (map registers_of) bs) (registers_given b) (all_registers_given bs)
+    All-append (All IsGivenRegister) (map registers_of b) (flat_map (map registers_of) bs) (registers_given b) (all_registers_given bs)

@@ -22,8 +22,8 @@ use Rattle.selected_widths.specs.Widths.{HasWidths}
 
 -- A function was lowered, selected and prepared of a function of a unit. It has four temporaries more than the code
 -- over virtual registers has registers. The argument places that it writes are within its widest call, and that gives
--- at most as many arguments as the unit's function weighs; its argument places are told from others; and its words, with
--- all that is moved, are at most 2048 for each unit of the weight and one
+-- at most as many arguments as the unit's function weighs; its argument places are told from others; and its words,
+-- with all that is moved, are at most 2048 for each unit of the weight and one
 pub record IsPreparedOf (ds : List StructDef) (f : TypedFn) (g : TempFn) : Type 0 where
   -- the code over virtual registers
   pub code : VmFunction

@@ -4,7 +4,7 @@ use Rattle.std.specs.Prelude.{slice_get}
 use Rattle.data_object.specs.declared.DataObject.{DataObject}
 use Rattle.data_object.specs.declared.DataCell.{DataCell}
 use Rattle.data_object.specs.declared.DataCell.TheVariants.{Byte, AddressPart}
-use Rattle.data_object.specs.Layout.{LieFrom, end_of, data_end}
+use Rattle.data_object.specs.Layout.{ObjectsLieFrom, end_of, data_end}
 use Rattle.data_object.specs.Globals.{Reaches, AreLawful}
 use Rattle.flat_globals.specs.Globals.{offset_of, AreLaidOut}
 use Rattle.flat_globals.proofs.Lists.{stands-at, get-index}
@@ -17,11 +17,11 @@ most = 67108864
 pub end-next : (y z : DataObject) (xs : List DataObject) → data_end (y ∷ z ∷ xs) ≡ data_end (z ∷ xs)
 end-next y z xs = let e : suc (suc (length xs)) - 1 ≡ suc (suc (length xs) - 1) = omega arith in ap (λ k. end_of (slice_get (y ∷ z ∷ xs) k)) e
 
-later : (end : ℕ) (y : DataObject) (xs : List DataObject) → LieFrom end (y ∷ xs) → data_end (y ∷ xs) ≤ most → LieWithin end (y ∷ xs)
+later : (end : ℕ) (y : DataObject) (xs : List DataObject) → ObjectsLieFrom end (y ∷ xs) → data_end (y ∷ xs) ≤ most → LieWithin end (y ∷ xs)
 later end y [] h last = (h.0, last)
 later end y (z ∷ xs) h last = (h.0, later (y.offset + y.size) z xs h.1 (subst (λ n. n ≤ most) (end-next y z xs) last))
 
-pub lies_within : (end : ℕ) (xs : List DataObject) → LieFrom end xs → end ≤ most → data_end xs ≤ most → LieWithin end xs
+pub lies_within : (end : ℕ) (xs : List DataObject) → ObjectsLieFrom end xs → end ≤ most → data_end xs ≤ most → LieWithin end xs
 lies_within end [] h le last = le
 lies_within end (x ∷ xs) h le last = later end x xs h last
 

@@ -11,7 +11,7 @@ use Rattle.temp_ir.specs.declared.insn.TempInsn.TheVariants as i
 use Rattle.alloc_model.specs.declared.allocation.Allocation.{Allocation}
 use Rattle.function_checks.proofs.Alls.{all_more}
 use Rattle.frame_layout.specs.Names.{CallsBelow}
-use Rattle.frame_ranges.specs.Ranges.{IsSmall}
+use Rattle.frame_ranges.specs.Ranges.{HasSmallNumbers}
 use Rattle.program_assembly.specs.Layouts.{first_label, label_count, FunctionIsLaidOut, FollowFrom}
 
 abbrev pub count_before : List Allocation → ℕ → ℕ
@@ -90,15 +90,15 @@ calls_later low high blocks le h = λ k d lt j x inside. calls_one low high _ le
 
 -- one more function of a program: it is laid out, its numbers have their ranges, and the next label is the one behind its
 pub lay_out_next : (globals : List DataObject) (xs : List Allocation) (k first : ℕ) (fs : List FinalFn) (a : Allocation) (f : FinalFn) (labels : ℕ) (more : List FinalFn) → k < length xs → a ≡ get_or xs k a
-    → FollowFrom globals 0 (first_label (length xs)) (take k xs) fs → All (λ (x : Allocation). AllInsns IsSmall x.func.blocks) (take k xs)
-    → first ≡ first_label (length xs) + sum_by label_count (take k xs) → AllInsns IsSmall a.func.blocks → FunctionIsLaidOut globals k first a f
+    → FollowFrom globals 0 (first_label (length xs)) (take k xs) fs → All (λ (x : Allocation). AllInsns HasSmallNumbers x.func.blocks) (take k xs)
+    → first ≡ first_label (length xs) + sum_by label_count (take k xs) → AllInsns HasSmallNumbers a.func.blocks → FunctionIsLaidOut globals k first a f
     → labels ≡ label_count a → more ≡ fs ++ f ∷ []
-    → FollowFrom globals 0 (first_label (length xs)) (take (k + 1) xs) more × All (λ (x : Allocation). AllInsns IsSmall x.func.blocks) (take (k + 1) xs) × (first + labels ≡ first_label (length xs) + sum_by label_count (take (k + 1) xs))
+    → FollowFrom globals 0 (first_label (length xs)) (take (k + 1) xs) more × All (λ (x : Allocation). AllInsns HasSmallNumbers x.func.blocks) (take (k + 1) xs) × (first + labels ≡ first_label (length xs) + sum_by label_count (take (k + 1) xs))
 lay_out_next globals xs k first fs a f labels more lt is follow small at one laid count pushed =
     let n : k ≡ 0 + k = omega arith in
     let next = labels_more xs k a lt is in
     let here = subst (λ z. FunctionIsLaidOut globals z (first_label (length xs) + sum_by label_count (take k xs)) a f) n (subst (λ z. FunctionIsLaidOut globals k z a f) at laid) in (
       subst (λ gs. FollowFrom globals 0 (first_label (length xs)) (take (k + 1) xs) gs) (sym pushed) (follow_more globals 0 (first_label (length xs)) k a f xs fs lt is follow here),
-      all_more (λ (x : Allocation). AllInsns IsSmall x.func.blocks) xs k a lt is small one,
+      all_more (λ (x : Allocation). AllInsns HasSmallNumbers x.func.blocks) xs k a lt is small one,
       omega (arith, next, at, count),
     )

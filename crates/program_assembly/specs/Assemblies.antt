@@ -27,3 +27,7 @@ gathered finals globals = record {
   bytes = global_bytes globals;
   fixes = global_fixes globals;
 }
+
+-- all items with the data of objects of static storage
+abbrev pub with_data : List AsmItem → List DataObject → Assembly
+with_data items globals = record { items = items; bytes = global_bytes globals; fixes = global_fixes globals }

@@ -47,7 +47,7 @@ fn main_number(finals: &[FinalFn]) -> u32
 }
 
 /// The piece that begins a run: it calls the function with a number, and ends with the status that this returns.
-fn start_piece(main: u32) -> [AsmItem; 5]
+pub fn start_piece(main: u32) -> [AsmItem; 5]
     requires { main < 2 ^ 31 }
     ensures { result ≡ start_items main [] }
 {
@@ -123,9 +123,26 @@ fn items_of(alloc: Global, finals: &[FinalFn]) -> Result<Vec<AsmItem>, AllocErro
     Ok(items)
 }
 
+/// The assembly of all items and the data of objects of static storage, which are whole together. It fails only where
+/// memory is short.
+#[tactic(auto, using(crate::proofs::Bounds::lie, crate::proofs::Bounds::small))]
+pub fn with_data(
+    alloc: Global,
+    items: Vec<AsmItem>,
+    globals: &[DataObject],
+) -> Result<Asm, AllocError>
+    requires lawful { ∥ AreLawful globals.now ∥₁ }
+    requires data_size { data_end globals.now ≤ MOST_DATA }
+    requires whole { IsWhole (spec.with_data items.items globals.now) }
+    ensures { IfOk result (λ asm. asm ≡ spec.with_data items.items globals.now) }
+{
+    let bytes = bytes_of(alloc, globals)?;
+    let fixes = fixes_of(alloc, globals)?;
+    Ok(Asm::new(items, bytes, fixes))
+}
+
 /// The assembly of a program: the start piece, which calls `main`, its functions in order, the division routines, and
 /// the data of its objects of static storage. Together they are whole. It fails only where memory is short.
-#[tactic(auto, using(crate::proofs::Bounds::lie, crate::proofs::Bounds::small))]
 pub fn gather(alloc: Global, finals: &[FinalFn], globals: &[DataObject]) -> Result<Asm, AllocError>
     requires functions { length finals.now < 2 ^ 31 }
     requires lawful { ∥ AreLawful globals.now ∥₁ }
@@ -134,7 +151,5 @@ pub fn gather(alloc: Global, finals: &[FinalFn], globals: &[DataObject]) -> Resu
     ensures { IfOk result (λ asm. asm ≡ gathered finals.now globals.now) }
 {
     let items = items_of(alloc, finals)?;
-    let bytes = bytes_of(alloc, globals)?;
-    let fixes = fixes_of(alloc, globals)?;
-    Ok(Asm::new(items, bytes, fixes))
+    with_data(alloc, items, globals)
 }

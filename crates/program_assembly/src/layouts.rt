@@ -1,10 +1,10 @@
 //! The functions of a program, laid out one behind the other.
 
 ghost use Rattle.std.specs.Prelude.{◌≡◌, ◌+◌, ◌-◌, ◌<◌, ◌≤◌, ◌^◌, All, length, IfOk, OnOk};
-ghost use Rattle.data_object.specs.Layout.{LieFrom, data_end};
+ghost use Rattle.data_object.specs.Layout.{ObjectsLieFrom, data_end};
 ghost use Rattle.suifvm_ir.specs.Functions.{AllInsns};
 ghost use Rattle.alloc_model.specs.declared.allocation.Allocation.{Allocation};
-ghost use Rattle.frame_ranges.specs.Ranges.{IsSmall};
+ghost use Rattle.frame_ranges.specs.Ranges.{HasSmallNumbers};
 ghost use Rattle.program_assembly.specs.Layouts.{first_label, end_label, label_count, FitsProgram, FunctionIsLaidOut, FunctionsAreLaidOut};
 
 use crate::numbers::read_numbers;
@@ -24,8 +24,8 @@ fn label_count(a: &Allocation) -> u32
     a.func.blocks.len() as u32 + 1
 }
 
-/// One of so many functions, with its number and its first label. It fails only where memory is short.
-fn lay_out_one(
+/// One of so many functions, with its number and its first label, laid out. It fails only where memory is short.
+pub fn lay_out_one(
     alloc: Global,
     a: &Allocation,
     globals: &[DataObject],
@@ -37,7 +37,7 @@ fn lay_out_one(
     requires number { number < functions }
     requires first { first_label functions ≤ first }
     requires labels { first + label_count a.now < 2 ^ 32 }
-    requires layout { LieFrom 0 globals.now }
+    requires layout { ObjectsLieFrom 0 globals.now }
     requires data_size { data_end globals.now ≤ MOST_DATA }
     ensures { IfOk result (λ f. FunctionIsLaidOut globals.now number first a.now f) }
 {
@@ -55,10 +55,10 @@ pub fn lay_out(
 ) -> Result<Vec<FinalFn>, AllocError>
     requires fit { All (FitsProgram (length allocations.now) globals.now) allocations.now }
     requires labels { end_label allocations.now < 2 ^ 32 }
-    requires layout { LieFrom 0 globals.now }
+    requires layout { ObjectsLieFrom 0 globals.now }
     requires data_size { data_end globals.now ≤ MOST_DATA }
     ensures laid_out { IfOk result (λ finals. FunctionsAreLaidOut globals.now allocations.now finals.items) }
-    ensures numbers { OnOk result (All (λ (a : Allocation). AllInsns IsSmall a.func.blocks) allocations.now) }
+    ensures numbers { OnOk result (All (λ (a : Allocation). AllInsns HasSmallNumbers a.func.blocks) allocations.now) }
 {
     let functions = allocations.len() as u32;
     let mut finals = Vec::new(alloc);

@@ -7,5 +7,6 @@ mod globals;
 mod layouts;
 mod numbers;
 
-pub use assemblies::gather;
-pub use layouts::lay_out;
+pub use assemblies::{gather, start_piece, with_data};
+pub use layouts::{lay_out, lay_out_one};
+pub use numbers::read_numbers;

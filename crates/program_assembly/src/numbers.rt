@@ -4,7 +4,7 @@ ghost use Rattle.std.specs.Prelude.{All};
 ghost use Rattle.alpha_isa.specs.Lawful.{IsDisplacement};
 ghost use Rattle.suifvm_ir.specs.Functions.{AllInsns};
 ghost use Rattle.instruction_items.specs.Laws.{IsSmallOperand};
-ghost use Rattle.frame_ranges.specs.Ranges.{IsSmall};
+ghost use Rattle.frame_ranges.specs.Ranges.{HasSmallNumbers};
 
 use alloc_model::allocation::Allocation;
 use suifvm_ir::block::Block;
@@ -27,7 +27,7 @@ fn read_operand(operand: &SecondOperand)
 }
 
 fn read_insn(insn: &TempInsn)
-    ensures { IsSmall insn.now }
+    ensures { HasSmallNumbers insn.now }
 {
     match insn {
         TempInsn::Address { plus, .. } => read_displacement(plus),
@@ -42,7 +42,7 @@ fn read_insn(insn: &TempInsn)
 
 #[tactic(auto, using(function_checks::proofs::Alls::all_left))]
 fn read_block(block: &Block<TempInsn>)
-    ensures { All IsSmall block.now }
+    ensures { All HasSmallNumbers block.now }
 {
     for line in block.insns.iter() {
         let (_id, insn) = line;
@@ -50,10 +50,10 @@ fn read_block(block: &Block<TempInsn>)
     }
 }
 
-/// The numbers in the instructions of a function.
+/// Reads the numbers in the instructions of an allocation's function, which have the ranges of their types.
 #[tactic(auto, using(function_checks::proofs::Alls::all_more, function_checks::proofs::Alls::all_done))]
-pub(crate) fn read_numbers(a: &Allocation)
-    ensures { AllInsns IsSmall a.now.func.blocks }
+pub fn read_numbers(a: &Allocation)
+    ensures { AllInsns HasSmallNumbers a.now.func.blocks }
 {
     for block in a.func.blocks.as_slice() {
         read_block(block);

@@ -5,7 +5,7 @@ use Rattle.std.proofs.lemmas.Bool.{leb-true}
 use Rattle.alpha_isa.specs.Program.{Program, IsLawful, data_of, data_start}
 use Rattle.item_steps.specs.Standing.{Labels}
 use Rattle.data_object.specs.declared.DataObject.{DataObject}
-use Rattle.data_object.specs.Layout.{LieFrom}
+use Rattle.data_object.specs.Layout.{ObjectsLieFrom}
 use Rattle.suifvm_ir.specs.declared.function.MemoryLocal.{MemoryLocal}
 use Rattle.suifvm_ir.specs.declared.insn.VmObject.TheVariants.{Global, Local}
 use Rattle.suifvm_ir.specs.Programs.{global_reaches, local_reaches}
@@ -15,14 +15,14 @@ use Rattle.temp_ir.specs.declared.insn.TempInsn.TheVariants as i
 use Rattle.temp_ir.specs.Programs.{TempFn, function_takes, names_what_is_there}
 use Rattle.flat_globals.specs.Globals.{AreLaidOut, DataIs, extents_of}
 use Rattle.flat_globals.proofs.Lists.{append-size, replicate-size}
-use Rattle.frame_transfers.specs.Laws.{Call}
+use Rattle.frame_transfers.specs.Laws.{CallAt}
 use Rattle.instruction_items.specs.Items.{ItemSetting}
 use Rattle.instruction_items.specs.Laws.{IsThere, IsGlobal, IsNearLocal}
 use Rattle.program_images.proofs.Lists.{get-map, get-below}
 use Rattle.program_images.proofs.Standing.{InsnStands, lawful-there}
 
 -- objects lie at multiples of 8
-aligned-at : (globals : List DataObject) (end k : ℕ) (o : DataObject) → LieFrom end globals → slice_get globals k ≡ Some o → o.offset % 8 ≡ 0
+aligned-at : (globals : List DataObject) (end k : ℕ) (o : DataObject) → ObjectsLieFrom end globals → slice_get globals k ≡ Some o → o.offset % 8 ≡ 0
 aligned-at [] end k o h e = absurd (cc)
 aligned-at (x ∷ globals) end zero o h e =
     let is : x ≡ o = cc in
@@ -30,7 +30,7 @@ aligned-at (x ∷ globals) end zero o h e =
     subst (λ (z : DataObject). z.offset % 8 ≡ 0) is (omega (arith, at))
 aligned-at (x ∷ globals) end (suc k) o h e = aligned-at globals (x.offset + x.size) k o h.1 e
 
-module _ (p : Program) (lawful : IsLawful p) (globals : List DataObject) (laid : AreLaidOut globals) (d : DataIs globals (data_start p) (data_of p)) (g : ItemSetting) (offsets : (k : ℕ) (o : DataObject) → slice_get globals k ≡ Some o → g.global_at k ≡ o.offset) (c : Call) (extents : c.extents ≡ extents_of (data_start p) globals) where
+module _ (p : Program) (lawful : IsLawful p) (globals : List DataObject) (laid : AreLaidOut globals) (d : DataIs globals (data_start p) (data_of p)) (g : ItemSetting) (offsets : (k : ℕ) (o : DataObject) → slice_get globals k ≡ Some o → g.global_at k ≡ o.offset) (c : CallAt) (extents : c.extents ≡ extents_of (data_start p) globals) where
   data-small : length (data_of p) ≤ 67108864
   data-small =
       let sum = append-size p.bytes (replicate p.zeros 0) in

@@ -56,11 +56,11 @@ insn-stands p there end a g block n (y ∷ insns) tail (suc at) x e h =
     (insn-stands p there end a g block (suc n) insns tail at x e (behind-items p there end (insn_items g (registers_at a block n) y) (insns_items a g block (suc n) insns tail) z))
 
 -- an instruction that stands is lawful
-lawful-word : (o : Option ℕ) (i : Fields) → option_and_then insn_of o ≡ Some i → lawful.IsLawful i
+lawful-word : (o : Option ℕ) (i : Fields) → option_and_then insn_of o ≡ Some i → lawful.AreLawfulFields i
 lawful-word None i e = absurd (cc)
 lawful-word (Some word) i e = (decoded_word word i e).0
 
-pub lawful-there : (p : Program) (there : Labels) (end : ℕ) (i : Fields) (items : List AsmItem) → Somewhere p there (Plain i ∷ items) end → lawful.IsLawful i
+pub lawful-there : (p : Program) (there : Labels) (end : ℕ) (i : Fields) (items : List AsmItem) → Somewhere p there (Plain i ∷ items) end → lawful.AreLawfulFields i
 lawful-there p there end i items h =
     let none : h.word + 0 ≡ h.word = omega arith in
     let at : instruction_at p (word_address h.word) ≡ Some i = ap (λ n. instruction_at p (word_address n)) (sym none) ∙ h.items_at.1 0 (omega arith) in

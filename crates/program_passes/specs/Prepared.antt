@@ -14,9 +14,9 @@ use Rattle.cfg_edges.specs.Critical.{NoneCritical}
 use Rattle.back_laws.specs.Kept.{GoBackToMarks}
 
 -- What both passes give of a function. Its name, numbers and objects stay; its blocks have the contents of those
--- between the passes, and these the contents of those before; its walks are the same; a path leads to each block, and no
--- edge has to be split. What is owed of functions of a program stays true, and it is no larger than was counted for the
--- function before with all its edges split
+-- between the passes, and these the contents of those before; its walks are the same; a path leads to each block, and
+-- no edge has to be split. What is owed of functions of a program stays true, and it is no larger than was counted
+-- for the function before with all its edges split
 pub record IsPrepared (before after : TempFn) : Type 0 where
   pub name : after.name ≡ before.name
   pub params : after.params ≡ before.params

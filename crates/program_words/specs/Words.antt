@@ -6,7 +6,7 @@ use Rattle.alpha_items.specs.Layout.{text_words}
 use Rattle.alpha_items.specs.declared.final_fn.FinalFn.{FinalFn}
 use Rattle.alpha_asm.specs.declared.assemble.AsmFault.{AsmFault}
 use Rattle.alpha_asm.specs.declared.assemble.AsmFault.TheVariants.{NoMemory}
-use Rattle.alpha_asm.specs.Fault.{HasFewWords, IsFaultOf}
+use Rattle.alpha_asm.specs.Fault.{HasFewWords, IsAsmFault}
 use Rattle.alpha_rt.specs.Items.{all_items}
 use Rattle.c_typed_tree.specs.declared.units.TypedFn.{TypedFn}
 use Rattle.c_typed_tree.specs.declared.units.TypedUnit.{TypedUnit}
@@ -56,11 +56,11 @@ OfAssemblies P =
     AreLight unit allocations → FunctionsAreLaidOut globals allocations finals → P unit (gathered finals globals)
 
 -- its text has at most 2,048 words for each unit of weight, whichever branches are far
-abbrev pub IsWithinWeight : (unit : TypedUnit) → (asm : Assembly) → Type 0
-IsWithinWeight unit asm = (far : List Bool) → text_words asm.items far ≤ 2048 * unit_weight unit
+abbrev pub TextIsWithinWeight : (unit : TypedUnit) → (asm : Assembly) → Type 0
+TextIsWithinWeight unit asm = (far : List Bool) → text_words asm.items far ≤ 2048 * unit_weight unit
 
 abbrev pub TextsAreWithinWeight : Type 0
-TextsAreWithinWeight = OfAssemblies IsWithinWeight
+TextsAreWithinWeight = OfAssemblies TextIsWithinWeight
 
 -- so it fits an image where the unit is no heavier than a unit may be
 abbrev pub FitsImages : (unit : TypedUnit) → (asm : Assembly) → Type 0
@@ -72,4 +72,4 @@ LightTextsFitImages = OfAssemblies FitsImages
 -- such an assembly is refused only where memory is short
 abbrev pub OnlyMemoryIsShort : Type 0
 OnlyMemoryIsShort =
-    (asm : Assembly) (fault : AsmFault) → HasFewWords asm → IsFaultOf asm fault → (fault ≡ NoMemory) × MemoryIsShort
+    (asm : Assembly) (fault : AsmFault) → HasFewWords asm → IsAsmFault asm fault → (fault ≡ NoMemory) × MemoryIsShort

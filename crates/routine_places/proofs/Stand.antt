@@ -12,7 +12,7 @@ use Rattle.alpha_items.specs.Words.{text_insns, Words}
 use Rattle.alpha_items.proofs.Unique.{length-text_insns}
 use Rattle.alpha_rt.specs.Routine.{Routine, Divq, Remq, Divqu, Remqu, Divl, Reml, Divlu, Remlu}
 use Rattle.alpha_rt.specs.Code.{code}
-use Rattle.alpha_rt.specs.Calls.{StandsAt}
+use Rattle.alpha_rt.specs.Calls.{RoutinesStandAt}
 use Rattle.alpha_rt.specs.Items.{all_items, all_near, entry_label}
 use Rattle.alpha_rt.proofs.Assembled.{give_code, entries_labelled}
 use Rattle.alpha_rt.proofs.Found.{code_stands}
@@ -61,7 +61,7 @@ routines-at p front back once far least words =
     let size : length (map word_of A) ≡ W front back once far least = length-map A word_of ∙ length-text_insns (label_place (front ++ (all_items ++ back)) far) (data_start p) 0 front (F1 front back once far least) in
     record {
       word = W front back once far least;
-      code_stands = subst (StandsAt p) size (code_stands p (map word_of A) (map word_of B) split);
+      code_stands = subst (RoutinesStandAt p) size (code_stands p (map word_of A) (map word_of B) split);
       labels = λ r. let e = entry-labels r in label (entry_label r) e.from e.to ∙ ap (λ z. W front back once far least + z) (entries_labelled r);
     }
 

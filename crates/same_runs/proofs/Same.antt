@@ -3,13 +3,12 @@ use Rattle.std.proofs.Common.{◌≡◌, ℕ, List, [], refl, sym, ap, ◌∙◌
 use Rattle.alpha_isa.specs.Program.{Program}
 use Rattle.alpha_isa.specs.Behave as image
 use Rattle.alpha_isa.specs.Behave.{Behaviour, behave_a, output_of}
-use Rattle.mem_model.specs.Ending.{Ending, Done, Trap, Undefined, More, ending_output}
+use Rattle.mem_model.specs.Ending.{Ending, Done, Trap, Undefined, More, ending_output, IsDefined}
 use Rattle.machine_model.specs.Laws.{IsPrefix}
 use Rattle.alloc_model.specs.Places.{Plan}
 use Rattle.program_images.specs.Runs.{turns_for}
 use Rattle.program_images.specs.Images.{HasBehaviour, AgreesWith}
 use Rattle.program_images.specs.Programs.{ImageBehaves}
-use Rattle.selection_laws.specs.Laws.{IsDefined}
 use Rattle.same_runs.specs.Same.{IsDoneAt, IsTrapAt, IsSame}
 
 prefix-same : (xs ys : List ℕ) → ys ≡ xs → IsPrefix xs ys

@@ -4,9 +4,8 @@ use Rattle.alpha_isa.specs.Program.{Program}
 use Rattle.alpha_isa.specs.Behave as image
 use Rattle.alpha_isa.specs.Behave.{behave_a, output_of}
 use Rattle.mem_model.specs.World.{World}
-use Rattle.mem_model.specs.Ending.{Ending, Done, Trap, ending_output}
+use Rattle.mem_model.specs.Ending.{Ending, Done, Trap, ending_output, IsDefined}
 use Rattle.machine_model.specs.Laws.{IsPrefix}
-use Rattle.selection_laws.specs.Laws.{IsDefined}
 use Rattle.alloc_model.specs.Places.{Plan}
 use Rattle.program_images.specs.Programs.{ImageBehaves}
 

@@ -8,33 +8,33 @@ use Rattle.temp_ir.specs.Insns.{targets_of, with_block, flows_on_of}
 use Rattle.cfg.specs.Walks.{block_at}
 use Rattle.cfg.specs.Contents.{HasContents, KeepsBlocks}
 use Rattle.alloc_model.specs.Effect.{widest_in, widest_call}
-use Rattle.temp_walk_laws.specs.SameRuns.{IsWithin}
+use Rattle.temp_walk_laws.specs.SameRuns.{WritesWithin}
 use Rattle.selected_widths.specs.Widths.{IsWithinBlock, AreWithinBlocks, BlocksStayWithin, CallsStayNarrow}
 use Rattle.selected_widths.proofs.Forms.{contents_of, Kind, Jumps, Branches, Stays, kind, stays_first, all_first, all_rest}
 
 -- ---- contents
 
 module _ (w : ℕ) where
-  of_contents : (xs : List TempInsn) → All (IsWithin w) (contents_of xs) → All (IsWithin w) xs
-  of_contents [] h = All-nil (IsWithin w)
+  of_contents : (xs : List TempInsn) → All (WritesWithin w) (contents_of xs) → All (WritesWithin w) xs
+  of_contents [] h = All-nil (WritesWithin w)
   of_contents (z ∷ xs) h = by_kind z (kind z) (of_contents xs) h
     where
-      by_kind : (y : TempInsn) → Kind y → (All (IsWithin w) (contents_of xs) → All (IsWithin w) xs) → All (IsWithin w) (contents_of (y ∷ xs)) → All (IsWithin w) (y ∷ xs)
-      by_kind y (Jumps block) rest g = All-cons (IsWithin w) (i.Jump block) xs tt (rest g)
-      by_kind y (Branches op a block) rest g = All-cons (IsWithin w) (i.Branch op a block) xs tt (rest (all_rest (IsWithin w) (i.Branch op a 0) (contents_of xs) g))
+      by_kind : (y : TempInsn) → Kind y → (All (WritesWithin w) (contents_of xs) → All (WritesWithin w) xs) → All (WritesWithin w) (contents_of (y ∷ xs)) → All (WritesWithin w) (y ∷ xs)
+      by_kind y (Jumps block) rest g = All-cons (WritesWithin w) (i.Jump block) xs tt (rest g)
+      by_kind y (Branches op a block) rest g = All-cons (WritesWithin w) (i.Branch op a block) xs tt (rest (all_rest (WritesWithin w) (i.Branch op a 0) (contents_of xs) g))
       by_kind y (Stays y2 e same none) rest g =
-          let k : All (IsWithin w) (y ∷ contents_of xs) = subst (All (IsWithin w)) (stays_first y xs e same) g in
-          All-cons (IsWithin w) y xs (all_first (IsWithin w) y (contents_of xs) k) (rest (all_rest (IsWithin w) y (contents_of xs) k))
+          let k : All (WritesWithin w) (y ∷ contents_of xs) = subst (All (WritesWithin w)) (stays_first y xs e same) g in
+          All-cons (WritesWithin w) y xs (all_first (WritesWithin w) y (contents_of xs) k) (rest (all_rest (WritesWithin w) y (contents_of xs) k))
 
-  to_contents : (xs : List TempInsn) → All (IsWithin w) xs → All (IsWithin w) (contents_of xs)
-  to_contents [] h = All-nil (IsWithin w)
+  to_contents : (xs : List TempInsn) → All (WritesWithin w) xs → All (WritesWithin w) (contents_of xs)
+  to_contents [] h = All-nil (WritesWithin w)
   to_contents (z ∷ xs) h = by_kind z (kind z) (to_contents xs) h
     where
-      by_kind : (y : TempInsn) → Kind y → (All (IsWithin w) xs → All (IsWithin w) (contents_of xs)) → All (IsWithin w) (y ∷ xs) → All (IsWithin w) (contents_of (y ∷ xs))
-      by_kind y (Jumps block) rest g = rest (all_rest (IsWithin w) (i.Jump block) xs g)
-      by_kind y (Branches op a block) rest g = All-cons (IsWithin w) (i.Branch op a 0) (contents_of xs) tt (rest (all_rest (IsWithin w) (i.Branch op a block) xs g))
+      by_kind : (y : TempInsn) → Kind y → (All (WritesWithin w) xs → All (WritesWithin w) (contents_of xs)) → All (WritesWithin w) (y ∷ xs) → All (WritesWithin w) (contents_of (y ∷ xs))
+      by_kind y (Jumps block) rest g = rest (all_rest (WritesWithin w) (i.Jump block) xs g)
+      by_kind y (Branches op a block) rest g = All-cons (WritesWithin w) (i.Branch op a 0) (contents_of xs) tt (rest (all_rest (WritesWithin w) (i.Branch op a block) xs g))
       by_kind y (Stays y2 e same none) rest g =
-          subst (All (IsWithin w)) (sym (stays_first y xs e same)) (All-cons (IsWithin w) y (contents_of xs) (all_first (IsWithin w) y xs g) (rest (all_rest (IsWithin w) y xs g)))
+          subst (All (WritesWithin w)) (sym (stays_first y xs e same)) (All-cons (WritesWithin w) y (contents_of xs) (all_first (WritesWithin w) y xs g) (rest (all_rest (WritesWithin w) y xs g)))
 
 same_width : (xs : List TempInsn) → widest_in (contents_of xs) ≡ widest_in xs
 same_width [] = refl
@@ -50,13 +50,13 @@ width_by_contents xs ys e = sym (same_width xs) ∙ ap widest_in e ∙ same_widt
 
 within_by_contents : (xs ys : List TempInsn) → contents_of xs ≡ contents_of ys → IsWithinBlock ys → IsWithinBlock xs
 within_by_contents xs ys e h =
-    subst (λ w. All (IsWithin w) xs) (sym (width_by_contents xs ys e))
-    (of_contents (widest_in ys) xs (subst (All (IsWithin (widest_in ys))) (sym e) (to_contents (widest_in ys) ys h)))
+    subst (λ w. All (WritesWithin w) xs) (sym (width_by_contents xs ys e))
+    (of_contents (widest_in ys) xs (subst (All (WritesWithin (widest_in ys))) (sym e) (to_contents (widest_in ys) ys h)))
 
 -- ---- blocks by their numbers
 
 within_at : (blocks : List (List TempInsn)) (n : ℕ) → AreWithinBlocks blocks → IsWithinBlock (block_at blocks n)
-within_at [] n h = All-nil (IsWithin 0)
+within_at [] n h = All-nil (WritesWithin 0)
 within_at (block ∷ blocks) zero h = all_first IsWithinBlock block blocks h
 within_at (block ∷ blocks) (suc n) h = within_at blocks n (all_rest IsWithinBlock block blocks h)
 
@@ -90,7 +90,7 @@ module _ (before after : List (List TempInsn)) (kept : KeepsBlocks targets_of wi
 
 pub within_kept : BlocksStayWithin
 within_kept before after kept h =
-    all_within after (source before after kept IsWithinBlock (All-nil (IsWithin 0)) (λ n. within_at before n h) within_by_contents)
+    all_within after (source before after kept IsWithinBlock (All-nil (WritesWithin 0)) (λ n. within_at before n h) within_by_contents)
 
 pub calls_kept : CallsStayNarrow
 calls_kept before after kept =

@@ -11,7 +11,7 @@ use Rattle.temp_ir.specs.declared.insn.TempInsn.TheVariants as i
 use Rattle.selection_code.specs.Instructions.{temp_of, pass_item, pass_items, result_items, argument_register, insn_items}
 use Rattle.selection_code.specs.Functions.{insns_items, parameter_items, function_blocks}
 use Rattle.alloc_model.specs.Effect.{width_of, widest_in, widest_call}
-use Rattle.temp_walk_laws.specs.SameRuns.{IsWithin}
+use Rattle.temp_walk_laws.specs.SameRuns.{WritesWithin}
 use Rattle.selected_widths.specs.Widths.{IsWithinBlock, AreWithinBlocks, SelectedBlocksAreWithin}
 use Rattle.selected_widths.proofs.Plain.{takes-plain, result-plain, Form, Calls, Plain, form}
 use Rattle.selected_widths.proofs.Widths.{widest_append, plains_width, plains_within}
@@ -19,17 +19,17 @@ use Rattle.selected_widths.proofs.Forms.{all_first, all_rest}
 
 -- ---- calls of functions
 
-pass_within : (w k t : ℕ) → k < w → IsWithin w (pass_item k t)
+pass_within : (w k t : ℕ) → k < w → WritesWithin w (pass_item k t)
 pass_within w k t lt = by_test (nat_lt k 6) refl
   where
-    by_test : (b : Bool) → nat_lt k 6 ≡ b → IsWithin w (if b then i.ToFixed (argument_register k) t else i.WriteArgument (k - 6) t)
+    by_test : (b : Bool) → nat_lt k 6 ≡ b → WritesWithin w (if b then i.ToFixed (argument_register k) t else i.WriteArgument (k - 6) t)
     by_test true e = tt
     by_test false e = lt-ltb (k - 6 + 6) w (omega (arith, ltb-false k 6 e, lt))
 
-passes_within : (w k : ℕ) (arguments : List ℕ) → k + length arguments ≤ w → All (IsWithin w) (pass_items k arguments)
-passes_within w k [] le = All-nil (IsWithin w)
+passes_within : (w k : ℕ) (arguments : List ℕ) → k + length arguments ≤ w → All (WritesWithin w) (pass_items k arguments)
+passes_within w k [] le = All-nil (WritesWithin w)
 passes_within w k (a ∷ arguments) le =
-    All-cons (IsWithin w) (pass_item k (temp_of a)) (pass_items (suc k) arguments)
+    All-cons (WritesWithin w) (pass_item k (temp_of a)) (pass_items (suc k) arguments)
     (pass_within w k (temp_of a) (omega (arith, le))) (passes_within w (suc k) arguments (omega (arith, le)))
 
 pass_width : (k t : ℕ) → width_of (pass_item k t) ≡ 0
@@ -51,17 +51,17 @@ call_width : (d : Option ℕ) (k : ℕ) (arguments : List ℕ) → widest_in (pa
 call_width d k arguments =
     omega (arith, widest_append (pass_items 0 arguments) (call_part d k arguments), passes_width 0 arguments, plains_width (result_items d) (result-plain d))
 
-call_within : (w : ℕ) (d : Option ℕ) (k : ℕ) (arguments : List ℕ) → length arguments ≤ w → All (IsWithin w) (pass_items 0 arguments ++ call_part d k arguments)
+call_within : (w : ℕ) (d : Option ℕ) (k : ℕ) (arguments : List ℕ) → length arguments ≤ w → All (WritesWithin w) (pass_items 0 arguments ++ call_part d k arguments)
 call_within w d k arguments le =
-    All-append (IsWithin w) (pass_items 0 arguments) (call_part d k arguments) (passes_within w 0 arguments (omega (arith, le)))
-    (All-cons (IsWithin w) (i.Call k (length arguments)) (result_items d) tt (plains_within w (result_items d) (result-plain d)))
+    All-append (WritesWithin w) (pass_items 0 arguments) (call_part d k arguments) (passes_within w 0 arguments (omega (arith, le)))
+    (All-cons (WritesWithin w) (i.Call k (length arguments)) (result_items d) tt (plains_within w (result_items d) (result-plain d)))
 
 -- ---- instructions
 
-insn_within : (w : ℕ) (y : VmInsn) → widest_in (insn_items y) ≤ w → All (IsWithin w) (insn_items y)
+insn_within : (w : ℕ) (y : VmInsn) → widest_in (insn_items y) ≤ w → All (WritesWithin w) (insn_items y)
 insn_within w y le = by_form y (form y) le
   where
-    by_form : (z : VmInsn) → Form z → widest_in (insn_items z) ≤ w → All (IsWithin w) (insn_items z)
+    by_form : (z : VmInsn) → Form z → widest_in (insn_items z) ≤ w → All (WritesWithin w) (insn_items z)
     by_form z (Calls d k arguments) g = call_within w d k arguments (omega (arith, g, call_width d k arguments))
     by_form z (Plain z2 plain) g = plains_within w (insn_items z) plain
 
@@ -72,11 +72,11 @@ insn_width y = by_form y (form y)
     by_form z (Calls d k arguments) = omega (arith, call_width d k arguments)
     by_form z (Plain z2 plain) = omega (arith, plains_width (insn_items z) plain)
 
-insns_within : (w : ℕ) (insns : List VmInsn) → widest_in (insns_items insns) ≤ w → All (IsWithin w) (insns_items insns)
-insns_within w [] le = All-nil (IsWithin w)
+insns_within : (w : ℕ) (insns : List VmInsn) → widest_in (insns_items insns) ≤ w → All (WritesWithin w) (insns_items insns)
+insns_within w [] le = All-nil (WritesWithin w)
 insns_within w (y ∷ insns) le =
     let s = widest_append (insn_items y) (insns_items insns) in
-    All-append (IsWithin w) (insn_items y) (insns_items insns) (insn_within w y (omega (arith, le, s))) (insns_within w insns (omega (arith, le, s)))
+    All-append (WritesWithin w) (insn_items y) (insns_items insns) (insn_within w y (omega (arith, le, s))) (insns_within w insns (omega (arith, le, s)))
 
 insns_width : (most : ℕ) (insns : List VmInsn) → All (λ y. arguments_of y ≤ most) insns → widest_in (insns_items insns) ≤ most
 insns_width most [] h = omega arith
@@ -94,7 +94,7 @@ insns_width most (y ∷ insns) h =
 first_within : (params : ℕ) (block : List VmInsn) → IsWithinBlock (parameter_items params ++ insns_items block)
 first_within params block =
     let w = widest_in (parameter_items params ++ insns_items block) in
-    All-append (IsWithin w) (parameter_items params) (insns_items block)
+    All-append (WritesWithin w) (parameter_items params) (insns_items block)
     (plains_within w (parameter_items params) (takes-plain 0 params))
     (insns_within w block (omega (arith, widest_append (parameter_items params) (insns_items block))))
 

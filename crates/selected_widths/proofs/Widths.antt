@@ -7,7 +7,7 @@ use Rattle.suifvm_ir.specs.Functions.{AllInsns}
 use Rattle.temp_ir.specs.declared.insn.TempInsn.{TempInsn}
 use Rattle.temp_ir.specs.declared.insn.TempInsn.TheVariants as i
 use Rattle.alloc_model.specs.Effect.{width_of, widest_in, widest_call}
-use Rattle.temp_walk_laws.specs.SameRuns.{IsWithin}
+use Rattle.temp_walk_laws.specs.SameRuns.{WritesWithin}
 use Rattle.selected_widths.specs.Widths.{IsWithinBlock, AreWithinBlocks, BlocksAreWithinFunctions}
 use Rattle.selected_widths.proofs.Plain.{is_plain, are_plain}
 use Rattle.selected_widths.proofs.Forms.{all_first, all_rest}
@@ -38,7 +38,7 @@ plain_width (i.Serve service) e = refl
 plain_width (i.Return with_value) e = refl
 plain_width i.Mark e = refl
 
-plain_within : (w : ℕ) (z : TempInsn) → is_plain z ≡ true → IsWithin w z
+plain_within : (w : ℕ) (z : TempInsn) → is_plain z ≡ true → WritesWithin w z
 plain_within w (i.WriteArgument number source) e = absurd (false≢true e)
 plain_within w (i.Call function arguments) e = tt
 plain_within w (i.ReadArgument destination number) e = tt
@@ -64,15 +64,15 @@ plains_width (z ∷ xs) e =
     let p = and_parts (is_plain z) (are_plain xs) e in
     omega (arith, plain_width z p.0, plains_width xs p.1)
 
-pub plains_within : (w : ℕ) (xs : List TempInsn) → are_plain xs ≡ true → All (IsWithin w) xs
-plains_within w [] e = All-nil (IsWithin w)
+pub plains_within : (w : ℕ) (xs : List TempInsn) → are_plain xs ≡ true → All (WritesWithin w) xs
+plains_within w [] e = All-nil (WritesWithin w)
 plains_within w (z ∷ xs) e =
     let p = and_parts (is_plain z) (are_plain xs) e in
-    All-cons (IsWithin w) z xs (plain_within w z p.0) (plains_within w xs p.1)
+    All-cons (WritesWithin w) z xs (plain_within w z p.0) (plains_within w xs p.1)
 
 -- ---- within a wider call
 
-wider : (w v : ℕ) (z : TempInsn) → w ≤ v → IsWithin w z → IsWithin v z
+wider : (w v : ℕ) (z : TempInsn) → w ≤ v → WritesWithin w z → WritesWithin v z
 wider w v (i.WriteArgument number source) le h = lt-ltb (number + 6) v (omega (arith, le, ltb-true (number + 6) w h))
 wider w v (i.Call function arguments) le h = tt
 wider w v (i.ReadArgument destination number) le h = tt
@@ -92,15 +92,15 @@ wider w v (i.Serve service) le h = tt
 wider w v (i.Return with_value) le h = tt
 wider w v i.Mark le h = tt
 
-widers : (w v : ℕ) (xs : List TempInsn) → w ≤ v → All (IsWithin w) xs → All (IsWithin v) xs
-widers w v [] le h = All-nil (IsWithin v)
+widers : (w v : ℕ) (xs : List TempInsn) → w ≤ v → All (WritesWithin w) xs → All (WritesWithin v) xs
+widers w v [] le h = All-nil (WritesWithin v)
 widers w v (z ∷ xs) le h =
-    All-cons (IsWithin v) z xs (wider w v z le (all_first (IsWithin w) z xs h)) (widers w v xs le (all_rest (IsWithin w) z xs h))
+    All-cons (WritesWithin v) z xs (wider w v z le (all_first (WritesWithin w) z xs h)) (widers w v xs le (all_rest (WritesWithin w) z xs h))
 
-blocks_within : (v : ℕ) (blocks : List (List TempInsn)) → widest_call blocks ≤ v → AreWithinBlocks blocks → AllInsns (IsWithin v) blocks
-blocks_within v [] le h = All-nil (All (IsWithin v))
+blocks_within : (v : ℕ) (blocks : List (List TempInsn)) → widest_call blocks ≤ v → AreWithinBlocks blocks → AllInsns (WritesWithin v) blocks
+blocks_within v [] le h = All-nil (All (WritesWithin v))
 blocks_within v (block ∷ blocks) le h =
-    All-cons (All (IsWithin v)) block blocks
+    All-cons (All (WritesWithin v)) block blocks
     (widers (widest_in block) v block (omega (arith, le)) (all_first IsWithinBlock block blocks h))
     (blocks_within v blocks (omega (arith, le)) (all_rest IsWithinBlock block blocks h))
 

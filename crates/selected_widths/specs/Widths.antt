@@ -10,11 +10,11 @@ use Rattle.temp_ir.specs.Insns.{targets_of, with_block, flows_on_of}
 use Rattle.cfg.specs.Contents.{KeepsBlocks}
 use Rattle.selection_code.specs.Functions.{function_blocks}
 use Rattle.alloc_model.specs.Effect.{widest_in, widest_call}
-use Rattle.temp_walk_laws.specs.SameRuns.{IsWithin, AreWithin}
+use Rattle.temp_walk_laws.specs.SameRuns.{WritesWithin, AreWithin}
 
 -- the argument places that the instructions of a block write are within the widest call of that block
 abbrev pub IsWithinBlock : List TempInsn → Type 0
-IsWithinBlock block = All (IsWithin (widest_in block)) block
+IsWithinBlock block = All (WritesWithin (widest_in block)) block
 
 abbrev pub AreWithinBlocks : List (List TempInsn) → Type 0
 AreWithinBlocks blocks = All IsWithinBlock blocks

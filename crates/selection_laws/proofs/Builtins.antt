@@ -5,7 +5,7 @@ use Rattle.std.specs.List.{list_all}
 use Rattle.mem_model.specs.declared.value.Value.{Value}
 use Rattle.mem_model.specs.declared.value.Value.TheVariants.{Word, Address, Unset}
 use Rattle.mem_model.specs.World.{Meter, World, Rooms, take_byte, put_byte, next_byte}
-use Rattle.mem_model.specs.Ending.{Ending, Done, Trap}
+use Rattle.mem_model.specs.Ending.{Ending, Done, Trap, IsDefined}
 use Rattle.machine_model.specs.Code.{Exits, Traps, HasNoMeaning, Act, Writes, Jumps, Stops}
 use Rattle.machine_model.specs.Machine.{Frame, Over, world_of, act_on, go_on, exec}
 use Rattle.alpha_isa.specs.Step as isa
@@ -32,14 +32,13 @@ use Rattle.alloc_model.specs.Effect.{Temp, Fixed, holder_eq, holders_read, is_em
 use Rattle.alloc_model.specs.Effect as temps
 use Rattle.alloc_model.specs.Temporaries.{Temps, temp_site, temp_code}
 use Rattle.alpha_forms.specs.Straight.{runs}
-use Rattle.alpha_forms.specs.Registers.{IsHeld, PutsValue}
+use Rattle.alpha_forms.specs.Registers.{IsHeldWord, PutsValue}
 use Rattle.alpha_forms.specs.Operations.{branch_op}
 use Rattle.alpha_forms.proofs.Done.{conversions_done}
 use Rattle.alpha_forms.proofs.Others.{branches_taken}
 use Rattle.selection_code.specs.Instructions.{temp_of, result_items, byte_items}
 use Rattle.selection_code.specs.Functions.{insns_items, function_blocks}
 use Rattle.selection_laws.proofs.Plain.{plain_code}
-use Rattle.selection_laws.specs.Laws.{IsDefined}
 use Rattle.selection_laws.proofs.Machines.{Placed, next_place, Standing, next_standing}
 use Rattle.selection_laws.proofs.Steps.{of_register, IsOrdinary, vm_conf, temp_conf, Here, Waits, Simulates, Reaches, NextReaches, never_undefined, same_ending, enter_block, put_tail, result_tail, vm_acts, turn_step, last_step}
 
@@ -49,7 +48,7 @@ same_input : (bytes : List ℕ) → isa.input_word bytes ≡ input_word (slice_g
 same_input [] = refl
 same_input (byte ∷ bytes) = refl
 
-input_held : (bytes : List ℕ) → All (λ byte. byte < 256) bytes → IsHeld (Word (input_word (slice_get bytes 0)))
+input_held : (bytes : List ℕ) → All (λ byte. byte < 256) bytes → IsHeldWord (Word (input_word (slice_get bytes 0)))
 input_held [] h = omega arith
 input_held (byte ∷ bytes) h = let small : byte < 256 = h 0 byte (omega arith) in omega (arith, small)
 
@@ -153,13 +152,13 @@ module _ (rooms : Rooms) (fs : List VmFunction) (n : ℕ) (ih : Simulates rooms 
 
   -- the byte that was put is the result
   byte_tail : (d : Option ℕ) (a k there : ℕ) (t : Temps) (u : World) → r a ≡ Word k → Placed f.blocks b (suc at) left → Standing (function_blocks f.params f.blocks) b there (byte_items d a ++ insns_items left) → slice_get fs g ≡ Some f
-      → ((j : ℕ) → t (Temp (temp_of j)) ≡ Plain (r j)) → ((j : ℕ) → IsHeld (r j)) → IsOrdinary u.outer
+      → ((j : ℕ) → t (Temp (temp_of j)) ≡ Plain (r j)) → ((j : ℕ) → IsHeldWord (r j)) → IsOrdinary u.outer
       → exec Value Registers rooms (vm_code (map code_of fs)) n (vm_conf rooms fs g b (suc at) own (set_registers (named_register d) (Word (k % 256) ∷ []) r) vs u) ≡ Over e →
       Reaches rooms fs (temp_conf rooms fs g b there own t ts u) e
   byte_tail None a k there t u is placed standing number holds held good q =
       ih g b (suc at) there own r t f left vs ts u e (record { number = number; placed = placed; standing = standing; holds = holds; held = held }) good waits defined q
   byte_tail (Some d) a k there t u is placed standing number holds held good q =
-      let small : k < 2 ^ 64 = subst IsHeld is (held a) in
+      let small : k < 2 ^ 64 = subst IsHeldWord is (held a) in
       let put : PutsValue t u.outer (temp_of d) (Word (k % 2 ^ 8 % 2 ^ 64 % 2 ^ 64)) (runs (widest_call (function_blocks f.params f.blocks)) (byte_items (Some d) a) own t u.outer) =
       conversions_done U8 S64 (widest_call (function_blocks f.params f.blocks)) own (temp_of d) (temp_of a) t u.outer (Word k) (of_register a) small (holds a ∙ ap Plain is) in
       put_tail rooms fs n ih g b (suc at) there own r t f left vs ts u e (byte_items (Some d) a) d (Word (k % 256)) number placed standing holds held good waits defined

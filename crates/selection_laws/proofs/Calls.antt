@@ -7,7 +7,7 @@ use Rattle.std.proofs.lemmas.List.{append_assoc, length-map}
 use Rattle.mem_model.specs.declared.value.Value.{Value}
 use Rattle.mem_model.specs.declared.value.Value.TheVariants.{Word, Address, Unset}
 use Rattle.mem_model.specs.World.{Meter, World, Rooms, enter_call, leave_call}
-use Rattle.mem_model.specs.Ending.{Ending, Done}
+use Rattle.mem_model.specs.Ending.{Ending, Done, IsDefined}
 use Rattle.machine_model.specs.Code.{Calls, Returns}
 use Rattle.machine_model.specs.Machine.{Frame, Over, world_of, begin_locals, end_locals, act_on, go_on, exec, resume, return_to, status_ending}
 use Rattle.suifvm_ir.specs.declared.insn.VmCallee.TheVariants as callee
@@ -28,11 +28,10 @@ use Rattle.alloc_model.specs.Effect.{Temp, Fixed, Outgoing, holder_eq, holders_r
 use Rattle.alloc_model.specs.Temporaries.{Temps, temp_site, temp_code}
 use Rattle.alloc_model.specs.Temporaries as alloc
 use Rattle.alpha_forms.specs.Straight.{After, runs}
-use Rattle.alpha_forms.specs.Registers.{IsHeld}
+use Rattle.alpha_forms.specs.Registers.{IsHeldWord}
 use Rattle.selection_code.specs.Instructions.{temp_of, pass_items, take_items, result_items}
 use Rattle.selection_code.specs.Functions.{insns_items, parameter_items, function_blocks}
 use Rattle.selection_laws.proofs.Plain.{plain_code}
-use Rattle.selection_laws.specs.Laws.{IsDefined}
 use Rattle.selection_laws.proofs.Memories.{bytes_begins, bytes_ends}
 use Rattle.selection_laws.proofs.Machines.{next_place, Standing, next_standing, site_there, comes_then, Came, straight}
 use Rattle.selection_laws.proofs.Arguments.{registers_and_places, out_order, never_out, fixed_out, out_temp, temp_out, Passed, passed, AllSet, Entered, enters}
@@ -70,7 +69,7 @@ arguments_are : (r : Registers) (s : Temps) (xs : List ℕ) → ((k : ℕ) → s
 arguments_are r s [] h = refl
 arguments_are r s (a ∷ xs) h = ap (λ c. c ∷ map (λ a. s (Temp (temp_of a))) xs) (h a) ∙ ap (λ cs. Plain (r a) ∷ cs) (arguments_are r s xs h)
 
-registers_held : (r : Registers) (xs : List ℕ) → ((k : ℕ) → IsHeld (r k)) → (k : ℕ) → IsHeld (registers_of (map r xs) k)
+registers_held : (r : Registers) (xs : List ℕ) → ((k : ℕ) → IsHeldWord (r k)) → (k : ℕ) → IsHeldWord (registers_of (map r xs) k)
 registers_held r [] h k = tt
 registers_held r (a ∷ xs) h zero = h a
 registers_held r (a ∷ xs) h (suc k) = registers_held r xs h k
@@ -83,7 +82,7 @@ module _ (rooms : Rooms) (fs : List VmFunction) where
 
   -- with as many arguments as it takes
   pub enter_function : (n : ℕ) → Simulates rooms fs n → (g own : ℕ) (us : List Value) (f : VmFunction) (vs : List (Frame Registers)) (ts : List (Frame Temps)) (w : World) (e : Ending) → slice_get fs g ≡ Some f → length us ≡ f.params
-      → AllSet us → ((k : ℕ) → IsHeld (registers_of us k)) → IsOrdinary w.outer → Waits rooms fs vs ts → IsDefined e
+      → AllSet us → ((k : ℕ) → IsHeldWord (registers_of us k)) → IsOrdinary w.outer → Waits rooms fs vs ts → IsDefined e
       → exec Value Registers rooms (vm_code (map code_of fs)) n (vm_conf rooms fs g 0 0 own (registers_of us) vs w) ≡ Over e →
       Reaches rooms fs (temp_conf rooms fs g 0 0 own (put_all holder_eq (entry_holders (length (map Plain us))) (map Plain us) empty) ts w) e
   enter_function n ih g own us f vs ts w e number count set held ordinary waits defined is = by_block (slice_get f.blocks 0) refl
@@ -175,7 +174,7 @@ module _ (rooms : Rooms) (fs : List VmFunction) where
     -- ---- returns
 
     -- to the caller, or with the status of the run
-    returned : (us : List Value) (there : ℕ) (number : ℕ) → IsHeld (first_or_unset us) → slice_get fs g ≡ Some f → (vs : List (Frame Registers)) (ts : List (Frame Temps)) → Waits rooms fs vs ts →
+    returned : (us : List Value) (there : ℕ) (number : ℕ) → IsHeldWord (first_or_unset us) → slice_get fs g ≡ Some f → (vs : List (Frame Registers)) (ts : List (Frame Temps)) → Waits rooms fs vs ts →
         go_on (return_to Value Registers rooms (vm_code (map code_of fs)) number us (world_of (end_locals w.outer own (length (sizes_in (slice_get (map code_of fs) g)))) (leave_call rooms g w.meter)) vs) (exec Value Registers rooms (vm_code (map code_of fs)) n) ≡ Over e →
         (at2 : ℕ) → NextReaches rooms fs (return_to Content Temps rooms (temp_code (map plain_code fs)) at2 (map Plain us) (world_of (end_locals w.outer own (length (alloc.sizes_in (slice_get (map plain_code fs) g)))) (leave_call rooms g w.meter)) ts) e
     returned us there number held is vs ts wait q at2 =

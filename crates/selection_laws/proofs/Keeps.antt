@@ -8,7 +8,7 @@ use Rattle.std.proofs.lemmas.List.Sums.{sum_by-cons}
 use Rattle.std.proofs.lemmas.Option.{same_Some, slice_get-map}
 use Rattle.mem_model.specs.declared.value.Value.{Value}
 use Rattle.mem_model.specs.World.{World, Rooms, enter_call}
-use Rattle.mem_model.specs.Ending.{Ending}
+use Rattle.mem_model.specs.Ending.{Ending, IsDefined}
 use Rattle.machine_model.specs.Machine.{Frame, Over, world_of, begin_locals, exec, start}
 use Rattle.machine_model.proofs.Runs.{one_ending}
 use Rattle.suifvm_ir.specs.declared.insn.VmBuiltin.TheVariants.{PutChar, GetChar, Abort, Exit}
@@ -32,7 +32,7 @@ use Rattle.value_tests.proofs.Lockstep.{tests_keep}
 use Rattle.value_tests.proofs.Functions.{tested_function, all_mapped, insns_kept}
 use Rattle.value_tests.proofs.Lawful.{all_lawful, codes_same, names_stay, mains_stay}
 use Rattle.selection_laws.proofs.Plain.{plain_code, selected_plain, fields_kept, has_meaning}
-use Rattle.selection_laws.specs.Laws.{IsDefined, SelectedPrograms}
+use Rattle.selection_laws.specs.Laws.{SelectedPrograms}
 use Rattle.selection_laws.proofs.Memories.{bytes_begins, start_has_bytes}
 use Rattle.selection_laws.proofs.Machines.{all_get, read_behind, Placed}
 use Rattle.selection_laws.proofs.Steps.{IsOrdinary, vm_conf, temp_conf, Here, Waits, none, Simulates, Reaches, lost, behind_block}

@@ -6,7 +6,7 @@ use Rattle.std.proofs.lemmas.Bool.{eqb-true}
 use Rattle.mem_model.specs.declared.value.Value.{Value}
 use Rattle.mem_model.specs.declared.value.Value.TheVariants.{Word}
 use Rattle.mem_model.specs.World.{World, Rooms}
-use Rattle.mem_model.specs.Ending.{Ending}
+use Rattle.mem_model.specs.Ending.{Ending, IsDefined}
 use Rattle.machine_model.specs.Machine.{Frame, Over, exec}
 use Rattle.suifvm_ir.specs.declared.types.VmType.{VmType}
 use Rattle.suifvm_ir.specs.declared.types.MemoryType.{MemoryType}
@@ -29,7 +29,7 @@ use Rattle.vm_meaning.specs.Operations.{when_value, place_address, loaded_answer
 use Rattle.vm_meaning.specs.Behave.{Registers, code_of, vm_code}
 use Rattle.alloc_model.specs.Effect.{widest_call}
 use Rattle.alloc_model.specs.Temporaries.{Temps}
-use Rattle.alpha_forms.specs.Registers.{IsHeld}
+use Rattle.alpha_forms.specs.Registers.{IsHeldWord}
 use Rattle.alpha_forms.specs.Laws.{UnaryIsDone, BinaryIsDone, ShiftIsDone, CompareIsDone}
 use Rattle.alpha_forms.proofs.Reading.{loads_done}
 use Rattle.alpha_forms.proofs.Storing.{stores_done}
@@ -40,7 +40,6 @@ use Rattle.alpha_forms.proofs.Others.{constants_loaded, addresses_loaded}
 use Rattle.alpha_copies.proofs.Copying.{copies_done}
 use Rattle.selection_code.specs.Instructions.{temp_of}
 use Rattle.selection_code.specs.Functions.{function_blocks}
-use Rattle.selection_laws.specs.Laws.{IsDefined}
 use Rattle.selection_laws.proofs.Values.{value_held, unary_held, convert_held, binary_held, shift_held, compare_held, load_held}
 use Rattle.selection_laws.proofs.Memories.{stored_bytes, copied_bytes}
 use Rattle.selection_laws.proofs.Steps.{of_register, IsOrdinary, vm_conf, temp_conf, Here, Waits, Simulates, Reaches, value_step, memory_step}
@@ -73,7 +72,7 @@ compare_done NotEqual = inequalities_done
 compare_done Less = less_done
 compare_done LessOrEqual = at_most_done
 
-place_held : (own : ℕ) (place : VmObject) (plus : ℕ) → IsHeld (place_address own place plus)
+place_held : (own : ℕ) (place : VmObject) (plus : ℕ) → IsHeldWord (place_address own place plus)
 place_held own (Global k) plus = tt
 place_held own (Local k) plus = tt
 

@@ -1,6 +1,6 @@
 -- The code of functions as they stand, which is the selected code of those whose branches do not test values yet.
 use Rattle.std.proofs.Common.{◌≡◌, List, [], ◌∷◌, map, refl, ap}
-use Rattle.mem_model.specs.Ending.{Ending, Done, Trap, Undefined, More}
+use Rattle.mem_model.specs.Ending.{Ending, Done, Trap, Undefined, More, IsDefined}
 use Rattle.suifvm_ir.specs.Programs.{VmFunction}
 use Rattle.suifvm_ir.specs.declared.insn.VmInsn.{VmInsn}
 use Rattle.suifvm_ir.specs.declared.insn.VmInsn.TheVariants as x
@@ -11,7 +11,6 @@ use Rattle.value_tests.proofs.Functions.{tested_function}
 use Rattle.selection_code.specs.Fields.{HasFields}
 use Rattle.selection_code.specs.Functions.{function_blocks}
 use Rattle.selection_laws.specs.Selected.{selected_code}
-use Rattle.selection_laws.specs.Laws.{IsDefined}
 
 abbrev pub plain_code : VmFunction → TemporaryCode
 plain_code f = record { sizes = map (λ o. o.size) f.objects; blocks = function_blocks f.params f.blocks }

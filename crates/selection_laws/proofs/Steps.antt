@@ -7,7 +7,7 @@ use Rattle.std.proofs.lemmas.Option.{slice_get-map}
 use Rattle.mem_model.specs.declared.value.Value.{Value}
 use Rattle.mem_model.specs.Memory.{Memory}
 use Rattle.mem_model.specs.World.{Outer, Meter, World, Rooms, outer_with_memory, take_turn}
-use Rattle.mem_model.specs.Ending.{Ending, Trap, Undefined, More}
+use Rattle.mem_model.specs.Ending.{Ending, Trap, Undefined, More, IsDefined}
 use Rattle.machine_model.specs.Code.{Traps, HasNoMeaning, Act, Writes, Stops}
 use Rattle.machine_model.specs.Machine.{Frame, Config, Next, Goes, Over, turn_if, act_on, step_with, step_at, step, go_on, exec}
 use Rattle.suifvm_ir.specs.declared.insn.VmCallee.TheVariants as callee
@@ -29,13 +29,12 @@ use Rattle.alloc_model.specs.Effect as temps
 use Rattle.alloc_model.specs.Temporaries.{Temps, temp_site, temp_code}
 use Rattle.alpha_forms.specs.Straight.{Ran, After, Halted, runs}
 use Rattle.alpha_forms.proofs.Runs.{put_here, put_beside}
-use Rattle.alpha_forms.specs.Registers.{IsOfRegister, IsHeld, HasBytes, PutsValue, ComesTo, ComesToMemory}
+use Rattle.alpha_forms.specs.Registers.{IsOfRegister, IsHeldWord, MemoryHasBytes, PutsValue, CodeAnswers, ComesToMemory}
 use Rattle.selection_code.specs.Instructions.{temp_of, insn_items, result_items}
 use Rattle.selection_code.specs.Functions.{insns_items, parameter_items, function_blocks}
 use Rattle.selection_laws.proofs.Plain.{plain_code}
-use Rattle.selection_laws.specs.Laws.{IsDefined}
 use Rattle.selection_laws.proofs.Values.{AnswerIsHeld}
-use Rattle.selection_laws.proofs.Memories.{MemoryHasBytes}
+use Rattle.selection_laws.proofs.Memories.{AnyMemoryHasBytes}
 use Rattle.selection_laws.proofs.Machines.{Placed, next_place, insn_there, read_end, Standing, site_there, site_behind, Comes, comes_then, comes_by, CameBehind, Came, straight}
 
 -- ---- numbers of temporaries
@@ -59,7 +58,7 @@ first_block params (block ∷ blocks) = refl
 -- ---- the outer part
 
 pub record IsOrdinary (o : Outer) : Type 0 where
-  pub memory : HasBytes o.memory
+  pub memory : MemoryHasBytes o.memory
   pub input : All (λ byte. byte < 256) o.input
 
 -- ---- endings
@@ -90,7 +89,7 @@ module _ (rooms : Rooms) (fs : List VmFunction) where
     pub placed : Placed f.blocks b at left
     pub standing : Standing (function_blocks f.params f.blocks) b place (insns_items left)
     pub holds : (k : ℕ) → s (Temp (temp_of k)) ≡ Plain (r k)
-    pub held : (k : ℕ) → IsHeld (r k)
+    pub held : (k : ℕ) → IsHeldWord (r k)
 
   -- those that wait stand at the same calls
   pub data Waits : List (Frame Registers) → List (Frame Temps) → Type 0 where
@@ -98,7 +97,7 @@ module _ (rooms : Rooms) (fs : List VmFunction) where
     more : (g b at place own : ℕ) (r : Registers) (s : Temps) (f : VmFunction) (d : Option ℕ) (h : ℕ) (arguments : List ℕ) (left : List VmInsn) (vs : List (Frame Registers)) (ts : List (Frame Temps)) →
         slice_get fs g ≡ Some f → Placed f.blocks b at (x.Call d (callee.Function h) arguments ∷ left) →
         Standing (function_blocks f.params f.blocks) b place (i.Call h (length arguments) ∷ (result_items d ++ insns_items left)) →
-        ((k : ℕ) → s (Temp (temp_of k)) ≡ Plain (r k)) → ((k : ℕ) → IsHeld (r k)) → Waits vs ts →
+        ((k : ℕ) → s (Temp (temp_of k)) ≡ Plain (r k)) → ((k : ℕ) → IsHeldWord (r k)) → Waits vs ts →
         Waits (record { point = record { function = g; block = b; at = at }; own = own; store = r } ∷ vs) (record { point = record { function = g; block = b; at = place }; own = own; store = s } ∷ ts)
 
   -- what a run of so many steps ends with, the selected code ends with
@@ -153,7 +152,7 @@ module _ (rooms : Rooms) (fs : List VmFunction) where
   -- ---- a block is entered from its start
 
   pub enter_block : (n : ℕ) → Simulates n → (g b own : ℕ) (r : Registers) (s : Temps) (f : VmFunction) (vs : List (Frame Registers)) (ts : List (Frame Temps)) (w : World) (e : Ending) → slice_get fs g ≡ Some f
-      → ((k : ℕ) → s (Temp (temp_of k)) ≡ Plain (r k)) → ((k : ℕ) → IsHeld (r k)) → IsOrdinary w.outer → Waits vs ts → IsDefined e
+      → ((k : ℕ) → s (Temp (temp_of k)) ≡ Plain (r k)) → ((k : ℕ) → IsHeldWord (r k)) → IsOrdinary w.outer → Waits vs ts → IsDefined e
       → exec Value Registers rooms (vm_code (map code_of fs)) n (vm_conf g (suc b) 0 own r vs w) ≡ Over e →
       Reaches (temp_conf g (suc b) 0 own s ts w) e
   enter_block n ih g b own r s f vs ts w e number holds held ordinary waits defined is = by_block (slice_get f.blocks (suc b)) refl
@@ -194,10 +193,10 @@ module _ (rooms : Rooms) (fs : List VmFunction) where
       by_test true e = ap (λ j. t (Temp (temp_of j))) (eqb-true k d e) ∙ put
       by_test false e = kept (temp_of k) (of_register k) (other_temp k d e) ∙ holds k
 
-  pub now_held : (d : ℕ) (v : Value) (r : Registers) → ((k : ℕ) → IsHeld (r k)) → IsHeld v → (k : ℕ) → IsHeld (set_register d v r k)
+  pub now_held : (d : ℕ) (v : Value) (r : Registers) → ((k : ℕ) → IsHeldWord (r k)) → IsHeldWord v → (k : ℕ) → IsHeldWord (set_register d v r k)
   now_held d v r held new k = by_test (k == d)
     where
-      by_test : (b : Bool) → IsHeld (if b then v else r k)
+      by_test : (b : Bool) → IsHeldWord (if b then v else r k)
       by_test true = new
       by_test false = held k
 
@@ -208,8 +207,8 @@ module _ (rooms : Rooms) (fs : List VmFunction) where
   -- code that puts a value into a register, past which both go on
   pub put_tail : (n : ℕ) → Simulates n → (g b at place own : ℕ) (r : Registers) (s : Temps) (f : VmFunction) (left : List VmInsn) (vs : List (Frame Registers)) (ts : List (Frame Temps)) (w : World) (e : Ending)
       (xs : List TempInsn) (d : ℕ) (v : Value) → slice_get fs g ≡ Some f → Placed f.blocks b at left → Standing (function_blocks f.params f.blocks) b place (xs ++ insns_items left)
-      → ((k : ℕ) → s (Temp (temp_of k)) ≡ Plain (r k)) → ((k : ℕ) → IsHeld (r k)) → IsOrdinary w.outer → Waits vs ts → IsDefined e
-      → PutsValue s w.outer (temp_of d) v (runs (widest_call (function_blocks f.params f.blocks)) xs own s w.outer) → IsHeld v
+      → ((k : ℕ) → s (Temp (temp_of k)) ≡ Plain (r k)) → ((k : ℕ) → IsHeldWord (r k)) → IsOrdinary w.outer → Waits vs ts → IsDefined e
+      → PutsValue s w.outer (temp_of d) v (runs (widest_call (function_blocks f.params f.blocks)) xs own s w.outer) → IsHeldWord v
       → exec Value Registers rooms (vm_code (map code_of fs)) n (vm_conf g b at own (set_register d v r) vs w) ≡ Over e →
       Reaches (temp_conf g b place own s ts w) e
   put_tail n ih g b at place own r s f left vs ts w e xs d v number placed standing holds held ordinary waits defined comes new is =
@@ -228,8 +227,8 @@ module _ (rooms : Rooms) (fs : List VmFunction) where
   -- what a call left in register 0 is put into its register, if one is named
   pub result_tail : (n : ℕ) → Simulates n → (g b at place own : ℕ) (r : Registers) (s : Temps) (f : VmFunction) (left : List VmInsn) (vs : List (Frame Registers)) (ts : List (Frame Temps)) (w : World) (e : Ending)
       (d : Option ℕ) (us : List Value) → slice_get fs g ≡ Some f → Placed f.blocks b at left → Standing (function_blocks f.params f.blocks) b place (result_items d ++ insns_items left)
-      → ((k : ℕ) → s (Temp (temp_of k)) ≡ Plain (r k)) → ((k : ℕ) → IsHeld (r k)) → IsOrdinary w.outer → Waits vs ts → IsDefined e
-      → s (Fixed 0) ≡ Plain (first_or_unset us) → IsHeld (first_or_unset us)
+      → ((k : ℕ) → s (Temp (temp_of k)) ≡ Plain (r k)) → ((k : ℕ) → IsHeldWord (r k)) → IsOrdinary w.outer → Waits vs ts → IsDefined e
+      → s (Fixed 0) ≡ Plain (first_or_unset us) → IsHeldWord (first_or_unset us)
       → exec Value Registers rooms (vm_code (map code_of fs)) n (vm_conf g b at own (set_registers (named_register d) us r) vs w) ≡ Over e →
       Reaches (temp_conf g b place own s ts w) e
   result_tail n ih g b at place own r s f left vs ts w e None us number placed standing holds held ordinary waits defined answer new is =
@@ -276,7 +275,7 @@ module _ (rooms : Rooms) (fs : List VmFunction) where
         (straight rooms (map plain_code fs) g b own ts w.meter (plain_code f) (temp_number g f h.number) (insn_items y) (insns_items left) place s w.outer h.standing)
 
     pub value_step : (d : ℕ) (a : Answer) → takes_turn y ≡ false → writes_of y ≡ d ∷ [] → does y own (map r (reads_of y)) w.outer ≡ writes a w.outer →
-        ComesTo s w.outer (temp_of d) a (runs (widest_call (function_blocks f.params f.blocks)) (insn_items y) own s w.outer) → AnswerIsHeld a → Reaches (temp_conf g b place own s ts w) e
+        CodeAnswers s w.outer (temp_of d) a (runs (widest_call (function_blocks f.params f.blocks)) (insn_items y) own s w.outer) → AnswerIsHeld a → Reaches (temp_conf g b place own s ts w) e
     value_step d (Gives v) turn one act comes new =
         let registers : set_registers (writes_of y) (v ∷ []) r ≡ set_register d v r = one_register (writes_of y) d v r one in
         put_tail n ih g b (suc at) place own r s f left vs ts w e (insn_items y) d v h.number (next_place f.blocks b at y left h.placed) h.standing h.holds h.held ordinary waits defined comes new
@@ -290,7 +289,7 @@ module _ (rooms : Rooms) (fs : List VmFunction) where
     -- ---- and those that change the memory
 
     pub memory_step : (q : Option Memory) → takes_turn y ≡ false → writes_of y ≡ [] → does y own (map r (reads_of y)) w.outer ≡ changes q w.outer →
-        ComesToMemory s w.outer q (runs (widest_call (function_blocks f.params f.blocks)) (insn_items y) own s w.outer) → MemoryHasBytes q → Reaches (temp_conf g b place own s ts w) e
+        ComesToMemory s w.outer q (runs (widest_call (function_blocks f.params f.blocks)) (insn_items y) own s w.outer) → AnyMemoryHasBytes q → Reaches (temp_conf g b place own s ts w) e
     memory_step (Some m) turn none_ act comes new =
         let u : World = record { outer = outer_with_memory w.outer m; meter = w.meter } in
         let c = came (After comes.after (outer_with_memory w.outer m)) comes.goes_on in

@@ -32,7 +32,7 @@ use Rattle.suifvm_ir.specs.declared.insn.CompareOp.{CompareOp}
 use Rattle.vm_meaning.specs.declared.answer.Answer.{Answer}
 use Rattle.vm_meaning.specs.declared.answer.Answer.TheVariants.{Gives, TrapsWith, Fails}
 use Rattle.vm_meaning.specs.Operations.{is_value_of, when_value, outcome_answer, value_answer, distance_answer, test_answer, on_number, on_numbers, unary_number, unary_answer, unary_pointer, conversion_answer, convert_answer, memory_integer, integer_of, binary_number, pointer_answer, binary_answer, with_sign, without_sign, shift_number, shift_by, shift_answer, comparison_answer, compare_answer, compare_number, extended_value, load_answer, load_through, loaded_answer, access_bytes}
-use Rattle.alpha_forms.specs.Registers.{IsHeld}
+use Rattle.alpha_forms.specs.Registers.{IsHeldWord}
 use Rattle.mem_model.specs.Cells.{pointer_of, first_pointer, cells_eq, bytes_of, parts_of, is_empty, value_of, value_or_fault}
 use Rattle.mem_model.specs.Memory.{read_fault, unless, row_at}
 use Rattle.mem_model.specs.declared.value.Cell.{Cell}
@@ -41,7 +41,7 @@ use Rattle.std.specs.Prelude.{option_and_then, ok_or}
 
 -- where there is a value, it is held
 abbrev pub AnswerIsHeld : Answer → Type 0
-AnswerIsHeld (Gives v) = IsHeld v
+AnswerIsHeld (Gives v) = IsHeldWord v
 AnswerIsHeld (TrapsWith code) = Unit {0}
 AnswerIsHeld Fails = Unit {0}
 
@@ -77,7 +77,7 @@ numbers_held : (t : IntegerType) (a b : Value) (f : IntegerType → (x y : ℕ) 
 numbers_held t a b f h =
     number_held t a (λ u x. on_number (Some t) b (λ r y. f u x y)) (λ x e. number_held t b (λ r y. f t x y) (λ y k. h x y))
 
-pub value_held : (ty : VmType) (v : Value) → IsHeld v → AnswerIsHeld (when_value ty v)
+pub value_held : (ty : VmType) (v : Value) → IsHeldWord v → AnswerIsHeld (when_value ty v)
 value_held ty v h = by_type (is_value_of ty v)
   where
     by_type : (b : Bool) → AnswerIsHeld (if b then Gives v else Fails)
@@ -91,12 +91,12 @@ unary_number_held Move t n e = word_held t n e
 unary_number_held Negate t n e = outcome_held t (c.negation t n) (negation-word t n)
 unary_number_held Complement t n e = extension-below t _
 
-unary_pointer_held : (op : VmUnaryOp) (v : Value) → IsHeld v → AnswerIsHeld (unary_pointer op v)
+unary_pointer_held : (op : VmUnaryOp) (v : Value) → IsHeldWord v → AnswerIsHeld (unary_pointer op v)
 unary_pointer_held Move v h = value_held P64 v h
 unary_pointer_held Negate v h = tt
 unary_pointer_held Complement v h = tt
 
-pub unary_held : (op : VmUnaryOp) (ty : VmType) (v : Value) → IsHeld v → AnswerIsHeld (unary_answer op ty v)
+pub unary_held : (op : VmUnaryOp) (ty : VmType) (v : Value) → IsHeldWord v → AnswerIsHeld (unary_answer op ty v)
 unary_held op S32 v h = number_held Int v (unary_number op) (unary_number_held op Int)
 unary_held op U32 v h = number_held UnsignedInt v (unary_number op) (unary_number_held op UnsignedInt)
 unary_held op S64 v h = number_held Long v (unary_number op) (unary_number_held op Long)
@@ -181,42 +181,42 @@ compare_held m op P64 a b = test_held _
 -- ---- loads
 
 -- a pointer is loaded as an address or as null
-pointer_value : (cells : List Cell) (v : Value) → pointer_of cells ≡ Some v → IsHeld v
+pointer_value : (cells : List Cell) (v : Value) → pointer_of cells ≡ Some v → IsHeldWord v
 unfolding pointer_of
 pointer_value cells v e = by_null (cells_eq cells (bytes_of 8 0)) e
   where
-    of_word : Some (Word 0) ≡ Some v → IsHeld v
-    of_word h = subst IsHeld (same_Some (Word 0) v h) (omega arith)
+    of_word : Some (Word 0) ≡ Some v → IsHeldWord v
+    of_word h = subst IsHeldWord (same_Some (Word 0) v h) (omega arith)
 
-    by_parts : (p : Ptr) (b : Bool) → (if b then Some (Address p) else None) ≡ Some v → IsHeld v
-    by_parts p true h = subst IsHeld (same_Some (Address p) v h) tt
+    by_parts : (p : Ptr) (b : Bool) → (if b then Some (Address p) else None) ≡ Some v → IsHeldWord v
+    by_parts p true h = subst IsHeldWord (same_Some (Address p) v h) tt
     by_parts p false h = absurd (none-some v h)
 
-    by_first : (q : Option Ptr) → option_and_then (λ p. if cells_eq cells (parts_of p) then Some (Address p) else None) q ≡ Some v → IsHeld v
+    by_first : (q : Option Ptr) → option_and_then (λ p. if cells_eq cells (parts_of p) then Some (Address p) else None) q ≡ Some v → IsHeldWord v
     by_first None h = absurd (none-some v h)
     by_first (Some p) h = by_parts p (cells_eq cells (parts_of p)) h
 
-    by_null : (b : Bool) → (if b then Some (Word 0) else option_and_then (λ p. if cells_eq cells (parts_of p) then Some (Address p) else None) (first_pointer cells)) ≡ Some v → IsHeld v
+    by_null : (b : Bool) → (if b then Some (Word 0) else option_and_then (λ p. if cells_eq cells (parts_of p) then Some (Address p) else None) (first_pointer cells)) ≡ Some v → IsHeldWord v
     by_null true h = of_word h
     by_null false h = by_first (first_pointer cells) h
 
-pointer_loaded : (m : Memory) (p : Ptr) (v : Value) → load_at m p 8 true ≡ Ok v → IsHeld v
+pointer_loaded : (m : Memory) (p : Ptr) (v : Value) → load_at m p 8 true ≡ Ok v → IsHeldWord v
 unfolding load_at value_or_fault
 pointer_loaded m p v = by_fault (read_fault m p 8 8)
   where
-    of_value : (r : Option Value) → pointer_of (row_at m p 8) ≡ r → ok_or r PartPointer ≡ Ok v → IsHeld v
+    of_value : (r : Option Value) → pointer_of (row_at m p 8) ≡ r → ok_or r PartPointer ≡ Ok v → IsHeldWord v
     of_value (Some w) is e = let same : w ≡ v = cc in pointer_value (row_at m p 8) v (is ∙ ap Some same)
     of_value None is e = absurd cc
 
-    by_empty : (b : Bool) → (if b then Err Never else ok_or (value_of true (row_at m p 8)) PartPointer) ≡ Ok v → IsHeld v
+    by_empty : (b : Bool) → (if b then Err Never else ok_or (value_of true (row_at m p 8)) PartPointer) ≡ Ok v → IsHeldWord v
     by_empty true e = absurd cc
     by_empty false e = of_value (pointer_of (row_at m p 8)) refl e
 
-    by_fault : (f : Option MemFault) → unless f (value_or_fault true (row_at m p 8)) ≡ Ok v → IsHeld v
+    by_fault : (f : Option MemFault) → unless f (value_or_fault true (row_at m p 8)) ≡ Ok v → IsHeldWord v
     by_fault (Some f) e = absurd cc
     by_fault None e = by_empty (list_any is_empty (row_at m p 8)) e
 
-extended_held : (t : IntegerType) (v : Value) → IsHeld (extended_value (Some t) v)
+extended_held : (t : IntegerType) (v : Value) → IsHeldWord (extended_value (Some t) v)
 extended_held t (Word n) = extension-below t n
 extended_held t (Address p) = tt
 extended_held t Unset = tt

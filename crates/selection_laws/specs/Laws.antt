@@ -1,17 +1,12 @@
 -- Selection keeps the meaning.
 use Rattle.std.specs.Prelude.{◌≡◌, ℕ, ◌<◌, List, All}
 use Rattle.mem_model.specs.World.{Rooms}
-use Rattle.mem_model.specs.Ending.{Ending, Undefined}
+use Rattle.mem_model.specs.Ending.{Ending, IsDefined}
 use Rattle.suifvm_ir.specs.declared.program.VmProgram.{VmProgram}
 use Rattle.temp_ir.specs.declared.program.TempProgram.{TempProgram}
 use Rattle.vm_meaning.specs.Behave.{behave_vm}
 use Rattle.alloc_model.specs.Temporaries.{TempsEnd}
 use Rattle.selection_laws.specs.Selected.{IsSelected}
-
--- an ending that is not for want of a meaning
-abbrev pub IsDefined : Ending → Type 0
-IsDefined (Undefined w at) = ⊥
-IsDefined _ = Unit {0}
 
 -- a run over temporaries ends so, and in no other way
 pub record EndsSo (rooms : Rooms) (program : TempProgram) (input : List ℕ) (turns : ℕ) (e : Ending) : Type 0 where

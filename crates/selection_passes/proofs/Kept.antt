@@ -1,9 +1,7 @@
 -- Endings that are alike are the same where one of them is defined.
 use Rattle.std.proofs.Common.{◌≡◌, sym, subst}
-use Rattle.mem_model.specs.Ending.{Ending, Done, Trap, Undefined, More}
+use Rattle.mem_model.specs.Ending.{Ending, Done, Trap, Undefined, More, IsDefined, SameEnding}
 use Rattle.alloc_model.specs.Temporaries.{TempsEnd}
-use Rattle.selection_laws.specs.Laws.{IsDefined}
-use Rattle.temp_walk_laws.specs.SameRuns.{SameEnding}
 use Rattle.temp_walk_laws.proofs.Law.{law}
 use Rattle.selection_passes.specs.Laws.{SelectionsStayKept}
 

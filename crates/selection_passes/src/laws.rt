@@ -2,8 +2,8 @@
 
 ghost use Rattle.selection_passes.specs.Laws.{SelectionsStayKept};
 
-/// Where a program over temporaries ends as one over virtual registers, so does one whose functions have the same walks,
-/// as passes over blocks give it.
+/// Where a program over temporaries ends as one over virtual registers, so does one whose functions have the same
+/// walks, as passes over blocks give it.
 pub fn selections_stay_kept()
     ensures { SelectionsStayKept }
 {}

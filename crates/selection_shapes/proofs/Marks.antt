@@ -17,7 +17,7 @@ use Rattle.temp_ir.specs.Programs.{begins_with_mark, first_is_mark, goes_back_to
 use Rattle.alpha_forms.specs.Operations.{branch_op}
 use Rattle.selection_code.specs.Instructions.{temp_of, insn_items}
 use Rattle.selection_code.specs.Functions.{insns_items, parameter_items, function_blocks}
-use Rattle.selection_shapes.specs.Shapes.{MarksAreKept}
+use Rattle.selection_shapes.specs.Shapes.{SelectionKeepsMarks}
 use Rattle.selection_shapes.proofs.Lists.{both, all_nil, all_more, all_first, all_rest, all_append}
 use Rattle.selection_shapes.proofs.Plain.{is_plain, are_plain, takes_plain}
 use Rattle.selection_shapes.proofs.Shaped.{straight_plain, plain_is}
@@ -133,7 +133,7 @@ blocks_at P params blocks of behind (suc k) code e = by_block (slice_get blocks 
     by_block None there f = absurd (none-some code f)
     by_block (Some insns) there f = subst (P (suc k)) (same_Some (insns_items insns) code f) (of (suc k) insns there)
 
-pub marks_kept : MarksAreKept
+pub marks_kept : SelectionKeepsMarks
 marks_kept f marks k code there =
     blocks_at (λ b code. All (λ z. IsTrue (goes_back_to_marks (function_blocks f.params f.blocks) b z)) code) f.params f.blocks
     (λ b block at. insns_back f.params f.blocks b block (all_get (All (GoesToBlocks insns.targets_of (length f.blocks))) f.blocks b block f.targets at) (marks b block at))

@@ -24,7 +24,7 @@ use Rattle.alpha_forms.specs.Operations.{binary_items}
 use Rattle.selection_shapes.proofs.Lists.{both, all_nil, all_more, all_first, all_rest, all_append}
 use Rattle.selection_code.specs.Instructions.{temp_of, argument_register, pass_item, pass_items, take_item, take_items, result_items, byte_items, put_char_items, exit_items, builtin_items, call_items, return_items, insn_items}
 use Rattle.selection_code.specs.Functions.{insns_items, parameter_items, function_blocks}
-use Rattle.selection_shapes.specs.Shapes.{NamesAreThere}
+use Rattle.selection_shapes.specs.Shapes.{SelectedNamesAreThere}
 use Rattle.selection_shapes.proofs.Plain.{is_nameless, is_simple, is_plain, are_simple, constant_simple, load_simple, store_simple, parts_simple, shift_simple, compare_simple, convert_simple}
 
 abbrev are_nameless : List TempInsn → Bool
@@ -171,5 +171,5 @@ module _ (fs : List vm.VmFunction) (ts : List TempFn) (globals : List DataObject
       (all_append There (parameter_items params) (insns_items block) (nameless_there (parameter_items params) (takes_nameless 0 params)) (insns_there block (all_first (All (λ y. IsTrue (vm.names_what_is_there fs globals objects y))) block blocks h)))
       (others_there blocks (all_rest (All (λ y. IsTrue (vm.names_what_is_there fs globals objects y))) block blocks h))
 
-pub names_there : NamesAreThere
+pub names_there : SelectedNamesAreThere
 names_there fs ts globals f same h = blocks_there fs ts globals f.objects same f.params f.blocks h

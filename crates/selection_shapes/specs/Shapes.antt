@@ -31,8 +31,8 @@ abbrev pub FunctionsAreSettled : Type 0
 FunctionsAreSettled = (f : VmFunction) → IsTrue (is_settled f.params (function_blocks f.params f.blocks))
 
 -- a jump back goes to a block that begins with a mark, where each of the function does
-abbrev pub MarksAreKept : Type 0
-MarksAreKept =
+abbrev pub SelectionKeepsMarks : Type 0
+SelectionKeepsMarks =
     (f : VmFunction) →
     ((b : ℕ) (insns : List VmInsn) → slice_get f.blocks b ≡ Some insns →
     All (λ y. IsTrue (vm.goes_back_to_marks f.blocks b y)) insns) →
@@ -40,8 +40,8 @@ MarksAreKept =
     All (λ z. IsTrue (goes_back_to_marks (function_blocks f.params f.blocks) b z)) code
 
 -- what the blocks name is there, where that of the function is and functions take as many arguments as before
-abbrev pub NamesAreThere : Type 0
-NamesAreThere =
+abbrev pub SelectedNamesAreThere : Type 0
+SelectedNamesAreThere =
     (fs : List VmFunction) (ts : List TempFn) (globals : List DataObject) (f : VmFunction) →
     ((k count : ℕ) → vm.function_takes count (slice_get fs k) ≡ true → function_takes count (slice_get ts k) ≡ true) →
     AllInsns (λ y. IsTrue (vm.names_what_is_there fs globals f.objects y)) f.blocks →

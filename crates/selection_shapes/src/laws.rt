@@ -1,6 +1,6 @@
 //! The laws, each the contract of a function that does nothing.
 
-ghost use Rattle.selection_shapes.specs.Shapes.{BlocksAreShaped, RegistersAreUsed, FunctionsAreSettled, MarksAreKept, NamesAreThere};
+ghost use Rattle.selection_shapes.specs.Shapes.{BlocksAreShaped, RegistersAreUsed, FunctionsAreSettled, SelectionKeepsMarks, SelectedNamesAreThere};
 
 /// Targets are blocks other than the entry, what goes elsewhere stands last in its block, and nothing runs off the end.
 pub fn blocks_are_shaped()
@@ -19,10 +19,10 @@ pub fn functions_are_settled()
 
 /// A jump back goes to a block that begins with a mark, where each of the function does.
 pub fn marks_are_kept()
-    ensures { MarksAreKept }
+    ensures { SelectionKeepsMarks }
 {}
 
 /// What the blocks name is there, where what the function names is.
 pub fn names_are_there()
-    ensures { NamesAreThere }
+    ensures { SelectedNamesAreThere }
 {}

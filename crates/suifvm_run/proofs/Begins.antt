@@ -16,7 +16,7 @@ use Rattle.suifvm_run.specs.declared.machine.Stop.TheVariants as stop
 use Rattle.suifvm_run.specs.declared.machine.NoStart.TheVariants as no_start
 use Rattle.suifvm_run.specs.declared.tables.FunctionTable.{FunctionTable}
 use Rattle.suifvm_run.specs.declared.tables.ProgramTable.{ProgramTable}
-use Rattle.vm_operations.specs.Tidy.{IsTidy}
+use Rattle.vm_operations.specs.Tidy.{MemoryIsTidy}
 use Rattle.suifvm_run.specs.model.Begin.{start_at, first_hidden, Begins, HasNoStart}
 use Rattle.suifvm_run.specs.model.Config.{Wait, config_of, frames_of}
 use Rattle.suifvm_run.specs.model.Tables.{functions_of, AreNumbered}
@@ -30,7 +30,7 @@ module _ (m : Machine) (main turns : ℕ) (old : Memory) (made : ℕ)
     (made_is : made ≡ length old)
     (more : m.made ≡ made + length m.here.table.now.objects.now)
     (few : made + length m.here.table.now.objects.now ≤ 2 ^ 63)
-    (tidy : IsTidy m.memory)
+    (tidy : MemoryIsTidy m.memory)
     (memory : m.memory ≡ begin_objects old (map (λ o. o.size) m.here.table.now.objects.now))
     (stack : m.stack.items ≡ [])
     (callers : m.callers.items ≡ [])

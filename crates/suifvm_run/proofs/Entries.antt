@@ -18,7 +18,7 @@ use Rattle.suifvm_run.specs.declared.machine.Machine.{Machine}
 use Rattle.suifvm_run.specs.declared.machine.Stop.TheVariants as stop
 use Rattle.suifvm_run.specs.declared.machine.Turn.TheVariants as turn
 use Rattle.suifvm_run.specs.model.Config.{Hidden, Wait, IsSound, TurnIs, config_of, frame_of, frames_of, program_of, world_in, act_there}
-use Rattle.vm_operations.specs.Tidy.{IsTidy}
+use Rattle.vm_operations.specs.Tidy.{MemoryIsTidy}
 use Rattle.suifvm_run.specs.declared.tables.FunctionTable.{FunctionTable}
 use Rattle.suifvm_run.proofs.Turns.{unwaited}
 use Rattle.suifvm_run.proofs.Sites.{sizes_are, site_past, site_missing, number_past, number_missing}
@@ -31,7 +31,7 @@ module _ (m new : Machine) (k : ℕ) (vs : List Value) (i : VmInsn) (sound : IsS
     (row : slice_get new.here.table.now.blocks.items 0 ≡ Some new.here.row.now)
     (made : new.made ≡ m.made + length new.here.table.now.objects.now)
     (few : m.made + length new.here.table.now.objects.now ≤ 2 ^ 63)
-    (tidy : IsTidy new.memory)
+    (tidy : MemoryIsTidy new.memory)
     (memory : new.memory ≡ begin_objects m.memory (map (λ o. o.size) new.here.table.now.objects.now))
     (stack : new.stack.items ≡ m.stack.items ++ vs)
     (callers : new.callers.items ≡ m.callers.items ++ m.here ∷ [])

@@ -3,7 +3,7 @@ use Rattle.std.proofs.Common.{◌≡◌, ℕ, suc, ◌+◌, List, [], ◌∷◌,
 use Rattle.std.specs.Prelude.{slice_get}
 use Rattle.std.proofs.Math.Numerals.{add-one}
 use Rattle.bk_memory.specs.Shortage.{MemoryIsShort}
-use Rattle.bk_io.specs.Outside.{next_count, taken_with}
+use Rattle.bk_io.specs.Outside.{next_count, taken_with, Traffic, count_plus}
 use Rattle.mem_model.specs.declared.value.Value.{Value}
 use Rattle.mem_model.specs.declared.value.Value.TheVariants.{Word}
 use Rattle.mem_model.specs.World.{World, Rooms}
@@ -23,7 +23,7 @@ use Rattle.suifvm_run.specs.declared.tables.ProgramTable.{ProgramTable}
 use Rattle.suifvm_run.specs.model.Config.{Hidden, TurnIs, Wrote, GoesTo, EndsBy, ending_by, config_of, world_in, step_there, with_byte, with_taken, wrote}
 use Rattle.suifvm_run.specs.model.Tables.{functions_of}
 use Rattle.suifvm_run.specs.model.Progress.{run_from, StandsAt, TurnEnds, stop_ending}
-use Rattle.suifvm_run.specs.Run.{Steps, Traffic, GoesOn, count_plus, input_calls}
+use Rattle.suifvm_run.specs.Run.{Steps, GoesOn, input_calls}
 use Rattle.suifvm_run.specs.model.Stops.{EndsWith, StopsAs, IsRun}
 
 -- a count that rises once more

@@ -18,7 +18,7 @@ use Rattle.suifvm_run.specs.declared.machine.Stop.{Stop}
 use Rattle.suifvm_run.specs.declared.machine.Turn.TheVariants as turn
 use Rattle.suifvm_run.specs.model.Config.{Hidden, Wait, IsSound, TurnIs, Wrote, config_of, frame_of, frames_of, point_of, program_of, world_in, act_there, wrote, ending_by, ends_with}
 use Rattle.suifvm_run.specs.model.Tables.{block_insns}
-use Rattle.vm_operations.specs.Tidy.{IsTidy}
+use Rattle.vm_operations.specs.Tidy.{MemoryIsTidy}
 use Rattle.suifvm_run.proofs.Sites.{sizes_are, site_there}
 use Rattle.suifvm_run.proofs.Turns.{number_here}
 
@@ -86,7 +86,7 @@ module _ (m mid : Machine) (sound : IsSound m)
     (callers : m.callers.items ≡ mid.callers.items ++ mid.here ∷ [])
     (stack : mid.stack.items ≡ take m.here.base m.stack.items)
     (memory : mid.memory ≡ end_objects m.memory m.here.own (length m.here.table.now.objects.now))
-    (tidy : IsTidy mid.memory)
+    (tidy : MemoryIsTidy mid.memory)
     (only : mid ≡ record m { memory = mid.memory; callers = mid.callers; stack = mid.stack; here = mid.here })
   where
     waiting : reverse m.callers.items ≡ mid.here ∷ reverse mid.callers.items

@@ -20,7 +20,7 @@ use Rattle.suifvm_run.specs.declared.machine.Stop.TheVariants as stop
 use Rattle.suifvm_run.specs.declared.machine.Turn.{Turn}
 use Rattle.suifvm_run.specs.declared.machine.Turn.TheVariants as turn
 use Rattle.suifvm_run.specs.model.Config.{Hidden, Wait, IsSound, SameTraffic, ShowsAs, Comes, TurnIs, Wrote, config_of, world_in, frames_of, point_of, program_of, act_there, at_block, ending_by, wrote}
-use Rattle.vm_operations.specs.Tidy.{IsTidy}
+use Rattle.vm_operations.specs.Tidy.{MemoryIsTidy}
 use Rattle.suifvm_run.proofs.Sites.{number_there, number_past, site_past}
 
 pub unwaited : (let b : Bool = false in b ≡ true) → ⊥
@@ -190,7 +190,7 @@ module _ (m new : Machine) (block : ℕ) (sound : IsSound m) where
 
 -- ---- the memory is another one
 
-pub changed_turn : (m mid new : Machine) (i : VmInsn) (memory : Option Memory) → IsSound m → m.here.at < length m.here.row.now.insns.items → IsTidy mid.memory → length mid.memory ≡ length m.memory → mid ≡ record m { memory = mid.memory } → new ≡ record mid { here = record mid.here { at = mid.here.at + 1 } } → memory ≡ Some mid.memory → writes_of i ≡ [] → TurnIs m new turn.Goes (λ rooms h. act_there rooms m h i (changes memory (world_in m h).outer))
+pub changed_turn : (m mid new : Machine) (i : VmInsn) (memory : Option Memory) → IsSound m → m.here.at < length m.here.row.now.insns.items → MemoryIsTidy mid.memory → length mid.memory ≡ length m.memory → mid ≡ record m { memory = mid.memory } → new ≡ record mid { here = record mid.here { at = mid.here.at + 1 } } → memory ≡ Some mid.memory → writes_of i ≡ [] → TurnIs m new turn.Goes (λ rooms h. act_there rooms m h i (changes memory (world_in m h).outer))
 changed_turn m mid new i memory sound place tidy count mid_is new_is is none =
     subst (λ (k : Machine). TurnIs m k turn.Goes (λ rooms h. act_there rooms m h i (changes memory (world_in m h).outer))) (sym same) (record {
       sound = λ goes. record {

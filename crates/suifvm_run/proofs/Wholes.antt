@@ -15,7 +15,8 @@ use Rattle.suifvm_run.specs.declared.machine.Machine.{Machine}
 use Rattle.suifvm_run.specs.declared.machine.Stop.{Stop}
 use Rattle.suifvm_run.specs.declared.machine.NoStart.TheVariants as no_start
 use Rattle.suifvm_run.specs.declared.tables.ProgramTable.{ProgramTable}
-use Rattle.suifvm_run.specs.Run.{Steps, Traffic, VmBehaves, Stops, run_of, count_plus}
+use Rattle.suifvm_run.specs.Run.{Steps, VmBehaves, Stops, run_of}
+use Rattle.bk_io.specs.Outside.{Traffic, count_plus}
 use Rattle.suifvm_run.specs.model.Begin.{start_at, first_hidden, Begins, HasNoStart, IsOverAtOnce}
 use Rattle.suifvm_run.specs.model.Progress.{run_from, StandsAt, stop_ending}
 use Rattle.suifvm_run.specs.model.Stops.{IsRun, StopsAs}

@@ -1,7 +1,7 @@
 -- What a run of a program does, by its meaning.
 use Rattle.std.specs.Prelude.{◌≡◌, ℕ, zero, suc, ◌+◌, List, ◌++◌, [], ◌∷◌, map, Option, Some, option_map}
 use Rattle.bk_memory.specs.Shortage.{MemoryIsShort}
-use Rattle.bk_io.specs.Outside.{next_count}
+use Rattle.bk_io.specs.Outside.{next_count, count_plus, Traffic}
 use Rattle.mem_model.specs.World.{World, Rooms}
 use Rattle.mem_model.specs.Ending.{Done, Trap, Undefined, More}
 use Rattle.machine_model.specs.Laws.{next_world}
@@ -10,11 +10,6 @@ use Rattle.suifvm_ir.specs.declared.program.VmProgram.{VmProgram}
 use Rattle.vm_meaning.specs.Behave.{Registers, behave_vm, vm_run, code_of, main_of, start_world}
 use Rattle.suifvm_run.specs.declared.ending.VmEnding.{VmEnding}
 use Rattle.suifvm_run.specs.declared.ending.VmEnding.TheVariants as e
-
--- n more on a count, which stays at its end
-abbrev pub count_plus : ℕ → ℕ → ℕ
-count_plus zero count = count
-count_plus (suc n) count = next_count (count_plus n count)
 
 -- how often the input was asked: once for each byte taken, and once where it failed
 abbrev pub input_calls : VmEnding → (takings : ℕ) → ℕ
@@ -58,12 +53,6 @@ Stops rooms program input turns (e.Budget n) last = (n ≡ turns) × behave_vm r
 Stops rooms program input turns e.InputFault last = TakesNext (run_of rooms program input turns) last
 Stops rooms program input turns e.WriteFault last = PutsNext (run_of rooms program input turns) last
 Stops rooms program input turns e.NoMemory last = GoesOn (run_of rooms program input turns) last × MemoryIsShort
-
--- what the input and the output tell
-pub record Traffic : Type 0 where
-  pub left : Option (List ℕ)
-  pub made : Option ℕ
-  pub taken : Option (List ℕ)
 
 -- the run of a program on an input with so many turns that stopped: how, and what it did to the input and the output
 pub record VmBehaves (rooms : Rooms) (program : VmProgram) (input : List ℕ) (turns : ℕ) (ending : VmEnding)

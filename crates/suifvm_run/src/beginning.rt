@@ -2,7 +2,7 @@
 
 ghost use Rattle.std.specs.Prelude.{◌≡◌, ◌+◌, ◌≤◌, ◌^◌, length, map, IfOk, IfErr, OnOk};
 ghost use Rattle.mem_model.specs.Memory as mem;
-ghost use Rattle.vm_operations.specs.Tidy.{IsTidy};
+ghost use Rattle.vm_operations.specs.Tidy.{MemoryIsTidy};
 ghost use Rattle.suifvm_run.specs.model.Begin.{Begins, HasNoStart};
 ghost use Rattle.suifvm_run.specs.model.Tables.{AreNumbered};
 
@@ -20,10 +20,10 @@ pub(crate) fn begin_locals(
     made: u64,
     objects: &[MemoryLocal],
 ) -> Result<(), AllocError>
-    requires { IsTidy memory.old }
+    requires { MemoryIsTidy memory.old }
     ensures few { OnOk result (made + length objects.now ≤ 2 ^ 63) }
     ensures value { OnOk result (memory.new ≡ mem.begin_objects memory.old (map (λ o. o.size) objects.now)) }
-    ensures tidy { OnOk result (IsTidy memory.new) }
+    ensures tidy { OnOk result (MemoryIsTidy memory.new) }
 {
     let count = objects.len() as u64;
     // no memory has more objects than it can number
@@ -43,7 +43,7 @@ pub(crate) fn begin<'c, 'p>(
     made: u64,
     turns: u64,
 ) -> Result<Machine<'c, 'p>, NoStart>
-    requires tidy { IsTidy memory }
+    requires tidy { MemoryIsTidy memory }
     requires made { made ≡ length memory }
     requires numbers { AreNumbered 0 program.now.functions.items program.now.end }
     ensures begins { IfOk result (λ m. Begins program.now main memory turns m) }

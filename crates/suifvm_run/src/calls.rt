@@ -12,7 +12,7 @@ ghost use Rattle.suifvm_run.specs.model.Config as config;
 ghost use Rattle.vm_meaning.specs.Behave.{registers_of, first_or_unset, value_status};
 ghost use Rattle.vm_meaning.specs.Effect as effect;
 ghost use Rattle.vm_meaning.specs.Operations as operations;
-ghost use Rattle.vm_operations.specs.Tidy.{IsTidy};
+ghost use Rattle.vm_operations.specs.Tidy.{MemoryIsTidy};
 
 use crate::beginning::begin_locals;
 use crate::machine::{Call, Machine, Stop, Turn, block_at, function_at, register_in};
@@ -80,8 +80,8 @@ fn push_registers(
     Ok(())
 }
 
-/// Puts the arguments of a call on the stack, behind the registers of the call that is to wait, begins the objects of the
-/// new one, where so many were made before, and keeps the one that is to wait.
+/// Puts the arguments of a call on the stack, behind the registers of the call that is to wait, begins the objects of
+/// the new one, where so many were made before, and keeps the one that is to wait.
 fn begin_call<'c, 'p>(
     stack: &mut Vec<Value>,
     memory: &mut Mem,
@@ -92,9 +92,9 @@ fn begin_call<'c, 'p>(
     arguments: &[u32],
 ) -> Result<(), AllocError>
     requires base { here.base ≤ length stack.old.items }
-    requires tidy { IsTidy memory.old }
+    requires tidy { MemoryIsTidy memory.old }
     ensures few { OnOk result (made + length objects.now ≤ 2 ^ 63) }
-    ensures tidy { OnOk result (IsTidy memory.new) }
+    ensures tidy { OnOk result (MemoryIsTidy memory.new) }
     ensures objects { OnOk result (memory.new ≡ mem.begin_objects memory.old (map (λ o. o.size) objects.now)) }
     ensures arguments { OnOk result
         (stack.new.items ≡ stack.old.items ++ map (registers_of (drop here.entry.base stack.old.items)) arguments.now) }

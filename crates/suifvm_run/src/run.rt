@@ -4,7 +4,8 @@ ghost use Rattle.std.specs.Prelude.{◌≡◌, ◌<◌, ℕ, List, length, posit
 ghost use Rattle.machine_model.specs.Machine.{Config};
 ghost use Rattle.mem_model.specs.World.{Rooms};
 ghost use Rattle.suifvm_ir.specs.Programs as programs;
-ghost use Rattle.suifvm_run.specs.Run.{Traffic, VmBehaves, input_faults_after, output_faults_after};
+ghost use Rattle.suifvm_run.specs.Run.{VmBehaves, input_faults_after, output_faults_after};
+ghost use Rattle.bk_io.specs.Outside.{Traffic};
 ghost use Rattle.suifvm_run.specs.model.Begin.{start_at};
 ghost use Rattle.suifvm_run.specs.model.Config as config;
 ghost use Rattle.suifvm_run.specs.model.Falls.{AreMarked, machine_left};
@@ -13,7 +14,7 @@ ghost use Rattle.suifvm_run.specs.model.Stops.{IsRun};
 ghost use Rattle.suifvm_run.specs.model.Tables.{AreNumbered, functions_of};
 ghost use Rattle.vm_meaning.specs.Behave.{Registers, main_of};
 ghost use Rattle.vm_meaning.specs.Effect as effect;
-ghost use Rattle.vm_operations.specs.Tidy.{IsTidy};
+ghost use Rattle.vm_operations.specs.Tidy.{MemoryIsTidy};
 
 use crate::beginning::begin;
 use crate::ending::VmEnding;
@@ -190,7 +191,7 @@ fn run_table<I: Source, O: Sink>(
     out: &mut O,
     turns: u64,
 ) -> VmEnding
-    requires tidy { IsTidy memory }
+    requires tidy { MemoryIsTidy memory }
     requires made { made ≡ length memory }
     requires numbers { AreNumbered 0 table.now.functions.items table.now.end }
     requires marked { AreMarked (functions_of table.now) }

@@ -29,8 +29,8 @@ fn takes_turn(insn: &VmInsn) -> bool
     }
 }
 
-/// The address of an object, moved by so many bytes, where the number of the call's first object is given. It fails where
-/// no object has so many bytes.
+/// The address of an object, moved by so many bytes, where the number of the call's first object is given. It fails
+/// where no object has so many bytes.
 pub(crate) fn address_of(own: u64, place: VmObject, plus: u64) -> Result<Value, AllocError>
     requires { own ≤ 2 ^ 63 }
     ensures { IfOk result (λ value. value ≡ operations.place_address own place plus) }

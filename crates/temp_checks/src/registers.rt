@@ -99,7 +99,7 @@ pub(crate) fn fixed_writes(insn: &TempInsn) -> &'static [u8]
 }
 
 /// The registers that an instruction ends.
-pub(crate) fn ended(insn: &TempInsn) -> &'static [u8]
+pub(crate) fn ended_registers(insn: &TempInsn) -> &'static [u8]
     ensures { result.now ≡ fixed.ended_of insn.now }
 {
     match insn {

@@ -5,7 +5,7 @@ ghost use Rattle.std.specs.List.{list_all};
 ghost use Rattle.bk_ilist.specs.Listing.{items};
 ghost use Rattle.temp_ir.specs.Fixed as fixed;
 
-use crate::registers::{ended, fixed_reads, fixed_writes, of_arguments};
+use crate::registers::{ended_registers, fixed_reads, fixed_writes, of_arguments};
 use std::alloc::{AllocError, Global};
 use suifvm_ir::block::Block;
 use suifvm_ir::function::Func;
@@ -43,7 +43,7 @@ fn keep(behind: &mut Vec<u8>, insn: &TempInsn, register: u8) -> Result<(), Alloc
     ensures { OnOk result (behind.new.items ≡ behind.old.items
         ++ filter (λ r. not (fixed.has_number (fixed.ended_of insn.now) r)) (register ∷ [])) }
 {
-    if !has(ended(insn), register) {
+    if !has(ended_registers(insn), register) {
         behind.push(register)?;
     }
     Ok(())

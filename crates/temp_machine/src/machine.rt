@@ -144,7 +144,7 @@ fn store_width(op: StoreOp) -> u64 {
 }
 
 /// A word moved by a displacement.
-fn moved(word: u64, plus: i16) -> u64 {
+fn moved_word(word: u64, plus: i16) -> u64 {
     word.wrapping_add(i64::from(plus).cast_unsigned())
 }
 
@@ -276,7 +276,12 @@ impl<'a> TempMachine<'a> {
     }
 
     /// What a first operand is.
-    fn left(&self, number: usize, insn: &TempInsn, source: FirstOperand) -> Result<CallContent> {
+    fn first_operand(
+        &self,
+        number: usize,
+        insn: &TempInsn,
+        source: FirstOperand,
+    ) -> Result<CallContent> {
         match source {
             FirstOperand::Zero => Ok(Some(0)),
             FirstOperand::Temp(_) => self.read(number, insn, 0),
@@ -284,7 +289,7 @@ impl<'a> TempMachine<'a> {
     }
 
     /// What a second operand is.
-    fn right(
+    fn second_operand(
         &self,
         number: usize,
         insn: &TempInsn,
@@ -409,7 +414,7 @@ impl TempMachine<'_> {
         let pointer = self.read(number, insn, 0)?;
         let found = match pointer {
             None => None,
-            Some(word) => self.memory.load(moved(word, plus), load_width(op)),
+            Some(word) => self.memory.load(moved_word(word, plus), load_width(op)),
         };
         let word = match op {
             LoadOp::Ldl => found.map(|word| i64::from(low(word)).cast_unsigned()),
@@ -429,7 +434,7 @@ impl TempMachine<'_> {
         else {
             bail!("no store");
         };
-        let word = self.left(number, insn, *value)?;
+        let word = self.first_operand(number, insn, *value)?;
         let pointer = match value {
             FirstOperand::Zero => self.read(number, insn, 0)?,
             FirstOperand::Temp(_) => self.read(number, insn, 1)?,
@@ -437,7 +442,7 @@ impl TempMachine<'_> {
         let (Some(word), Some(pointer)) = (word, pointer) else {
             return Ok(Act::Stop(TempEnding::Undefined));
         };
-        let place = moved(pointer, *plus);
+        let place = moved_word(pointer, *plus);
         match self.memory.store(place, store_width(*op), word) {
             None => Ok(Act::Stop(TempEnding::Undefined)),
             Some(()) => Ok(Act::Next),
@@ -465,7 +470,7 @@ impl TempMachine<'_> {
                     AddressOp::Lda => i64::from(*plus),
                     AddressOp::Ldah => i64::from(*plus) * 65_536,
                 };
-                let word = self.left(number, insn, *base)?;
+                let word = self.first_operand(number, insn, *base)?;
                 let moved = word.map(|word| word.wrapping_add(by.cast_unsigned()));
                 self.give(number, insn, moved)
             }
@@ -475,8 +480,8 @@ impl TempMachine<'_> {
                 right,
                 ..
             } => {
-                let a = self.left(number, insn, *left)?;
-                let b = self.right(number, insn, *left, *right)?;
+                let a = self.first_operand(number, insn, *left)?;
+                let b = self.second_operand(number, insn, *left, *right)?;
                 let (Some(a), Some(b)) = (a, b) else {
                     return Ok(Act::Stop(TempEnding::Undefined));
                 };
@@ -484,7 +489,7 @@ impl TempMachine<'_> {
                 self.give_outcome(number, insn, outcome)
             }
             TempInsn::Extend { op, source, .. } => {
-                let word = self.right(number, insn, FirstOperand::Zero, *source)?;
+                let word = self.second_operand(number, insn, FirstOperand::Zero, *source)?;
                 let wide = word.map(|word| extend(*op, word));
                 self.give(number, insn, wide)
             }

@@ -16,7 +16,7 @@ fn truth(holds: bool) -> OperationOutcome {
 }
 
 /// A signed number that has to fit in 64 bits.
-fn checked(number: Option<i64>) -> OperationOutcome {
+fn word_or_overflow(number: Option<i64>) -> OperationOutcome {
     match number {
         None => OperationOutcome::Trap(3),
         Some(number) => OperationOutcome::Word(number.cast_unsigned()),
@@ -29,7 +29,7 @@ pub fn low(word: u64) -> i32 {
 }
 
 /// The low 32 bits with their sign in all bits above them.
-fn extended(word: u64) -> u64 {
+fn sign_extension(word: u64) -> u64 {
     i64::from(low(word)).cast_unsigned()
 }
 
@@ -42,7 +42,7 @@ fn checked_low(number: Option<i32>) -> OperationOutcome {
 }
 
 /// The bytes of a word that a number of eight bits names, and zero in the others.
-fn kept(word: u64, bytes: u64) -> u64 {
+fn kept_bytes(word: u64, bytes: u64) -> u64 {
     let mut mask = 0_u64;
     for byte in 0_u64..8 {
         if bytes >> byte & 1 == 1 {
@@ -56,23 +56,23 @@ fn kept(word: u64, bytes: u64) -> u64 {
 pub fn operate(op: Operation, a: u64, b: u64) -> Result<OperationOutcome> {
     let (x, y) = (a.cast_signed(), b.cast_signed());
     let outcome = match op {
-        Operation::Addl => OperationOutcome::Word(extended(a.wrapping_add(b))),
-        Operation::Subl => OperationOutcome::Word(extended(a.wrapping_sub(b))),
-        Operation::Mull => OperationOutcome::Word(extended(a.wrapping_mul(b))),
+        Operation::Addl => OperationOutcome::Word(sign_extension(a.wrapping_add(b))),
+        Operation::Subl => OperationOutcome::Word(sign_extension(a.wrapping_sub(b))),
+        Operation::Mull => OperationOutcome::Word(sign_extension(a.wrapping_mul(b))),
         Operation::AddlV => checked_low(low(a).checked_add(low(b))),
         Operation::SublV => checked_low(low(a).checked_sub(low(b))),
         Operation::MullV => checked_low(low(a).checked_mul(low(b))),
         Operation::Ornot => OperationOutcome::Word(a | !b),
-        Operation::Zapnot => OperationOutcome::Word(kept(a, b)),
+        Operation::Zapnot => OperationOutcome::Word(kept_bytes(a, b)),
         Operation::Srl => OperationOutcome::Word(a >> (b & 63)),
         Operation::Sll => OperationOutcome::Word(a << (b & 63)),
         Operation::Sra => OperationOutcome::Word((x >> (b & 63)).cast_unsigned()),
         Operation::Addq => OperationOutcome::Word(a.wrapping_add(b)),
         Operation::Subq => OperationOutcome::Word(a.wrapping_sub(b)),
         Operation::Mulq => OperationOutcome::Word(a.wrapping_mul(b)),
-        Operation::AddqV => checked(x.checked_add(y)),
-        Operation::SubqV => checked(x.checked_sub(y)),
-        Operation::MulqV => checked(x.checked_mul(y)),
+        Operation::AddqV => word_or_overflow(x.checked_add(y)),
+        Operation::SubqV => word_or_overflow(x.checked_sub(y)),
+        Operation::MulqV => word_or_overflow(x.checked_mul(y)),
         Operation::Cmpeq => truth(a == b),
         Operation::Cmplt => truth(x < y),
         Operation::Cmple => truth(x <= y),
@@ -103,14 +103,14 @@ pub fn divide(routine: DivisionRoutine, a: u64, b: u64) -> Result<OperationOutco
     match routine {
         DivisionRoutine::Divqu => Ok(OperationOutcome::Word(a / b)),
         DivisionRoutine::Remqu => Ok(OperationOutcome::Word(a % b)),
-        DivisionRoutine::Divq => Ok(checked(a.cast_signed().checked_div(b.cast_signed()))),
-        DivisionRoutine::Remq => Ok(checked(a.cast_signed().checked_rem(b.cast_signed()))),
+        DivisionRoutine::Divq => Ok(word_or_overflow(a.cast_signed().checked_div(b.cast_signed()))),
+        DivisionRoutine::Remq => Ok(word_or_overflow(a.cast_signed().checked_rem(b.cast_signed()))),
         DivisionRoutine::Divl => Ok(checked_low(low(a).checked_div(low(b)))),
         DivisionRoutine::Reml => Ok(checked_low(low(a).checked_rem(low(b)))),
-        DivisionRoutine::Divlu => Ok(OperationOutcome::Word(extended(
+        DivisionRoutine::Divlu => Ok(OperationOutcome::Word(sign_extension(
             (a & 0xffff_ffff).checked_div(b & 0xffff_ffff).unwrap_or(0),
         ))),
-        DivisionRoutine::Remlu => Ok(OperationOutcome::Word(extended(
+        DivisionRoutine::Remlu => Ok(OperationOutcome::Word(sign_extension(
             (a & 0xffff_ffff).checked_rem(b & 0xffff_ffff).unwrap_or(0),
         ))),
     }

@@ -1,6 +1,6 @@
 //! Instructions from their texts.
 
-use crate::words::{branch, extend, fixed, load, operation, routine, store};
+use crate::words::{branch, extend, fixed_register, load, operation, routine, store};
 use anyhow::{Context, Result, bail};
 use row_sheets::number::{number, offset};
 use std::alloc::Global;
@@ -73,7 +73,7 @@ fn object(destination: u32, name: &str, plus: &str) -> Result<TempInsn> {
 
 /// The computing of an address, or a fixed register that is set to a number.
 fn address(op: AddressOp, around: &mut Around, parts: &[&str]) -> Result<TempInsn> {
-    if let Some(register) = fixed(part(parts, 0)?) {
+    if let Some(register) = fixed_register(part(parts, 0)?) {
         let (number, _zero) = base(part(parts, 1)?)?;
         if register == FixedRegister::Value {
             around.service = i64::from(number);
@@ -98,13 +98,13 @@ fn operate(word: &str, parts: &[&str]) -> Result<Option<TempInsn>> {
     let Some(op) = operation(word) else {
         return Ok(None);
     };
-    if let Some(register) = fixed(part(parts, 1)?) {
+    if let Some(register) = fixed_register(part(parts, 1)?) {
         return Ok(Some(TempInsn::FromFixed {
             destination: temp(part(parts, 2)?)?,
             register,
         }));
     }
-    if let Some(register) = fixed(part(parts, 2)?) {
+    if let Some(register) = fixed_register(part(parts, 2)?) {
         return Ok(Some(TempInsn::ToFixed {
             register,
             source: temp(part(parts, 1)?)?,

@@ -98,7 +98,7 @@ pub fn routine(word: &str) -> Option<DivisionRoutine> {
 }
 
 /// A fixed register, if it is one.
-pub fn fixed(word: &str) -> Option<FixedRegister> {
+pub fn fixed_register(word: &str) -> Option<FixedRegister> {
     match word {
         "$0" => Some(FixedRegister::Value),
         "$16" => Some(FixedRegister::Argument0),

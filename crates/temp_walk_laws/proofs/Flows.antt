@@ -9,7 +9,7 @@ use Rattle.temp_ir.specs.declared.insn.TempInsn.TheVariants.{Address, ObjectAddr
 use Rattle.temp_ir.specs.Insns.{flows_on_of}
 use Rattle.alloc_model.specs.Contents.{Content}
 use Rattle.alloc_model.specs.Effect.{does, fails}
-use Rattle.temp_walk_laws.specs.SameRuns.{IsWithin}
+use Rattle.temp_walk_laws.specs.SameRuns.{WritesWithin}
 
 -- an act after which the next instruction follows, at once or behind a call
 abbrev GoesOn : Act Content → Type 0
@@ -45,7 +45,7 @@ writes_flow w i own cs ds o p is = flow w i own cs o (subst GoesOn (sym is) tt)
 pub calls_flow : (w : ℕ) (i : TempInsn) (own function : ℕ) (cs ds : List Content) (o p : Outer) → does w i own cs o ≡ Calls function ds p → flows_on_of i ≡ true
 calls_flow w i own function cs ds o p is = flow w i own cs o (subst GoesOn (sym is) tt)
 
-pub does_same : (w x : ℕ) (i : TempInsn) (own : ℕ) (cs : List Content) (o : Outer) → IsWithin w i → IsWithin x i → does w i own cs o ≡ does x i own cs o
+pub does_same : (w x : ℕ) (i : TempInsn) (own : ℕ) (cs : List Content) (o : Outer) → WritesWithin w i → WritesWithin x i → does w i own cs o ≡ does x i own cs o
 does_same w x (Jump a) own cs o h k = refl
 does_same w x (Return a) own cs o h k = refl
 does_same w x (Branch a b c) own cs o h k = refl

@@ -6,11 +6,11 @@ use Rattle.mem_model.specs.World.{World, Rooms}
 use Rattle.temp_ir.specs.declared.program.TempProgram.{TempProgram}
 use Rattle.temp_ir.specs.Programs.{TempFn, is_main}
 use Rattle.alloc_model.specs.Temporaries.{TemporaryCode, code_of, temp_run, main_of, start_world}
-use Rattle.temp_walk_laws.specs.SameRuns.{SameFunctions, RunsAs, SameWalksRunAlike}
+use Rattle.temp_walk_laws.specs.SameRuns.{SameTempFunctions, TempRunsAs, SameTempWalksRunAlike}
 use Rattle.temp_walk_laws.proofs.Following.{SameAt}
 use Rattle.temp_walk_laws.proofs.Running.{ends_alike}
 
-same_at : (fs gs : List TempFn) → SameFunctions fs gs → (n : ℕ) → SameAt (slice_get (map code_of fs) n) (slice_get (map code_of gs) n)
+same_at : (fs gs : List TempFn) → SameTempFunctions fs gs → (n : ℕ) → SameAt (slice_get (map code_of fs) n) (slice_get (map code_of gs) n)
 same_at [] [] same n = tt
 same_at [] (g ∷ gs) same n = absurd same
 same_at (f ∷ fs) [] same n = absurd same
@@ -23,7 +23,7 @@ same_at (f ∷ fs) (g ∷ gs) same zero = record {
 }
 same_at (f ∷ fs) (g ∷ gs) same (suc n) = same_at fs gs same.1 n
 
-length_same : (fs gs : List TempFn) → SameFunctions fs gs → length fs ≡ length gs
+length_same : (fs gs : List TempFn) → SameTempFunctions fs gs → length fs ≡ length gs
 length_same [] [] same = refl
 length_same [] (g ∷ gs) same = absurd same
 length_same (f ∷ fs) [] same = absurd same
@@ -32,7 +32,7 @@ length_same (f ∷ fs) (g ∷ gs) same = ap suc (length_same fs gs same.1)
 abbrev is_other : TempFn → Bool
 is_other f = not (is_main f)
 
-others_same : (fs gs : List TempFn) → SameFunctions fs gs → prefix_len is_other fs ≡ prefix_len is_other gs
+others_same : (fs gs : List TempFn) → SameTempFunctions fs gs → prefix_len is_other fs ≡ prefix_len is_other gs
 others_same [] [] same = refl
 others_same [] (g ∷ gs) same = absurd same
 others_same (f ∷ fs) [] same = absurd same
@@ -43,12 +43,12 @@ others_same (f ∷ fs) (g ∷ gs) same =
 abbrev main_at : (place count : ℕ) → ℕ
 main_at place count = unwrap_or (cond (nat_lt place count) (Some place) None) 0
 
-main_same : (fs gs : List TempFn) → SameFunctions fs gs → main_of fs ≡ main_of gs
+main_same : (fs gs : List TempFn) → SameTempFunctions fs gs → main_of fs ≡ main_of gs
 main_same fs gs same =
     ap (λ place. main_at place (length fs)) (others_same fs gs same)
     ∙ ap (main_at (prefix_len is_other gs)) (length_same fs gs same)
 
-swapped : (fs gs : List TempFn) → SameFunctions fs gs → SameFunctions gs fs
+swapped : (fs gs : List TempFn) → SameTempFunctions fs gs → SameTempFunctions gs fs
 swapped [] [] same = tt
 swapped [] (g ∷ gs) same = absurd same
 swapped (f ∷ fs) [] same = absurd same
@@ -57,7 +57,7 @@ swapped (f ∷ fs) (g ∷ gs) same = (
   swapped fs gs same.1,
 )
 
-runs_as : (rooms : Rooms) (before after : TempProgram) → before.globals ≡ after.globals → SameFunctions before.functions after.functions → (input : List ℕ) (turns : ℕ) → RunsAs rooms before after input turns
+runs_as : (rooms : Rooms) (before after : TempProgram) → before.globals ≡ after.globals → SameTempFunctions before.functions after.functions → (input : List ℕ) (turns : ℕ) → TempRunsAs rooms before after input turns
 runs_as rooms before after globals same input turns e run =
     let fs : List TemporaryCode = map code_of before.functions in
     let gs : List TemporaryCode = map code_of after.functions in
@@ -75,7 +75,7 @@ runs_as rooms before after globals same input turns e run =
       comes.alike,
     )
 
-pub law : SameWalksRunAlike
+pub law : SameTempWalksRunAlike
 law rooms before after globals same input turns = (
   runs_as rooms before after globals same input turns,
   runs_as rooms after before (sym globals) (swapped before.functions after.functions same) input turns,

@@ -1,7 +1,7 @@
 -- A program whose functions have the same walks comes to the same ending.
 use Rattle.std.proofs.Common.{◌≡◌, ℕ, zero, suc, ◌+◌, ◌<◌, Bool, true, false, List, [], ◌∷◌, length, map, drop, Option, Some, None, slice_get, refl, sym, ap, subst, ◌∙◌}
 use Rattle.mem_model.specs.World.{Outer, Meter, World, Rooms, enter_call, leave_call}
-use Rattle.mem_model.specs.Ending.{Ending, Done, Trap, Undefined, More}
+use Rattle.mem_model.specs.Ending.{Ending, Done, Trap, Undefined, More, SameEnding}
 use Rattle.machine_model.specs.Code.{Stop, Exits, Traps, HasNoMeaning, Act, Writes, Jumps, Calls, Returns, Stops, Code}
 use Rattle.machine_model.specs.Machine.{Frame, Config, Next, Goes, Over, world_of, begin_locals, end_locals, turn_if, stop_ending, jump_to, resume, status_ending, return_to, act_on, step_with, step_at, step, go_on, exec, start}
 use Rattle.machine_model.proofs.Runs.{steps_add_up}
@@ -15,9 +15,8 @@ use Rattle.alloc_model.specs.Contents.{Content, test_of}
 use Rattle.alloc_model.specs.Stores.{put_all, empty, without}
 use Rattle.alloc_model.specs.Effect.{holder_eq, entry_holders, holders_read, is_call, is_emptied, does, takes_turn, branches, widest_call, content_at}
 use Rattle.alloc_model.specs.Temporaries.{Temps, TemporaryCode, sizes_in, temp_code, status_of}
-use Rattle.temp_walk_laws.specs.SameRuns.{IsWithin, AreWithin}
+use Rattle.temp_walk_laws.specs.SameRuns.{WritesWithin, AreWithin}
 use Rattle.temp_walk_laws.proofs.Within.{within_at}
-use Rattle.temp_walk_laws.specs.SameRuns.{SameEnding}
 use Rattle.temp_walk_laws.proofs.Flows.{writes_flow, calls_flow, does_same}
 use Rattle.temp_walk_laws.proofs.Walking.{Sort, IsJump, IsBranch, IsPlain, sort, Loud, Pair, SameInsn, TwoBranches, pair_of, Silent, Alike, meets, after_same, after_passed, after_taken, after_jump, after_fall}
 use Rattle.temp_walk_laws.proofs.Following.{Valid, SameAt, Stands, left_zero, stands_next, stands_at, target_below, frame, config, site_in_function, insn_site, put_after, kept, site_insn, silent_run, step_end, step_jump, go_zero}
@@ -109,7 +108,7 @@ module _ (rooms : Rooms) (fs gs : List TemporaryCode) (same : (n : ℕ) → Same
         (return_same (first_code.number k.here.point) (other_code.number l.here.point) vs (world_of (end_locals o own (length (sizes_in (slice_get fs n)))) (leave_call rooms n m)) us ws waiting)
     act_same i m (Stops e o) none here site writes calls next = stop_same e (first_code.number k.here.point) (other_code.number l.here.point) (world_of o m)
 
-    plain_with : (i : TempInsn) (turn : Option Meter) → IsWithin (widest_call f.blocks) i → IsWithin (widest_call g.blocks) i → targets_of i ≡ [] → site_in_function b at (slice_get fs n) ≡ Some (insn_site f i) → site_in_function c to (slice_get gs n) ≡ Some (insn_site g i) → (flows_on_of i ≡ true → Stands f.blocks g.blocks b (suc at) c (suc to)) → SameNext (step_with Content Temps rooms first_code k (insn_site f i) turn) (step_with Content Temps rooms other_code l (insn_site g i) turn)
+    plain_with : (i : TempInsn) (turn : Option Meter) → WritesWithin (widest_call f.blocks) i → WritesWithin (widest_call g.blocks) i → targets_of i ≡ [] → site_in_function b at (slice_get fs n) ≡ Some (insn_site f i) → site_in_function c to (slice_get gs n) ≡ Some (insn_site g i) → (flows_on_of i ≡ true → Stands f.blocks g.blocks b (suc at) c (suc to)) → SameNext (step_with Content Temps rooms first_code k (insn_site f i) turn) (step_with Content Temps rooms other_code l (insn_site g i) turn)
     plain_with i None first other none here site next = BothEnd (More w) (More w) refl
     plain_with i (Some m) first other none here site next =
         let cs : List Content = map rs (holders_read i) in
@@ -120,7 +119,7 @@ module _ (rooms : Rooms) (fs gs : List TemporaryCode) (same : (n : ℕ) → Same
         (λ function vs o act. calls_flow wf i own function cs vs w.outer o act)
         next)
 
-    plain_step : (i : TempInsn) → IsWithin (widest_call f.blocks) i → IsWithin (widest_call g.blocks) i → targets_of i ≡ [] → site_in_function b at (slice_get fs n) ≡ Some (insn_site f i) → site_in_function c to (slice_get gs n) ≡ Some (insn_site g i) → (flows_on_of i ≡ true → Stands f.blocks g.blocks b (suc at) c (suc to)) → SameNext (step Content Temps rooms first_code k) (step Content Temps rooms other_code l)
+    plain_step : (i : TempInsn) → WritesWithin (widest_call f.blocks) i → WritesWithin (widest_call g.blocks) i → targets_of i ≡ [] → site_in_function b at (slice_get fs n) ≡ Some (insn_site f i) → site_in_function c to (slice_get gs n) ≡ Some (insn_site g i) → (flows_on_of i ≡ true → Stands f.blocks g.blocks b (suc at) c (suc to)) → SameNext (step Content Temps rooms first_code k) (step Content Temps rooms other_code l)
     plain_step i first other none here site next =
         subst (λ o. SameNext (step_at Content Temps rooms first_code k o) (step Content Temps rooms other_code l)) (sym here)
         (subst (λ o. SameNext (step_at Content Temps rooms first_code k (Some (insn_site f i))) (step_at Content Temps rooms other_code l o)) (sym site)
@@ -155,8 +154,8 @@ module _ (rooms : Rooms) (fs gs : List TemporaryCode) (same : (n : ℕ) → Same
     pair_step : (d place : ℕ) (i j : TempInsn) (rest ks : List TempInsn) → Pair i j → drop at (block_at f.blocks b) ≡ i ∷ rest → drop place (block_at g.blocks d) ≡ j ∷ ks → d < length g.blocks → Silent g.blocks c (drop to (block_at g.blocks c)) d (j ∷ ks) → Alike f.blocks g.blocks b (i ∷ rest) c (drop to (block_at g.blocks c)) → SameNext (step Content Temps rooms first_code (config n own rs b at us w)) (step Content Temps rooms other_code (config n own rs d place ws w))
     pair_step d place _ _ rest ks (SameInsn i none) here left inside silent alike =
         plain_step n own rs f g b at d place us ws w is there valid before after waiting i
-        (within_at (IsWithin (widest_call f.blocks)) f.blocks b at i rest before stands.inside here)
-        (within_at (IsWithin (widest_call g.blocks)) g.blocks d place i ks after inside left) none
+        (within_at (WritesWithin (widest_call f.blocks)) f.blocks b at i rest before stands.inside here)
+        (within_at (WritesWithin (widest_call g.blocks)) g.blocks d place i ks after inside left) none
         (site_insn fs n b at f i rest is stands.inside here)
         (site_insn gs n d place g i ks there inside left)
         (λ flows. stands_next f.blocks g.blocks valid b at d place i i rest ks stands.inside flows flows here left

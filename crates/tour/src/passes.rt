@@ -14,6 +14,7 @@ pub const OPENING: &str = "# A tour of the passes\n\n\
     statement `x = 3 * x + 1;`. The program `tour` of this repository writes this page, out of what the calls in \
     the titles write, and the gate compares it.";
 
+/// The syntax tree.
 pub const TREE: Section = Section {
     title: "The tree",
     call: "msc print tour.c --pass tree",
@@ -22,6 +23,7 @@ pub const TREE: Section = Section {
         assignment to `x` of a sum whose left operand is a product.",
 };
 
+/// The code over virtual registers.
 pub const VM: Section = Section {
     title: "The code over virtual registers",
     call: "msc print tour.c --pass vm",
@@ -33,12 +35,14 @@ pub const VM: Section = Section {
         where C99 5.1.2.2.3 returns 0.",
 };
 
+/// The flow graph.
 pub const GRAPH: Section = Section {
     title: "The flow graph",
     call: "msc print tour.c --pass graph",
     said: "Each block with those that may come next. `B1` and `B2` are the loop, and nothing comes to `B4`.",
 };
 
+/// Instructions over temporaries.
 pub const SELECT: Section = Section {
     title: "Instructions of the processor over temporaries",
     call: "msc print tour.c --pass select",
@@ -49,6 +53,7 @@ pub const SELECT: Section = Section {
         block that nothing comes to is gone. `docs/selection.md` says what each instruction becomes.",
 };
 
+/// Temporaries in their slots.
 pub const ALLOC: Section = Section {
     title: "Temporaries in slots",
     call: "msc print tour.c --pass alloc",
@@ -58,6 +63,7 @@ pub const ALLOC: Section = Section {
         the edge to `B2`.",
 };
 
+/// The assembly.
 pub const ASM: Section = Section {
     title: "The assembly, and its words in the image",
     call: "msc print tour.c --pass asm",
@@ -68,6 +74,7 @@ pub const ASM: Section = Section {
         machine counts no turns.",
 };
 
+/// One statement in each form.
 pub const BESIDE: Section = Section {
     title: "The statement, side by side",
     call: "msc build tour.c",
@@ -76,9 +83,11 @@ pub const BESIDE: Section = Section {
         slots, and the last one is on the edge to `B2`.",
 };
 
-/// The block of the statement, the edge behind it, and its label in the assembly.
+/// The block of the statement, as the passes name it.
 pub const BLOCK: &str = "B1";
 
+/// The edge behind that block.
 pub const EDGE: &str = "edge B1 B2";
 
+/// The label of that block in the assembly.
 pub const LABEL: &str = "L258:";

@@ -6,7 +6,7 @@ use anyhow::{Result, bail, ensure};
 use c_lexer::TEXT_LIMIT;
 use c_parser::parse;
 use c_tree::Name;
-use c_typed_tree::{Member, StructDef, TypedFn, TypedUnit};
+use c_typed_tree::{Member, StructDef, TypedFn, TypedUnit, copy_unit};
 use c_types::check;
 use c_weight::{data_size, function_weight, locals_bytes, weight};
 use data_object::{DataCell, DataObject};
@@ -170,11 +170,12 @@ fn put_unit(alloc: Global, out: &mut Vec<u8>, unit: &TypedUnit) -> Result<(), Al
     Ok(())
 }
 
-/// The weight, the data size and the typed tree of a unit.
+/// The weight, the data size and the typed tree of a unit, as they are of its copy.
 pub fn typed(alloc: Global, given: &str) -> Result<Vec<u8>> {
     let unit = unit_of(alloc, given)?;
+    let copy = copy_unit(alloc, &unit)?;
     let mut out = Vec::new(alloc);
-    put_unit(alloc, &mut out, &unit)?;
+    put_unit(alloc, &mut out, &copy)?;
     Ok(out)
 }
 

@@ -5,7 +5,7 @@ use Rattle.alpha_isa.specs.Program.{Program}
 use Rattle.alpha_isa.specs.Behave as image
 use Rattle.alpha_isa.specs.Behave.{behave_a, output_of, IsStack}
 use Rattle.mem_model.specs.World.{World, Rooms}
-use Rattle.mem_model.specs.Ending.{Ending, Done, Trap, Undefined, More, EndsAs, ending_output, ending_peak}
+use Rattle.mem_model.specs.Ending.{Ending, Done, Trap, Undefined, More, EndsAs, ending_output, ending_peak, IsDefined}
 use Rattle.machine_model.specs.Laws.{IsPrefix}
 use Rattle.flat_memory.specs.Bytes.{AreBytes}
 use Rattle.selection_laws.specs.Laws as selection
@@ -14,13 +14,12 @@ use Rattle.same_runs.specs.Same.{IsSame, RunsAreSame}
 use Rattle.c_typed_tree.specs.declared.units.TypedUnit.{TypedUnit}
 use Rattle.c_typed_tree.specs.Lawful.{IsTypedUnit}
 use Rattle.c_semantics.specs.Behaves.{run}
-use Rattle.lowering_theorem.specs.UnitLaws.{IsDefined}
 use Rattle.lowering_theorem.specs.Laws.{VmRunsTo, ProgramsKeepMeaning}
-use Rattle.unit_images.specs.Laws.{IsMadeOf, IsGood, UnitsAreSame}
+use Rattle.unit_images.specs.Laws.{IsMadeOf, InputIsGood, UnitsAreSame}
 
 -- ---- endings that are alike
 
-defined_too : (e o : Ending) → IsDefined o → EndsAs e o → selection.IsDefined e
+defined_too : (e o : Ending) → IsDefined o → EndsAs e o → IsDefined e
 defined_too e (Undefined w n) defined h = absurd defined
 defined_too (Done v m) o defined h = tt
 defined_too (Trap v m) o defined h = tt
@@ -114,11 +113,11 @@ bytes_all : (input : List ℕ) → AreBytes input → All (λ byte. byte < 256) 
 bytes_all [] h = All-nil (λ byte. byte < 256)
 bytes_all (b ∷ bs) h = All-cons (λ byte. byte < 256) b bs h.0 (bytes_all bs h.1)
 
-module _ (behave : ProgramsBehave) (keep : ProgramsKeepMeaning) (are_same : RunsAreSame) (u : TypedUnit) (rooms : Rooms) (p : Program) (typed : IsTypedUnit u) (made : IsMadeOf u rooms p) (stack : ℕ) (is_stack : IsStack stack) (input : List ℕ) (bytes : AreBytes input) (good : IsGood u rooms stack input) where
+module _ (behave : ProgramsBehave) (keep : ProgramsKeepMeaning) (are_same : RunsAreSame) (u : TypedUnit) (rooms : Rooms) (p : Program) (typed : IsTypedUnit u) (made : IsMadeOf u rooms p) (stack : ℕ) (is_stack : IsStack stack) (input : List ℕ) (bytes : AreBytes input) (good : InputIsGood u rooms stack input) where
   at : (turns : ℕ) → VmRunsTo rooms made.code input turns (run u rooms input turns)
   at n = keep u made.code typed made.is_code rooms input n (bytes_all input bytes) (good.defined n)
 
-  defined : (n : ℕ) → selection.IsDefined (at n).ending
+  defined : (n : ℕ) → IsDefined (at n).ending
   defined n = defined_too (at n).ending (run u rooms input n) (good.defined n) (at n).same
 
   room : (n : ℕ) → ending_peak (at n).ending ≤ stack

@@ -5,7 +5,7 @@ use Rattle.alpha_isa.specs.Behave.{IsStack}
 use Rattle.alpha_items.specs.Assembly.{Assembly, IsWhole}
 use Rattle.alpha_items.specs.Words.{Words}
 use Rattle.mem_model.specs.World.{Rooms}
-use Rattle.mem_model.specs.Ending.{ending_peak}
+use Rattle.mem_model.specs.Ending.{ending_peak, IsDefined}
 use Rattle.suifvm_ir.specs.declared.program.VmProgram.{VmProgram}
 use Rattle.temp_ir.specs.declared.program.TempProgram.{TempProgram}
 use Rattle.alloc_model.specs.declared.allocation.Allocation.{Allocation}
@@ -16,7 +16,6 @@ use Rattle.same_runs.specs.Same.{IsSame}
 use Rattle.c_typed_tree.specs.declared.units.TypedUnit.{TypedUnit}
 use Rattle.c_typed_tree.specs.Lawful.{IsTypedUnit}
 use Rattle.c_semantics.specs.Behaves.{run}
-use Rattle.lowering_theorem.specs.UnitLaws.{IsDefined}
 use Rattle.lowering_theorem.specs.Laws.{IsCodeOf}
 
 -- what stands between a unit and an image: its program over virtual registers, the one over temporaries that does as
@@ -36,12 +35,12 @@ pub record IsMadeOf (u : TypedUnit) (rooms : Rooms) (image : Program) : Type 0 w
   pub lawful : IsLawful image
 
 -- no run on the input is undefined, and each has room on the stack
-pub record IsGood (u : TypedUnit) (rooms : Rooms) (stack : ℕ) (input : List ℕ) : Type 0 where
+pub record InputIsGood (u : TypedUnit) (rooms : Rooms) (stack : ℕ) (input : List ℕ) : Type 0 where
   pub defined : (turns : ℕ) → IsDefined (run u rooms input turns)
   pub room : (turns : ℕ) → ending_peak (run u rooms input turns) ≤ stack
 
 abbrev pub UnitsAreSame : Type 0
 UnitsAreSame =
     (u : TypedUnit) (rooms : Rooms) (image : Program) → IsTypedUnit u → IsMadeOf u rooms image →
-    (stack : ℕ) → IsStack stack → (input : List ℕ) → AreBytes input → IsGood u rooms stack input →
+    (stack : ℕ) → IsStack stack → (input : List ℕ) → AreBytes input → InputIsGood u rooms stack input →
     IsSame image stack input (λ turns. run u rooms input turns)

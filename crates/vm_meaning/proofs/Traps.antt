@@ -33,7 +33,7 @@ use Rattle.suifvm_ir.specs.declared.insn.VmInsn.TheVariants.{LoadConstant, LoadA
 use Rattle.suifvm_ir.specs.Insns.{unary_may_trap, binary_may_trap, call_may_trap, may_trap_of}
 use Rattle.vm_meaning.specs.Operations.{Answer, Gives, TrapsWith, Fails, is_set, is_value_of, when_value, integer_of, memory_integer, access_bytes, is_pointer_access, with_sign, without_sign, comparison_answer, compare_pointer, shift_by, convert_answer, shift_answer, value_holds, loaded_answer, stored_memory, copied_memory, outcome_answer, value_answer, distance_answer, test_answer, on_number, on_numbers, unary_number, unary_answer, conversion_answer, binary_number, pointer_answer, binary_answer, shift_number, compare_answer, load_answer, load_through}
 use Rattle.vm_meaning.specs.Effect.{fails, first, second, writes, changes, is_taken, branches, puts_char, exits, builtin_act, call_act, return_act, does}
-use Rattle.vm_meaning.specs.Laws.{OnlyTheseTrap}
+use Rattle.vm_meaning.specs.Laws.{OnlyTheseVmInstructionsTrap}
 
 -- an answer, and an act, that is no trap
 abbrev Calm : Answer → Type 0
@@ -258,5 +258,5 @@ by_test : (b : Bool) (a : Act Value) (o : Outer) (code : ℕ) → OnlyIf b a →
 by_test true a o code h is = refl
 by_test false a o code h is = absurd (subst NoTrap is h)
 
-pub only_these_trap : OnlyTheseTrap
+pub only_these_trap : OnlyTheseVmInstructionsTrap
 only_these_trap i own vs o p code is = by_test (may_trap_of i) (does i own vs o) p code (traps_only i own vs o) is

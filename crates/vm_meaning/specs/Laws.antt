@@ -18,15 +18,15 @@ OneVmEnding =
     behave_vm rooms program input turns e → behave_vm rooms program input turns f → e ≡ f
 
 -- with more turns an ending stays, with so many turns more left
-abbrev pub MoreTurnsKeepEnding : Type 0
-MoreTurnsKeepEnding =
+abbrev pub MoreTurnsKeepVmEnding : Type 0
+MoreTurnsKeepVmEnding =
     (rooms : Rooms) (program : VmProgram) (input : List ℕ) (turns more : ℕ) (e : Ending) →
     behave_vm rooms program input turns e → IsFinal e →
     behave_vm rooms program input (turns + more) (ending_with_turns more e)
 
 -- with more turns an output only grows
-abbrev pub MoreTurnsExtendOutput : Type 0
-MoreTurnsExtendOutput =
+abbrev pub MoreTurnsExtendVmOutput : Type 0
+MoreTurnsExtendVmOutput =
     (rooms : Rooms) (program : VmProgram) (input : List ℕ) (turns more : ℕ) (e f : Ending) →
     behave_vm rooms program input turns e → behave_vm rooms program input (turns + more) f →
     IsPrefix (ending_output e) (ending_output f)
@@ -41,7 +41,7 @@ abbrev pub VmKeepsOutput : Type 0
 VmKeepsOutput = (functions : List FunctionCode) → KeepsOutput Value Registers (vm_code functions)
 
 -- an instruction that traps is one that may
-abbrev pub OnlyTheseTrap : Type 0
-OnlyTheseTrap =
+abbrev pub OnlyTheseVmInstructionsTrap : Type 0
+OnlyTheseVmInstructionsTrap =
     (i : VmInsn) (own : ℕ) (vs : List Value) (o p : Outer) (code : ℕ) → does i own vs o ≡ Stops (Traps code) p →
     may_trap_of i ≡ true

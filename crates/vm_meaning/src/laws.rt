@@ -1,7 +1,7 @@
 //! Laws of the meaning, each the contract of a function that does nothing.
 
 ghost use Rattle.vm_meaning.specs.Examples.{VmExamplesRun};
-ghost use Rattle.vm_meaning.specs.Laws.{OneVmEnding, MoreTurnsKeepEnding, MoreTurnsExtendOutput, VmPeakRises, VmKeepsOutput, OnlyTheseTrap};
+ghost use Rattle.vm_meaning.specs.Laws.{OneVmEnding, MoreTurnsKeepVmEnding, MoreTurnsExtendVmOutput, VmPeakRises, VmKeepsOutput, OnlyTheseVmInstructionsTrap};
 
 /// A run has one ending at most.
 pub fn one_ending()
@@ -10,19 +10,19 @@ pub fn one_ending()
 
 /// More turns keep an ending.
 pub fn turns_keep_endings()
-    ensures { MoreTurnsKeepEnding }
+    ensures { MoreTurnsKeepVmEnding }
 {}
 
 /// An output only grows, and the peak only rises.
 pub fn runs_go_on()
-    ensures output { MoreTurnsExtendOutput }
+    ensures output { MoreTurnsExtendVmOutput }
     ensures kept { VmKeepsOutput }
     ensures peak { VmPeakRises }
 {}
 
 /// What traps is an instruction that may.
 pub fn only_these_trap()
-    ensures { OnlyTheseTrap }
+    ensures { OnlyTheseVmInstructionsTrap }
 {}
 
 /// Small programs end as they should.

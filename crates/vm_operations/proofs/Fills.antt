@@ -7,7 +7,7 @@ use Rattle.mem_model.specs.declared.value.Cell.{Cell}
 use Rattle.mem_model.specs.declared.value.Cell.TheVariants.{Empty}
 use Rattle.mem_model.specs.Cells.{with_row}
 use Rattle.mem_model.specs.Memory.{Memory, Object, no_object, put_row}
-use Rattle.vm_operations.specs.Tidy.{IsTidy}
+use Rattle.vm_operations.specs.Tidy.{MemoryIsTidy}
 use Rattle.vm_operations.specs.model.Fills.{with_front, Adds}
 
 set_last : (old : Memory) (x y : Object) → slice_set (old ++ x ∷ []) (length old) y ≡ old ++ y ∷ []
@@ -29,7 +29,7 @@ put_front old writable size front row =
     ∙ set_last old (with_front writable size front) (record { live = true; writable = writable; cells = with_row (front ++ replicate (size - length front) Empty) (length front) row })
     ∙ ap (λ (cells : List Cell). old ++ record { live = true; writable = writable; cells = cells } ∷ []) (longer size front row)
 
-pub adds_row : (m new : Memory) (object at : ℕ) (row : List Cell) → new ≡ put_row m (record { object = object; offset = pos at }) row → IsTidy new → Adds m new object at row
+pub adds_row : (m new : Memory) (object at : ℕ) (row : List Cell) → new ≡ put_row m (record { object = object; offset = pos at }) row → MemoryIsTidy new → Adds m new object at row
 adds_row m new object at row put tidy = record {
   fronts = λ before writable size front o a is.
       put
@@ -40,7 +40,7 @@ adds_row m new object at row put tidy = record {
   tidy = tidy;
 }
 
-pub adds_nothing : (m : Memory) (object at : ℕ) → IsTidy m → Adds m m object at []
+pub adds_nothing : (m : Memory) (object at : ℕ) → MemoryIsTidy m → Adds m m object at []
 adds_nothing m object at tidy = record {
   fronts = λ before writable size front o a is. is ∙ ap (λ cells. before ++ with_front writable size cells ∷ []) (sym (append-nil front));
   tidy = tidy;

@@ -9,7 +9,7 @@ use Rattle.mem_model.specs.declared.value.Cell as c
 use Rattle.mem_model.specs.declared.value.Cell.TheVariants as cell
 use Rattle.mem_model.specs.Memory.{Object, Memory, begin_object}
 use Rattle.mem_model.proofs.Objects.{no_object_past}
-use Rattle.vm_operations.specs.Tidy.{IsTidy}
+use Rattle.vm_operations.specs.Tidy.{MemoryIsTidy}
 use Rattle.vm_operations.specs.model.Fills.{Adds}
 use Rattle.vm_operations.proofs.Fills.{adds_nothing, adds_more}
 
@@ -62,7 +62,7 @@ zeros_all m new object first at end within past a = subst (λ n. Adds m new obje
     same : at ≡ end
     same = omega (arith, within, past)
 
-pub zeros_none : (m : Memory) (object first : ℕ) → IsTidy m → Adds m m object first (replicate (first - first) (cell.Byte 0))
+pub zeros_none : (m : Memory) (object first : ℕ) → MemoryIsTidy m → Adds m m object first (replicate (first - first) (cell.Byte 0))
 zeros_none m object first tidy = subst (λ n. Adds m m object first (replicate n (cell.Byte 0))) none (adds_nothing m object first tidy)
   where
     none : 0 ≡ first - first
@@ -107,8 +107,8 @@ object_made m mid more new o cells number count number_is mid_is cells_is count_
 
 -- ---- all objects
 
-pub none_tidy : (m : Memory) → m ≡ [] → IsTidy m
-none_tidy m is = subst IsTidy (sym is) (record {
+pub none_tidy : (m : Memory) → m ≡ [] → MemoryIsTidy m
+none_tidy m is = subst MemoryIsTidy (sym is) (record {
   gone = λ k dead. no_object_past [] k (omega arith);
   small = λ k. subst (λ (x : Object). length x.cells < 2 ^ 63) (sym (no_object_past [] k (omega arith))) (omega arith);
 })

@@ -11,7 +11,7 @@ use Rattle.mem_model.specs.Memory.{Memory, Object, object_at, no_object, begin_o
 use Rattle.mem_model.specs.Laws.{ChangesCells, IsPut, BeginChanges, EndChanges}
 use Rattle.mem_model.proofs.Changes.{put_changes, store_puts, copy_puts}
 use Rattle.mem_model.proofs.Objects.{begin_changes, end_changes}
-use Rattle.vm_operations.specs.Tidy.{IsTidy}
+use Rattle.vm_operations.specs.Tidy.{MemoryIsTidy}
 
 -- no object both lives and does not
 lives : (m : Memory) (p : Ptr) → is_gone m p ≡ false → (object_at m p.object).live ≡ true
@@ -25,7 +25,7 @@ clash : (b : Bool) → b ≡ true → b ≡ false → ⊥
 clash b h k = cc
 
 -- one object that lives has other cells, as many
-changed : (m new : Memory) (id : ℕ) → ChangesCells m new id → (object_at m id).live ≡ true → IsTidy m → IsTidy new
+changed : (m new : Memory) (id : ℕ) → ChangesCells m new id → (object_at m id).live ≡ true → MemoryIsTidy m → MemoryIsTidy new
 changed m new id c live t = record {
   gone = λ k dead. elim (cases_eq k id) [
     | inl e ↦ absurd (clash (object_at m id).live live (sym c.live ∙ ap (λ j. (object_at new j).live) (sym e) ∙ dead))
@@ -37,26 +37,26 @@ changed m new id c live t = record {
   ];
 }
 
-pub put_tidy : (m new : Memory) (p : Ptr) (size : ℕ) (row : _) → IsPut m new p size row → IsTidy m → IsTidy new
+pub put_tidy : (m new : Memory) (p : Ptr) (size : ℕ) (row : _) → IsPut m new p size row → MemoryIsTidy m → MemoryIsTidy new
 put_tidy m new p size row h t =
     changed m new p.object (subst (λ n. ChangesCells m n p.object) (sym h.is) (put_changes m p row h.can)) (lives m p h.can.live) t
 
-pub store_tidy : (m new : Memory) (p : Ptr) (width : ℕ) (v : Value) → IsWidth width → IsStorable width v → store_at m p width v ≡ Ok new → IsTidy m → IsTidy new
+pub store_tidy : (m new : Memory) (p : Ptr) (width : ℕ) (v : Value) → IsWidth width → IsStorable width v → store_at m p width v ≡ Ok new → MemoryIsTidy m → MemoryIsTidy new
 store_tidy m new p width v wide storable is t = put_tidy m new p width (cells_of width v) (store_puts m new p width v wide storable is) t
 
 pub store_count : (m new : Memory) (p : Ptr) (width : ℕ) (v : Value) → IsWidth width → IsStorable width v → store_at m p width v ≡ Ok new → length new ≡ length m
 store_count m new p width v wide storable is =
     let put = store_puts m new p width v wide storable is in ap length put.is ∙ (put_changes m p (cells_of width v) put.can).count
 
-pub copy_tidy : (m new : Memory) (to from : Ptr) (size align : ℕ) → copy_at m to from size align ≡ Ok new → IsTidy m → IsTidy new
+pub copy_tidy : (m new : Memory) (to from : Ptr) (size align : ℕ) → copy_at m to from size align ≡ Ok new → MemoryIsTidy m → MemoryIsTidy new
 copy_tidy m new to from size align is t = put_tidy m new to size (row_at m from size) (copy_puts m new to from size align is) t
 
 pub copy_count : (m new : Memory) (to from : Ptr) (size align : ℕ) → copy_at m to from size align ≡ Ok new → length new ≡ length m
 copy_count m new to from size align is =
     let put = copy_puts m new to from size align is in ap length put.is ∙ (put_changes m to (row_at m from size) put.can).count
 
-pub begin_tidy : (m new : Memory) (size : ℕ) (writable : Bool) → size < 2 ^ 63 → new ≡ begin_object m size writable → IsTidy m → IsTidy new
-begin_tidy m new size writable few is t = subst IsTidy (sym is) (record {
+pub begin_tidy : (m new : Memory) (size : ℕ) (writable : Bool) → size < 2 ^ 63 → new ≡ begin_object m size writable → MemoryIsTidy m → MemoryIsTidy new
+begin_tidy m new size writable few is t = subst MemoryIsTidy (sym is) (record {
   gone = λ k dead. elim (cases_eq k (length m)) [
     | inl e ↦ absurd (clash true refl (sym (ap (λ (x : Object). x.live) (ap (object_at made) e ∙ b.here)) ∙ dead))
     | inr ne ↦ b.others k ne ∙ t.gone k (ap (λ (x : Object). x.live) (sym (b.others k ne)) ∙ dead)
@@ -73,8 +73,8 @@ begin_tidy m new size writable few is t = subst IsTidy (sym is) (record {
     b : BeginChanges m size writable
     b = begin_changes m size writable
 
-pub end_tidy : (m new : Memory) (id : ℕ) → new ≡ end_object m id → IsTidy m → IsTidy new
-end_tidy m new id is t = subst IsTidy (sym is) (record {
+pub end_tidy : (m new : Memory) (id : ℕ) → new ≡ end_object m id → MemoryIsTidy m → MemoryIsTidy new
+end_tidy m new id is t = subst MemoryIsTidy (sym is) (record {
   gone = λ k dead. elim (cases_eq k id) [
     | inl e ↦ ap (object_at (end_object m id)) e ∙ c.here
     | inr ne ↦ c.others k ne ∙ t.gone k (ap (λ (x : Object). x.live) (sym (c.others k ne)) ∙ dead)
@@ -92,5 +92,5 @@ end_tidy m new id is t = subst IsTidy (sym is) (record {
     none = omega arith
 
 -- what has ended stays as it is when it ends
-pub end_gone : (m : Memory) (id : ℕ) → (object_at m id).live ≡ false → IsTidy m → m ≡ end_object m id
+pub end_gone : (m : Memory) (id : ℕ) → (object_at m id).live ≡ false → MemoryIsTidy m → m ≡ end_object m id
 end_gone m id dead t = sym (ap (slice_set m id) (sym (t.gone id dead)) ∙ set-get_or m id no_object)

@@ -14,7 +14,7 @@ use Rattle.mem_model.specs.declared.value.Cell.TheVariants as cell
 use Rattle.mem_model.specs.Cells.{parts_of, cells_of}
 use Rattle.mem_model.specs.Memory.{Memory, put_row, init_at, store_at, byte_of, IsWidth, IsStorable}
 use Rattle.mem_model.proofs.Changes.{init_puts, store_puts}
-use Rattle.vm_operations.specs.Tidy.{IsTidy}
+use Rattle.vm_operations.specs.Tidy.{MemoryIsTidy}
 use Rattle.vm_operations.specs.model.Fills.{Adds}
 use Rattle.vm_operations.specs.model.Units.{HasParts}
 use Rattle.vm_operations.proofs.Fills.{adds_row}
@@ -23,7 +23,7 @@ use Rattle.vm_operations.proofs.Tidiness.{put_tidy}
 abbrev here : (object : ℕ) → ℤ → Ptr
 here object offset = record { object = object; offset = offset }
 
-pub row_adds : (m new : Memory) (object at : ℕ) (offset : ℤ) (values : List Value) → offset ≡ pos at → init_at m (record { object = object; offset = offset }) values ≡ Ok new → IsTidy m → Adds m new object at (map byte_of values)
+pub row_adds : (m new : Memory) (object at : ℕ) (offset : ℤ) (values : List Value) → offset ≡ pos at → init_at m (record { object = object; offset = offset }) values ≡ Ok new → MemoryIsTidy m → Adds m new object at (map byte_of values)
 row_adds m new object at offset values o is t =
     let put = init_puts m new (here object offset) values is in
     adds_row m new object at (map byte_of values) (put.is ∙ ap (λ z. put_row m (here object z) (map byte_of values)) o) (put_tidy m new (here object offset) (length values) (map byte_of values) put t)
@@ -32,12 +32,12 @@ zero_bytes : (n : ℕ) → map byte_of (replicate n (Word 0)) ≡ replicate n (c
 zero_bytes zero = refl
 zero_bytes (suc n) = ap (λ xs. cell.Byte 0 ∷ xs) (zero_bytes n)
 
-pub zeros_adds : (m new : Memory) (object at count most : ℕ) (offset : ℤ) (values : List Value) → offset ≡ pos at → count ≤ most → values ≡ take count (replicate most (Word 0)) → init_at m (record { object = object; offset = offset }) values ≡ Ok new → IsTidy m → Adds m new object at (replicate count (cell.Byte 0))
+pub zeros_adds : (m new : Memory) (object at count most : ℕ) (offset : ℤ) (values : List Value) → offset ≡ pos at → count ≤ most → values ≡ take count (replicate most (Word 0)) → init_at m (record { object = object; offset = offset }) values ≡ Ok new → MemoryIsTidy m → Adds m new object at (replicate count (cell.Byte 0))
 zeros_adds m new object at count most offset values o few row is t =
     subst (Adds m new object at) (ap (map byte_of) (row ∙ take-replicate count most (Word 0) few) ∙ zero_bytes count)
     (row_adds m new object at offset values o is t)
 
-pub address_adds : (m new : Memory) (object at : ℕ) (offset : ℤ) (to : Ptr) → offset ≡ pos at → IsWidth 8 → IsStorable 8 (Address to) → store_at m (record { object = object; offset = offset }) 8 (Address to) ≡ Ok new → IsTidy m → Adds m new object at (parts_of to)
+pub address_adds : (m new : Memory) (object at : ℕ) (offset : ℤ) (to : Ptr) → offset ≡ pos at → IsWidth 8 → IsStorable 8 (Address to) → store_at m (record { object = object; offset = offset }) 8 (Address to) ≡ Ok new → MemoryIsTidy m → Adds m new object at (parts_of to)
 unfolding cells_of
 address_adds m new object at offset to o wide storable is t =
     let put = store_puts m new (here object offset) 8 (Address to) wide storable is in

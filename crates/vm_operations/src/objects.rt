@@ -4,7 +4,7 @@ ghost use Rattle.std.specs.Prelude.{◌≡◌, ◌+◌, ◌<◌, ◌≤◌, ◌^
 ghost use Rattle.std.specs.Bool.{OnFalse};
 ghost use Rattle.mem_model.specs.Memory as mem;
 ghost use Rattle.suifvm_ir.specs.Programs as programs;
-ghost use Rattle.vm_operations.specs.Tidy.{IsTidy};
+ghost use Rattle.vm_operations.specs.Tidy.{MemoryIsTidy};
 ghost use Rattle.vm_meaning.specs.Operations as operations;
 
 use crate::numbers::memory_integer;
@@ -77,7 +77,7 @@ fn load_from(memory: &Mem, ty: Option<IntegerType>, p: Ptr) -> Answer
 
 /// `lod`: a load from a pointer moved by so many bytes.
 pub fn load(memory: &Mem, ty: MemoryType, pointer: Value, plus: i64) -> Answer
-    requires { IsTidy memory.now }
+    requires { MemoryIsTidy memory.now }
     ensures { result ≡ operations.loaded_answer memory.now ty pointer plus }
 {
     match pointer_plus(memory, pointer, plus) {
@@ -103,11 +103,11 @@ fn is_storable(ty: Option<IntegerType>, value: Value) -> bool
 /// A store to an address. It answers whether it was done.
 #[tactic(auto, using(crate::proofs::Tidiness::store_tidy, crate::proofs::Tidiness::store_count))]
 fn store_to(memory: &mut Mem, ty: Option<IntegerType>, p: Ptr, value: Value) -> bool
-    requires { IsTidy memory.old }
+    requires { MemoryIsTidy memory.old }
     ensures value { operations.store_through memory.old ty (Some (Value.Address p)) value
         ≡ (if result then Some memory.new else None) }
     ensures kept { OnFalse result (memory.new ≡ memory.old) }
-    ensures tidy { IsTidy memory.new }
+    ensures tidy { MemoryIsTidy memory.new }
     ensures count { length memory.new ≡ length memory.old }
 {
     if !is_storable(ty, value) {
@@ -118,11 +118,11 @@ fn store_to(memory: &mut Mem, ty: Option<IntegerType>, p: Ptr, value: Value) -> 
 
 /// `str`: a store to a pointer moved by so many bytes. It answers whether it was done.
 pub fn store(memory: &mut Mem, ty: MemoryType, pointer: Value, plus: i64, value: Value) -> bool
-    requires { IsTidy memory.old }
+    requires { MemoryIsTidy memory.old }
     ensures value { operations.stored_memory memory.old ty pointer plus value
         ≡ (if result then Some memory.new else None) }
     ensures kept { OnFalse result (memory.new ≡ memory.old) }
-    ensures tidy { IsTidy memory.new }
+    ensures tidy { MemoryIsTidy memory.new }
     ensures count { length memory.new ≡ length memory.old }
 {
     match pointer_plus(memory, pointer, plus) {
@@ -148,11 +148,11 @@ fn bytes_of(align: Alignment) -> u32
 /// A copy from address to address. It answers whether it was done.
 #[tactic(auto, using(crate::proofs::Tidiness::copy_tidy, crate::proofs::Tidiness::copy_count))]
 fn copy_cells(memory: &mut Mem, to: Ptr, from: Ptr, size: u64, align: u32) -> bool
-    requires { IsTidy memory.old }
+    requires { MemoryIsTidy memory.old }
     ensures value { operations.ok_of (mem.copy_at memory.old to from size align)
         ≡ (if result then Some memory.new else None) }
     ensures kept { OnFalse result (memory.new ≡ memory.old) }
-    ensures tidy { IsTidy memory.new }
+    ensures tidy { MemoryIsTidy memory.new }
     ensures count { length memory.new ≡ length memory.old }
 {
     memory.copy(to, from, size, align).is_ok()
@@ -160,11 +160,11 @@ fn copy_cells(memory: &mut Mem, to: Ptr, from: Ptr, size: u64, align: u32) -> bo
 
 /// `mcpy`: a copy of so many cells. It answers whether it was done.
 pub fn copy(memory: &mut Mem, to: Value, from: Value, size: u64, align: Alignment) -> bool
-    requires { IsTidy memory.old }
+    requires { MemoryIsTidy memory.old }
     ensures value { operations.copied_memory memory.old to from size (programs.alignment_bytes align)
         ≡ (if result then Some memory.new else None) }
     ensures kept { OnFalse result (memory.new ≡ memory.old) }
-    ensures tidy { IsTidy memory.new }
+    ensures tidy { MemoryIsTidy memory.new }
     ensures count { length memory.new ≡ length memory.old }
 {
     match to {
@@ -182,10 +182,10 @@ pub fn copy(memory: &mut Mem, to: Value, from: Value, size: u64, align: Alignmen
 /// as before.
 #[tactic(auto, using(crate::proofs::Tidiness::begin_tidy))]
 pub(crate) fn begin_object(memory: &mut Mem, size: u64, writable: bool) -> Result<u64, AllocError>
-    requires { IsTidy memory.old }
+    requires { MemoryIsTidy memory.old }
     ensures number { IfOk result (λ id. id ≡ length memory.old) }
     ensures ok { OnOk result (memory.new ≡ mem.begin_object memory.old size writable) }
-    ensures tidy { IsTidy memory.new }
+    ensures tidy { MemoryIsTidy memory.new }
 {
     if size >= MOST_CELLS {
         return Err(AllocError);
@@ -196,9 +196,9 @@ pub(crate) fn begin_object(memory: &mut Mem, size: u64, writable: bool) -> Resul
 /// Makes the objects of a call. Where memory is short, some are made.
 #[tactic(auto, using(crate::proofs::Lives::begin_next, crate::proofs::Lives::begin_end))]
 pub fn begin_objects(memory: &mut Mem, objects: &[MemoryLocal]) -> Result<(), AllocError>
-    requires { IsTidy memory.old }
+    requires { MemoryIsTidy memory.old }
     ensures ok { OnOk result (memory.new ≡ mem.begin_objects memory.old (map (λ o. o.size) objects.now)) }
-    ensures tidy { IsTidy memory.new }
+    ensures tidy { MemoryIsTidy memory.new }
 {
     for object in objects {
         begin_object(memory, object.size, true)?;
@@ -209,9 +209,9 @@ pub fn begin_objects(memory: &mut Mem, objects: &[MemoryLocal]) -> Result<(), Al
 /// Ends an object, where it lives.
 #[tactic(auto, using(crate::proofs::Tidiness::end_tidy, crate::proofs::Tidiness::end_gone))]
 fn end_object(memory: &mut Mem, id: u64)
-    requires { IsTidy memory.old }
+    requires { MemoryIsTidy memory.old }
     ensures value { memory.new ≡ mem.end_object memory.old id }
-    ensures tidy { IsTidy memory.new }
+    ensures tidy { MemoryIsTidy memory.new }
 {
     if memory.size_of(id).is_some() {
         memory.end_object(id);
@@ -221,10 +221,10 @@ fn end_object(memory: &mut Mem, id: u64)
 /// Ends so many objects, from a number on.
 #[tactic(auto, using(crate::proofs::Lives::end_next, crate::proofs::Lives::end_none))]
 pub fn end_objects(memory: &mut Mem, first: u64, count: u64)
-    requires tidy { IsTidy memory.old }
+    requires tidy { MemoryIsTidy memory.old }
     requires numbers { first + count ≤ 2 ^ 63 }
     ensures value { memory.new ≡ mem.end_objects memory.old first count }
-    ensures tidy { IsTidy memory.new }
+    ensures tidy { MemoryIsTidy memory.new }
 {
     for k in 0..count {
         end_object(memory, first + k);

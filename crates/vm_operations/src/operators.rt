@@ -1,7 +1,7 @@
 //! Operators on the values of registers of any type.
 
 ghost use Rattle.std.specs.Prelude.{◌≡◌, not, option_map, Some};
-ghost use Rattle.vm_operations.specs.Tidy.{IsTidy};
+ghost use Rattle.vm_operations.specs.Tidy.{MemoryIsTidy};
 ghost use Rattle.vm_meaning.specs.Operations as operations;
 
 use crate::numbers::{binary_in, compare_in};
@@ -16,7 +16,7 @@ use vm_meaning::answer::Answer;
 
 /// `add`, `sub`, `mul`, `div`, `rem`, `and`, `ior`, `xor`.
 pub fn binary(memory: &Mem, op: VmBinaryOp, ty: VmType, a: Value, b: Value) -> Answer
-    requires { IsTidy memory.now }
+    requires { MemoryIsTidy memory.now }
     ensures { result ≡ operations.binary_answer memory.now op ty a b }
 {
     match ty {

@@ -5,7 +5,7 @@ ghost use Rattle.std.specs.Ordering.{int_eq};
 ghost use Rattle.mem_model.specs.Pointers as pointers;
 ghost use Rattle.c_arithmetic.specs.declared.integer_type.IntegerType.TheVariants.{Long};
 ghost use Rattle.c_arithmetic.specs.Words as words;
-ghost use Rattle.vm_operations.specs.Tidy.{IsTidy};
+ghost use Rattle.vm_operations.specs.Tidy.{MemoryIsTidy};
 ghost use Rattle.vm_meaning.specs.Operations as operations;
 
 use mem_model::memory::Mem;
@@ -59,7 +59,7 @@ fn share_object(memory: &Mem, p: Ptr, q: Ptr) -> bool
 
 /// An address moved by so many bytes.
 fn address_plus(memory: &Mem, p: Ptr, by: i64) -> Option<Ptr>
-    requires { IsTidy memory.now }
+    requires { MemoryIsTidy memory.now }
     ensures { result
         ≡ pointers.when
         (pointers.is_live memory.now p && pointers.is_offset (p.offset +ℤ by) (pointers.size_at memory.now p))
@@ -79,7 +79,7 @@ fn address_plus(memory: &Mem, p: Ptr, by: i64) -> Option<Ptr>
 
 /// A pointer moved by so many bytes (C99 6.5.6).
 pub(crate) fn pointer_plus(memory: &Mem, value: Value, by: i64) -> Option<Value>
-    requires { IsTidy memory.now }
+    requires { MemoryIsTidy memory.now }
     ensures { result ≡ pointers.pointer_plus memory.now value by }
 {
     match value {
@@ -123,7 +123,7 @@ fn answer_of(value: Option<Value>) -> Answer
 
 /// A sum of a pointer and bytes.
 fn sum(memory: &Mem, a: Value, b: Value) -> Answer
-    requires { IsTidy memory.now }
+    requires { MemoryIsTidy memory.now }
     ensures { result ≡ operations.pointer_answer memory.now VmBinaryOp.Add a b }
 {
     match b {
@@ -135,7 +135,7 @@ fn sum(memory: &Mem, a: Value, b: Value) -> Answer
 
 /// An operation on two registers of pointers.
 pub(crate) fn pointer_answer(memory: &Mem, op: VmBinaryOp, a: Value, b: Value) -> Answer
-    requires { IsTidy memory.now }
+    requires { MemoryIsTidy memory.now }
     ensures { result ≡ operations.pointer_answer memory.now op a b }
 {
     match op {

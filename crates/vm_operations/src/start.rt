@@ -4,7 +4,7 @@ ghost use Rattle.std.specs.Prelude.{◌≡◌, ◌-◌, ◌<◌, ◌≤◌, ◌+
 ghost use Rattle.data_object.specs.Start as starts;
 ghost use Rattle.mem_model.specs.Cells.{parts_of};
 ghost use Rattle.mem_model.specs.declared.value.Cell.TheVariants as cell;
-ghost use Rattle.vm_operations.specs.Tidy.{IsTidy};
+ghost use Rattle.vm_operations.specs.Tidy.{MemoryIsTidy};
 ghost use Rattle.vm_operations.specs.model.Fills.{Adds};
 ghost use Rattle.vm_operations.specs.model.Units.{HasParts};
 
@@ -19,7 +19,7 @@ const ZEROS: usize = 64;
 
 /// Puts a byte into an object. Where it has no place there, it is as for want of memory.
 fn put_byte(memory: &mut Mem, object: u64, at: u64, byte: u8) -> Result<(), AllocError>
-    requires { IsTidy memory.old }
+    requires { MemoryIsTidy memory.old }
     ensures { OnOk result (Adds memory.old memory.new object at (cell.Byte byte ∷ [])) }
 {
     let Ok(offset) = i64::try_from(at) else {
@@ -33,7 +33,7 @@ fn put_byte(memory: &mut Mem, object: u64, at: u64, byte: u8) -> Result<(), Allo
 
 /// Puts an address into an object, in the same way.
 fn put_address(memory: &mut Mem, object: u64, at: u64, to: Ptr) -> Result<(), AllocError>
-    requires { IsTidy memory.old }
+    requires { MemoryIsTidy memory.old }
     ensures { OnOk result (Adds memory.old memory.new object at (parts_of to)) }
 {
     let Ok(offset) = i64::try_from(at) else {
@@ -84,7 +84,7 @@ fn put_whole(
     global: u32,
     plus: u64,
 ) -> Result<(), AllocError>
-    requires { IsTidy memory.old }
+    requires { MemoryIsTidy memory.old }
     ensures parts { OnOk result (HasParts cells.now global plus 8) }
     ensures adds { OnOk result (Adds memory.old memory.new object at (map starts.memory_cell (take 8 cells.now))) }
 {
@@ -106,7 +106,7 @@ fn put_whole(
 /// begins with another part of an address is as for want of memory; no lawful object does.
 #[tactic(auto, using(crate::proofs::Units::byte_unit, crate::proofs::Units::address_within))]
 fn put_unit(memory: &mut Mem, object: u64, at: u64, cells: &[DataCell]) -> Result<usize, AllocError>
-    requires tidy { IsTidy memory.old }
+    requires tidy { MemoryIsTidy memory.old }
     requires some { 0 < length cells.now }
     ensures more { IfOk result (λ n. 0 < n) }
     ensures within { IfOk result (λ n. n ≤ length cells.now) }
@@ -136,7 +136,7 @@ fn cells_from(cells: &[DataCell], at: usize) -> &[DataCell]
 /// Puts cells into an object, from its front on.
 #[tactic(auto, using(crate::proofs::Fills::adds_nothing, crate::proofs::Loops::cells_all))]
 fn put_cells(memory: &mut Mem, object: u64, cells: &[DataCell]) -> Result<(), AllocError>
-    requires { IsTidy memory.old }
+    requires { MemoryIsTidy memory.old }
     ensures { OnOk result (Adds memory.old memory.new object 0 (map starts.memory_cell cells.now)) }
 {
     let mut at: usize = 0;
@@ -150,7 +150,7 @@ fn put_cells(memory: &mut Mem, object: u64, cells: &[DataCell]) -> Result<(), Al
 
 /// Puts some zero bytes into an object, in the same way as one byte.
 fn put_zero_row(memory: &mut Mem, object: u64, at: u64, count: usize) -> Result<(), AllocError>
-    requires tidy { IsTidy memory.old }
+    requires tidy { MemoryIsTidy memory.old }
     requires few { count ≤ ZEROS }
     ensures { OnOk result (Adds memory.old memory.new object at (replicate count (cell.Byte 0))) }
 {
@@ -167,7 +167,7 @@ fn put_zero_row(memory: &mut Mem, object: u64, at: u64, count: usize) -> Result<
 /// Puts zero bytes into an object, from a place up to an end.
 #[tactic(auto, using(crate::proofs::Loops::zeros_none, crate::proofs::Loops::zeros_all))]
 fn put_zeros(memory: &mut Mem, object: u64, first: u64, end: u64) -> Result<(), AllocError>
-    requires tidy { IsTidy memory.old }
+    requires tidy { MemoryIsTidy memory.old }
     requires order { first ≤ end }
     ensures { OnOk result (Adds memory.old memory.new object first (replicate (end - first) (cell.Byte 0))) }
 {
@@ -184,9 +184,9 @@ fn put_zeros(memory: &mut Mem, object: u64, first: u64, end: u64) -> Result<(), 
 /// an address alone, which no lawful object has, it is as for want of memory.
 #[tactic(auto, using(crate::proofs::Loops::object_made))]
 fn make_object(memory: &mut Mem, object: &DataObject) -> Result<(), AllocError>
-    requires { IsTidy memory.old }
+    requires { MemoryIsTidy memory.old }
     ensures made { OnOk result (memory.new ≡ memory.old ++ starts.start_object object.now ∷ []) }
-    ensures tidy { OnOk result (IsTidy memory.new) }
+    ensures tidy { OnOk result (MemoryIsTidy memory.new) }
 {
     let cells = object.cells.as_slice();
     let count = cells.len() as u64;
@@ -203,7 +203,7 @@ fn make_object(memory: &mut Mem, object: &DataObject) -> Result<(), AllocError>
 #[tactic(auto, using(crate::proofs::Loops::none_tidy, crate::proofs::Loops::objects_more, crate::proofs::Loops::objects_all, crate::proofs::Loops::objects_count))]
 pub fn start_memory(alloc: Global, globals: &[DataObject]) -> Result<Mem, AllocError>
     ensures memory { IfOk result (λ m. m ≡ starts.start_memory globals.now) }
-    ensures tidy { IfOk result (λ m. IsTidy m) }
+    ensures tidy { IfOk result (λ m. MemoryIsTidy m) }
     ensures count { IfOk result (λ m. length m ≡ length globals.now) }
 {
     let mut memory = Mem::new(alloc);

@@ -4,13 +4,13 @@ use Rattle.c_tree.specs.declared.declarations.Init.{Init}
 use Rattle.c_typed_tree.specs.declared.types.CType.{CType}
 use Rattle.c_initial_values.specs.Parts.{part_of}
 use Rattle.c_checks.specs.Checks.{and_then}
-use Rattle.c_judgements.specs.Types.{State}
+use Rattle.c_judgements.specs.Types.{JudgementState}
 use Rattle.c_initialisers.specs.declared.lists.InitialiserItems.{InitialiserItems}
 use Rattle.c_initialisers.specs.Unfit.{judge_init, is_whole_with}
 use Rattle.c_initialisers.specs.Values.{FillingState, beside}
 use Rattle.c_initialisers.specs.Initialisers.{initialise, if_part, counted_by, with_item, with_surplus}
 
-abbrev pub judge_inits : List Init → (whole : Bool) → State → Bool × State
+abbrev pub judge_inits : List Init → (whole : Bool) → JudgementState → Bool × JudgementState
 judge_inits [] whole s = (whole, s)
 judge_inits (x ∷ xs) whole s = and_then (judge_init x s) (λ place. judge_inits xs (is_whole_with whole place))
 
@@ -19,6 +19,8 @@ one_item x ty place k found s =
     if_part (part_of s.1.1.structs ty k) (counted_by with_surplus found (beside s.0 (judge_init x s.1)))
     (λ p. counted_by with_item found (initialise x p.ty (place + p.place) s))
 
-abbrev pub items_from : List Init → CType → (place k : ℕ) → InitialiserItems → FillingState → InitialiserItems × FillingState
+abbrev pub items_from : List Init → CType → (place k : ℕ) → InitialiserItems → FillingState →
+    InitialiserItems × FillingState
 items_from [] ty place k found s = (found, s)
-items_from (x ∷ xs) ty place k found s = and_then (one_item x ty place k found s) (λ r. items_from xs ty place (k + 1) r)
+items_from (x ∷ xs) ty place k found s = and_then (one_item x ty place k found s)
+    (λ r. items_from xs ty place (k + 1) r)

@@ -1,7 +1,7 @@
 -- What functions that read ensure where they leave a scope too, or read all tokens.
 use Rattle.std.specs.Prelude.{◌≡◌, ◌≢◌, List, Result, Ok, Err}
 use Rattle.c_lexer.specs.Pieces.{Lexeme}
-use Rattle.c_expression_parser.specs.Answers.{HasCause}
+use Rattle.c_expression_parser.specs.Answers.{ParseStopHasCause}
 use Rattle.c_expression_parser.specs.declared.cursor.ParseStop.{ParseStop}
 use Rattle.c_expression_parser.specs.declared.cursor.ParseStop.TheVariants.{NoMemory}
 use Rattle.c_tree.specs.declared.declarations.External.{External}
@@ -12,10 +12,10 @@ use Rattle.c_grammar.specs.Parser.{ParseOutcome}
 abbrev pub AnswersIn :
     {A : Type 0} → ParseOutcome (A × TypeNames) → Result A ParseStop → TypeNames → List Lexeme → Type 0
 AnswersIn outcome (Ok a) scope new = outcome ≡ Ok ((a, scope), new)
-AnswersIn outcome (Err e) scope new = (e ≢ NoMemory → outcome ≡ Err new) × HasCause e
+AnswersIn outcome (Err e) scope new = (e ≢ NoMemory → outcome ≡ Err new) × ParseStopHasCause e
 
 -- of a function that reads all tokens
 abbrev pub AnswersUnit :
     Result (List External) (List Lexeme) → Result (List External) ParseStop → List Lexeme → Type 0
 AnswersUnit outcome (Ok a) new = outcome ≡ Ok a
-AnswersUnit outcome (Err e) new = (e ≢ NoMemory → outcome ≡ Err new) × HasCause e
+AnswersUnit outcome (Err e) new = (e ≢ NoMemory → outcome ≡ Err new) × ParseStopHasCause e

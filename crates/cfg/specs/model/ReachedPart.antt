@@ -8,7 +8,8 @@ use Rattle.cfg.specs.Contents.{KeepsBlocks, KeepsBack}
 use Rattle.cfg.specs.Measures.{NoMeasureGrows}
 
 -- what the invariants of a function ask of these blocks, and what they keep of those before
-pub record IsReachedPart {I : Type 0} (reads writes targets : I → List ℕ) (with_target : I → ℕ → ℕ → I) (flows_on : I → Bool) (before after : List (List I)) : Type 0 where
+pub record IsReachedPart {I : Type 0} (reads writes targets : I → List ℕ) (with_target : I → ℕ → ℕ → I)
+    (flows_on : I → Bool) (before after : List (List I)) : Type 0 where
   pub targets_there : AllInsns (GoesToBlocks targets (length after)) after
   pub straight : All (EndsLate targets flows_on) after
   pub stopped : IsTrue (stops flows_on after)

@@ -9,7 +9,8 @@ use Rattle.cfg_edges.specs.Critical.{NoneCritical, critical_count}
 use Rattle.cfg_edges.specs.Added.{AddsJumps}
 
 -- what the invariants of a function ask of these blocks, and what they keep of those before
-pub record IsSplitPart {I : Type 0} (reads writes targets : I → List ℕ) (with_target : I → ℕ → ℕ → I) (jump_to : ℕ → I) (flows_on : I → Bool) (before after : List (List I)) : Type 0 where
+pub record IsSplitPart {I : Type 0} (reads writes targets : I → List ℕ) (with_target : I → ℕ → ℕ → I)
+    (jump_to : ℕ → I) (flows_on : I → Bool) (before after : List (List I)) : Type 0 where
   pub targets_there : AllInsns (GoesToBlocks targets (length after)) after
   pub straight : All (EndsLate targets flows_on) after
   pub stopped : IsTrue (stops flows_on after)

@@ -22,6 +22,7 @@ use Rattle.selection_laws.specs.Laws.{SelectionKeeps}
 use Rattle.program_passes.specs.Prepared.{ArePrepared}
 use Rattle.alloc_model.specs.declared.allocation.Allocation.{Allocation}
 use Rattle.plain_programs.specs.Allocations.{AreAllocationsOf}
+use Rattle.program_rooms.specs.AllocationLaws.{HasFrame}
 use Rattle.program_rooms.specs.Assemblies.{gathered}
 use Rattle.program_rooms.specs.Layouts.{end_label, FitsProgram, FunctionsAreLaidOut}
 use Rattle.program_rooms.specs.Programs.{IsAllocated, HasItemsOf, Placing, plans_of}
@@ -33,19 +34,23 @@ use Rattle.compiler.specs.Made.{Made, CodeRunsAs, IsTidy}
 
 -- ---- the code of a unit
 
--- what lowering, selection and the passes over blocks give of a unit
-pub record IsCodeWithin (u : TypedUnit) (vm : VmProgram) (temps : TempProgram) : Type 0 where
-  pub code : IsCodeOf u vm
-  pub weights : AreWithinWeight u.structs u.functions vm.functions
-  pub size : program_size vm.functions ≤ 2 ^ 24
+-- what selection and the passes over blocks give of code over virtual registers
+pub record AreTempsOf (vm : VmProgram) (temps : TempProgram) : Type 0 where
   pub selected : TempProgram
   pub are_selected : AreSelected vm.functions selected.functions
   pub keeps : SelectionKeeps vm selected
   pub costs : CostLittle vm.functions selected.functions
   pub prepared : ArePrepared selected.functions temps.functions
   pub same_globals : temps.globals ≡ selected.globals
-  pub globals : temps.globals ≡ u.globals
+  pub globals : temps.globals ≡ vm.globals
   pub labels : sum_by (λ (f : TempFn). length f.blocks + 2) temps.functions < 2 ^ 30
+
+-- what lowering and these give of a unit
+pub record IsCodeWithin (u : TypedUnit) (vm : VmProgram) (temps : TempProgram) : Type 0 where
+  pub code : IsCodeOf u vm
+  pub weights : AreWithinWeight u.structs u.functions vm.functions
+  pub size : program_size vm.functions ≤ 2 ^ 24
+  pub over_temps : AreTempsOf vm temps
 
 -- ---- the assembly
 
@@ -59,11 +64,19 @@ pub record CanBeLaidOut (temps : TempProgram) (allocations : List Allocation) : 
   pub lawful : AreLawful temps.globals
   pub data_size : data_end temps.globals ≤ MOST_DATA
 
-abbrev pub CodeCanBeLaidOut : Type 0
-CodeCanBeLaidOut =
-    (text : List ℕ) (tree : TranslationUnit) (u : TypedUnit) (vm : VmProgram) (temps : TempProgram)
-    (allocations : List Allocation) → IsUnitWithin text tree u → IsCodeWithin u vm temps →
-    AreAllocationsOf temps.functions allocations → CanBeLaidOut temps allocations
+-- a program can be assembled: whatever allocations its functions get, they can be laid out and gathered
+pub record ProgramCanBeAssembled (temps : TempProgram) : Type 0 where
+  pub frames : All HasFrame temps.functions
+  pub names : All (λ (f : TempFn). IsTrue (is_name f.name)) temps.functions
+  pub labels : sum_by (λ (f : TempFn). length f.blocks + 2) temps.functions < 2 ^ 30
+  pub data_size : data_end temps.globals ≤ MOST_DATA
+  pub laid_out : (allocations : List Allocation) → AreAllocationsOf temps.functions allocations →
+      CanBeLaidOut temps allocations
+
+abbrev pub CodeCanBeAssembled : Type 0
+CodeCanBeAssembled =
+    (text : List ℕ) (tree : TranslationUnit) (u : TypedUnit) (vm : VmProgram) (temps : TempProgram) →
+    IsUnitWithin text tree u → IsCodeWithin u vm temps → ProgramCanBeAssembled temps
 
 -- an assembly is gathered of functions that are laid out by these allocations, and is whole
 pub record IsAssemblyOf (temps : TempProgram) (allocations : List Allocation) (asm : Assembly) : Type 0 where

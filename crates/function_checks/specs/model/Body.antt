@@ -2,7 +2,8 @@
 use Rattle.std.specs.Prelude.{ℕ, ◌<◌, ◌^◌, Bool, List, length, All, IsTrue}
 use Rattle.suifvm_ir.specs.Functions.{AllInsns, GoesToBlocks, UsesRegisters, EndsLate, stops, count_of}
 
-pub record IsBody {I : Type 0} (reads writes targets : I → List ℕ) (flows_on : I → Bool) (temps : ℕ) (blocks : List (List I)) : Type 0 where
+pub record IsBody {I : Type 0} (reads writes targets : I → List ℕ) (flows_on : I → Bool) (temps : ℕ)
+    (blocks : List (List I)) : Type 0 where
   pub goes : AllInsns (GoesToBlocks targets (length blocks)) blocks
   pub straight : All (EndsLate targets flows_on) blocks
   pub stop : IsTrue (stops flows_on blocks)

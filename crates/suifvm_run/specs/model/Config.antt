@@ -19,7 +19,7 @@ use Rattle.suifvm_run.specs.declared.machine.Turn.{Turn}
 use Rattle.suifvm_run.specs.declared.machine.Turn.TheVariants as turn
 use Rattle.suifvm_run.specs.declared.tables.ProgramTable.{ProgramTable}
 use Rattle.suifvm_run.specs.model.Tables.{functions_of, AreNumbered}
-use Rattle.vm_operations.specs.Tidy.{IsTidy}
+use Rattle.vm_operations.specs.Tidy.{MemoryIsTidy}
 
 -- ---- where it stands
 
@@ -76,7 +76,7 @@ Wait p (c ∷ cs) stack =
 
 pub record IsSound (m : Machine) : Type 0 where
   pub numbers : AreNumbered 0 m.program.now.functions.items m.program.now.end
-  pub memory : IsTidy m.memory
+  pub memory : MemoryIsTidy m.memory
   pub made : m.made ≡ length m.memory
   pub few : m.made ≤ 2 ^ 63
   pub within : m.here.base ≤ length m.stack.items

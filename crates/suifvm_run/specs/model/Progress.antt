@@ -12,7 +12,8 @@ use Rattle.suifvm_run.specs.declared.machine.Stop.TheVariants as stop
 use Rattle.suifvm_run.specs.declared.tables.ProgramTable.{ProgramTable}
 use Rattle.suifvm_run.specs.model.Config.{Hidden, config_of}
 use Rattle.suifvm_run.specs.model.Tables.{functions_of}
-use Rattle.suifvm_run.specs.Run.{Steps, Traffic, count_plus}
+use Rattle.suifvm_run.specs.Run.{Steps}
+use Rattle.bk_io.specs.Outside.{Traffic, count_plus}
 use Rattle.suifvm_run.specs.model.Stops.{IsRun}
 
 -- the steps of a program from a configuration

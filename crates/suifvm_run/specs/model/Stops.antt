@@ -6,7 +6,8 @@ use Rattle.mem_model.specs.Ending.{Ending, Done, Trap, Undefined, More}
 use Rattle.machine_model.specs.Machine.{Over}
 use Rattle.suifvm_run.specs.declared.ending.VmEnding.{VmEnding}
 use Rattle.suifvm_run.specs.declared.ending.VmEnding.TheVariants as e
-use Rattle.suifvm_run.specs.Run.{Steps, GoesOn, TakesNext, PutsNext, Traffic, count_plus, input_calls}
+use Rattle.suifvm_run.specs.Run.{Steps, GoesOn, TakesNext, PutsNext, input_calls}
+use Rattle.bk_io.specs.Outside.{Traffic, count_plus}
 
 -- a run is over after some number of steps
 pub record EndsWith (run : Steps) (e : Ending) : Type 0 where

@@ -3,7 +3,7 @@ use Rattle.std.specs.Prelude.{◌≡◌, ℕ, ◌-◌, Bool, true, List, [], ◌
 use Rattle.mem_model.specs.declared.value.Cell.{Cell}
 use Rattle.mem_model.specs.declared.value.Cell.TheVariants.{Empty}
 use Rattle.mem_model.specs.Memory.{Object, Memory}
-use Rattle.vm_operations.specs.Tidy.{IsTidy}
+use Rattle.vm_operations.specs.Tidy.{MemoryIsTidy}
 
 -- its front holds cells, and the rest was never written
 abbrev pub with_front : (writable : Bool) → (size : ℕ) → (front : List Cell) → Object
@@ -15,4 +15,4 @@ pub record Adds (old new : Memory) (object at : ℕ) (row : List Cell) : Type 0 
   pub fronts : (before : Memory) (writable : Bool) (size : ℕ) (front : List Cell) →
       object ≡ length before → at ≡ length front → old ≡ before ++ with_front writable size front ∷ [] →
       new ≡ before ++ with_front writable size (front ++ row) ∷ []
-  pub tidy : IsTidy new
+  pub tidy : MemoryIsTidy new

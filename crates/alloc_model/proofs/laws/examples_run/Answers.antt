@@ -16,6 +16,7 @@ returns c = record {
   aborts = refl;
   divides = refl;
   divides_by_zero = refl;
+  divides_nothing = refl;
   not_held = refl;
   branches = refl;
   falls_through = refl;

@@ -4,14 +4,14 @@ use Rattle.alpha_isa.specs.Program.{Program, IsLawful}
 use Rattle.alpha_isa.specs.ImageFormat.{IsImage}
 use Rattle.alpha_image.specs.declared.read.ImageFault.{ImageFault}
 use Rattle.alpha_image.specs.declared.read.ImageFault.TheVariants.{NoMemory}
-use Rattle.alpha_image.specs.ReadImage.{IsFault}
+use Rattle.alpha_image.specs.ReadImage.{IsImageFault}
 use Rattle.alpha_image.specs.ImageFault.{length_fault, image_fault, first_of}
 use Rattle.alpha_image.proofs.ImageFaults.{found, was_read, image_fault-length}
 use Rattle.alpha_image.proofs.read.read_image.Goals as goal
 
 -- want of memory for bytes that have no place at which they stop being an image
-short_fault : (bytes : List ℕ) (f : ImageFault) → image_fault bytes ≡ None → (f ≡ NoMemory) × MemoryIsShort → IsFault f bytes
-short_fault bytes f none told = subst (λ f. IsFault f bytes) (sym told.0) (none, told.1)
+short_fault : (bytes : List ℕ) (f : ImageFault) → image_fault bytes ≡ None → (f ≡ NoMemory) × MemoryIsShort → IsImageFault f bytes
+short_fault bytes f none told = subst (λ f. IsImageFault f bytes) (sym told.0) (none, told.1)
 
 pub returns-in-Err-clause-bad : goal.returns-in-Err-clause-bad
 unfolding image_fault

@@ -1,6 +1,6 @@
 use Rattle.std.proofs.Common.{◌+◌, ◌-◌, ◌<◌, ◌≤◌, ◌^◌, map, length}
 use Rattle.std.proofs.lemmas.Bool.{OnTrue_from}
-use Rattle.data_object.specs.Layout.{LieFrom, data_end}
+use Rattle.data_object.specs.Layout.{ObjectsLieFrom, data_end}
 use Rattle.suifvm_ir.specs.Functions.{AllInsns}
 use Rattle.alloc_model.specs.Effect.{widest_call}
 use Rattle.flat_frames.specs.Shapes.{objects_size}
@@ -19,7 +19,7 @@ returns-clause-labels c =
     OnTrue_from c.is_fit.result (c.args.first_label + length c.args.a.now.func.blocks < 2 ^ 32 - 1) (λ e. (c.is_fit.ensures.0 e).labels)
 
 pub returns-clause-layout : goal.returns-clause-layout
-returns-clause-layout c = OnTrue_from c.is_fit.result (LieFrom 0 c.args.globals.now) (λ e. (c.is_fit.ensures.0 e).layout)
+returns-clause-layout c = OnTrue_from c.is_fit.result (ObjectsLieFrom 0 c.args.globals.now) (λ e. (c.is_fit.ensures.0 e).layout)
 
 pub returns-clause-data_size : goal.returns-clause-data_size
 returns-clause-data_size c =

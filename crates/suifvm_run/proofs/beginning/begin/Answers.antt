@@ -2,7 +2,7 @@
 use Rattle.std.proofs.Common.{◌≡◌, ◌≤◌, ◌+◌, ◌^◌, [], map, length, Some, None, refl, rules}
 use Rattle.std.specs.Prelude.{slice_get}
 use Rattle.mem_model.specs.Memory.{begin_objects}
-use Rattle.vm_operations.specs.Tidy.{IsTidy}
+use Rattle.vm_operations.specs.Tidy.{MemoryIsTidy}
 use Rattle.suifvm_run.proofs.Begins.{begins, no_function_at_once, no_block_at_once}
 use Rattle.suifvm_run.proofs.beginning.begin.Goals as goal
 
@@ -22,7 +22,7 @@ returns-clause-begins c =
     let table : slice_get c.args.program.now.functions.items c.args.main ≡ Some c.in-Some.table.now = search rules in
     let row : slice_get c.in-Some.table.now.blocks.items 0 ≡ Some c.in-Some-block_at.row.now = search rules in
     let few : c.args.made + length c.in-Some.table.now.objects.now ≤ 2 ^ 63 = search rules in
-    let tidy : IsTidy c.begin_locals.new.memory = search rules in
+    let tidy : MemoryIsTidy c.begin_locals.new.memory = search rules in
     let memory : c.begin_locals.new.memory ≡ begin_objects c.args.memory (map (λ o. o.size) c.in-Some.table.now.objects.now) = search rules in
     let stack : c.new.result.items ≡ [] = search rules in
     let callers : c.new-2.result.items ≡ [] = search rules in

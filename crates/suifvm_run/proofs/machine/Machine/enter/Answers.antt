@@ -3,7 +3,7 @@ use Rattle.std.proofs.Common.{◌≡◌, ◌≤◌, ◌+◌, ◌^◌, ◌∷◌,
 use Rattle.std.specs.Prelude.{slice_get}
 use Rattle.mem_model.specs.Memory.{begin_objects}
 use Rattle.vm_meaning.specs.Behave.{registers_of}
-use Rattle.vm_operations.specs.Tidy.{IsTidy}
+use Rattle.vm_operations.specs.Tidy.{MemoryIsTidy}
 use Rattle.suifvm_run.proofs.Entries.{entered, no_function, no_block}
 use Rattle.suifvm_run.proofs.machine.Machine.enter.Goals as goal
 
@@ -24,7 +24,7 @@ returns-in-Ok c i =
     let row : slice_get c.in-Some.table.now.blocks.items 0 ≡ Some c.in-Some-block_at.row.now = search rules in
     let base : c.len-base.result ≡ length c.args.self.now.stack.items = search rules in
     let few : c.args.self.now.made + length c.in-Some.table.now.objects.now ≤ 2 ^ 63 = search rules in
-    let tidy : IsTidy c.begin_call.new.memory = search rules in
+    let tidy : MemoryIsTidy c.begin_call.new.memory = search rules in
     let memory : c.begin_call.new.memory ≡ begin_objects c.args.self.now.memory (map (λ o. o.size) c.in-Some.table.now.objects.now) = search rules in
     let stack : c.begin_call.new.stack.items ≡ c.args.self.now.stack.items ++ map (registers_of (drop c.args.self.now.here.base c.args.self.now.stack.items)) c.args.arguments.now = search rules in
     let callers : c.begin_call.new.callers.items ≡ c.args.self.now.callers.items ++ c.args.self.now.here ∷ [] = search rules in

@@ -3,7 +3,7 @@ use Rattle.std.proofs.Common.{◌≡◌}
 use Rattle.machine_model.specs.Machine.{Config}
 use Rattle.mem_model.specs.World.{Rooms}
 use Rattle.vm_meaning.specs.Behave.{Registers}
-use Rattle.suifvm_run.specs.Run.{Traffic}
+use Rattle.bk_io.specs.Outside.{Traffic}
 use Rattle.suifvm_run.specs.model.Config.{IsSound, program_of}
 use Rattle.suifvm_run.specs.model.Falls.{AreMarked, machine_left}
 use Rattle.suifvm_run.specs.model.Progress.{StandsAt}

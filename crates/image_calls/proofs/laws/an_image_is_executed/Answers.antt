@@ -1,0 +1,5 @@
+use Rattle.image_calls.proofs.ExecuteImages.{executed, accepted}
+use Rattle.image_calls.proofs.laws.an_image_is_executed.Goals as goal
+
+pub returns : goal.returns
+returns c = record { answers = executed; accepts = accepted }

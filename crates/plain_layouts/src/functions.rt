@@ -1,0 +1,67 @@
+//! Functions over temporaries, one by one.
+
+ghost use Rattle.std.specs.Prelude.{◌≡◌, ◌+◌, ◌<◌, ◌≤◌, ◌^◌, length, unwrap_or, IfOk, IfSome};
+ghost use Rattle.std.specs.List.{position};
+ghost use Rattle.data_object.specs.Layout.{ObjectsLieFrom, data_end};
+ghost use Rattle.temp_ir.specs.Programs as spec;
+ghost use Rattle.allocation_laws.specs.Layouts.{first_label};
+ghost use Rattle.plain_layouts.specs.model.Parts.{CanBeLaidOut, IsPlainLayoutOf};
+
+use alloc_plain::plain;
+use allocation_laws::assemblies::assembly::{lay_out_one, read_numbers};
+use alpha_items::final_fn::FinalFn;
+use data_object::{DataObject, MOST_DATA};
+use std::alloc::{AllocError, Global};
+use suifvm_ir::function::Func;
+use temp_ir::insn::TempInsn;
+
+/// Whether a function is the one where a program begins.
+fn is_main(f: &Func<TempInsn>) -> bool
+    ensures { result ≡ spec.is_main f.now }
+{
+    f.name.as_slice() == b"main".as_slice()
+}
+
+/// The place of the function `main`.
+fn main_place(functions: &[Func<TempInsn>]) -> Option<usize>
+    ensures place { result ≡ position spec.is_main functions.now }
+    ensures within { IfSome result (λ at. at < length functions.now) }
+{
+    functions.iter().position(|f| is_main(f))
+}
+
+/// The number of the function `main`.
+pub(crate) fn main_number(functions: &[Func<TempInsn>]) -> u32
+    requires { length functions.now < 2 ^ 31 }
+    ensures number { result ≡ unwrap_or (position spec.is_main functions.now) 0 }
+    ensures small { result < 2 ^ 31 }
+{
+    match main_place(functions) {
+        Some(number) => number as u32,
+        None => 0,
+    }
+}
+
+/// One of so many functions, with its number and its first label, laid out by its plainest allocation, which is let
+/// go. It fails only where memory is short.
+pub(crate) fn lay_out(
+    alloc: Global,
+    f: &Func<TempInsn>,
+    globals: &[DataObject],
+    functions: u32,
+    number: u32,
+    first: u32,
+) -> Result<FinalFn, AllocError>
+    requires can { CanBeLaidOut functions globals.now f.now }
+    requires number { number < functions }
+    requires first { first_label functions ≤ first }
+    requires labels { first + (length f.now.blocks + 1) < 2 ^ 32 }
+    requires layout { ObjectsLieFrom 0 globals.now }
+    requires data_size { data_end globals.now ≤ MOST_DATA }
+    ensures { IfOk result (IsPlainLayoutOf globals.now number first f.now) }
+{
+    let a = plain(alloc, f)?;
+    read_numbers(&a);
+    let made = lay_out_one(alloc, &a, globals, functions, number, first)?;
+    Ok(made)
+}

@@ -1,0 +1,51 @@
+#!/usr/bin/env python3
+"""Says which names of public types, records and propositions of specs/ stand for two different things.
+
+tools/public_names.py            prints each such name with its files
+tools/public_names.py --check    does so too, and ends with status 1 where there is one
+
+A definition is what stands from its name to the next blank line, without comments. Two equal ones are one thing.
+Definitions under specs/model/ are for proofs alone and do not count, nor do functions, which are read with their
+module.
+"""
+
+import os
+import re
+import sys
+
+TOP = os.path.dirname(os.path.dirname(os.path.abspath(__file__)))
+NAME = re.compile(r"(?:abbrev pub|pub record|pub data) ([A-Z]\w*)")
+
+
+def definitions(file):
+    """The public names of a file of definitions, each with its text."""
+    with open(file, encoding="utf-8") as lines:
+        for part in lines.read().split("\n\n"):
+            text = [line for line in part.split("\n") if not line.startswith("--")]
+            for at, line in enumerate(text):
+                found = NAME.match(line)
+                if found:
+                    yield found[1], " ".join(" ".join(text[at:]).split())
+
+
+def spec_files():
+    """The files of definitions of all crates, but for models."""
+    for crate in sorted(os.listdir(f"{TOP}/crates")):
+        for folder, _, files in os.walk(f"{TOP}/crates/{crate}/specs"):
+            if "/specs/model" not in folder:
+                yield from (f"{folder}/{file}" for file in sorted(files) if file.endswith(".antt"))
+
+
+def main():
+    places = {}
+    for file in spec_files():
+        for name, text in definitions(file):
+            places.setdefault(name, {}).setdefault(text, os.path.relpath(file, TOP))
+    twice = {name: texts for name, texts in places.items() if len(texts) > 1}
+    for name, texts in sorted(twice.items()):
+        print(f"{name}: {', '.join(sorted(set(texts.values())))}")
+    return 1 if twice and "--check" in sys.argv[1:] else 0
+
+
+if __name__ == "__main__":
+    sys.exit(main())
