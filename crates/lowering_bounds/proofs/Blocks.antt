@@ -6,6 +6,8 @@ use Rattle.std.proofs.lemmas.List.Elements.{All-nil, All-cons, All-append, All-p
 use Rattle.std.proofs.lemmas.List.Sums.{sum_by_push, sum_by-append}
 use Rattle.suifvm_ir.specs.declared.types.VmType.TheVariants.{S32}
 use Rattle.suifvm_ir.specs.declared.types.VmType.{VmType}
+use Rattle.suifvm_ir.specs.declared.insn.VmBinaryOp.{VmBinaryOp}
+use Rattle.suifvm_ir.specs.declared.insn.VmBinaryOp.TheVariants as vb
 use Rattle.suifvm_ir.specs.declared.insn.VmBranchOp.{VmBranchOp}
 use Rattle.suifvm_ir.specs.declared.insn.TypedRegister.{TypedRegister}
 use Rattle.suifvm_ir.specs.declared.insn.VmBranchOp.TheVariants.{IfTrue}
@@ -14,7 +16,7 @@ use Rattle.suifvm_ir.specs.declared.insn.VmInsn.TheVariants as n
 use Rattle.suifvm_ir.specs.Insns.{targets_of, flows_on_of}
 use Rattle.suifvm_ir.specs.Functions.{AllInsns, last_of, successors_after, successors_of, edge_count, count_of}
 use Rattle.suifvm_ir.specs.Programs.{weight_of}
-use Rattle.suifvm_ir.specs.Cost.{insn_cost}
+use Rattle.suifvm_ir.specs.Cost.{most_binary_insns, insn_cost}
 use Rattle.lowering_code.specs.declared.item.CodeItem.{CodeItem}
 use Rattle.lowering_code.specs.declared.item.CodeItem.TheVariants.{Start, Plain, Jump, Branch, Loop, Enter, Again, Repeat, Return}
 use Rattle.lowering_code.specs.Items.{count}
@@ -181,6 +183,16 @@ costs_loop k l h = record {
   straight = All-push Straight l.insns n.Mark h.straight (refl, refl);
 }
 
+some_insns : (op : VmBinaryOp) → 1 ≤ most_binary_insns op
+some_insns vb.Add = omega arith
+some_insns vb.Subtract = omega arith
+some_insns vb.Multiply = omega arith
+some_insns vb.Divide = omega arith
+some_insns vb.Remainder = omega arith
+some_insns vb.And = omega arith
+some_insns vb.Or = omega arith
+some_insns vb.ExclusiveOr = omega arith
+
 -- what counts for an instruction is paid
 paid : (i : vm.VmInsn) → 24 * (1 + weight_of i) ≤ plain_cost i
 paid (n.LoadConstant ty r w) = omega arith
@@ -189,7 +201,7 @@ paid (n.Load ty r p w) = omega arith
 paid (n.Store ty p w r) = omega arith
 paid (n.Copy t f s a) = omega arith
 paid (n.Unary op ty r s) = omega arith
-paid (n.Binary op ty r s t) = omega arith
+paid (n.Binary op ty r s t) = omega (arith, some_insns op)
 paid (n.Shift op ty r s t) = omega arith
 paid (n.Convert f ty r s) = omega arith
 paid (n.Compare op ty r s t) = omega arith

@@ -287,8 +287,8 @@ module _ (most : ℕ) (fs : List VmFunction) (c : Context) (structs : All (IsLaw
     where
       by : (r : Option ℕ) → register_of x ≡ r
           → Spends (1 + w) rest (code.change_code L c.structs c.locals r (λ q. code.step_register_code L c.structs op postfix d ty q rest) (placed d x (code.step_memory_code L c.structs op postfix d (plus x) ty rest)))
-      by (Some r) is = only 600 (1 + w) rest _ (omega (arith, some)) (m.step_register_emits most fs c.globals os L c.structs op postfix d ty r rest h (omega (arith, place_register x r is, h)))
-      by None is = behind 960 w rest _ _ (omega arith) (ex is _) (m.step_memory_emits most fs c.globals os L c.structs op postfix d (plus x) ty rest h)
+      by (Some r) is = only 616 (1 + w) rest _ (omega (arith, some)) (m.step_register_emits most fs c.globals os L c.structs op postfix d ty r rest h (omega (arith, place_register x r is, h)))
+      by None is = behind 976 w rest _ _ (omega arith) (ex is _) (m.step_memory_emits most fs c.globals os L c.structs op postfix d (plus x) ty rest h)
 
   abbrev bytes_of : PlainType → ℕ
   bytes_of ty = m.struct_bytes most fs c.globals os L c.structs ty
@@ -330,9 +330,9 @@ module _ (most : ℕ) (fs : List VmFunction) (c : Context) (structs : All (IsLaw
           (behind 24 w rest _ _ (omega arith) (low _) (m.move_emits most fs c.globals os ty _ _ rest (omega (arith, place_register x r is, h)) (m.value_there most fs c.globals os L d ty (omega (arith, h)))))
       by (Some o) (Some r) pay is =
           more (1 + w) (1 + (paid + (v + w))) rest _ (omega arith)
-          (behind 432 w rest _ _ (omega arith) (high _)
-          (m.joins most fs c.globals os 24 408 rest _ _ (m.move_emits most fs c.globals os ty _ _ _ (m.value_there most fs c.globals os L d ty (omega (arith, h))) (omega (arith, place_register x r is, h)))
-          (m.joins most fs c.globals os 384 24 rest _ _ (m.combine_emits most fs c.globals os L c.structs o d (suc d) (suc (suc d)) ty right _ (omega (arith, h)) (omega (arith, h)) (omega (arith, h)))
+          (behind 448 w rest _ _ (omega arith) (high _)
+          (m.joins most fs c.globals os 24 424 rest _ _ (m.move_emits most fs c.globals os ty _ _ _ (m.value_there most fs c.globals os L d ty (omega (arith, h))) (omega (arith, place_register x r is, h)))
+          (m.joins most fs c.globals os 400 24 rest _ _ (m.combine_emits most fs c.globals os L c.structs o d (suc d) (suc (suc d)) ty right _ (omega (arith, h)) (omega (arith, h)) (omega (arith, h)))
           (m.move_emits most fs c.globals os ty _ _ rest (omega (arith, place_register x r is, h)) (m.value_there most fs c.globals os L d ty (omega (arith, h)))))))
       by None None pay is =
           let set : List CodeItem = code.set_memory_code L c.structs d (plus x) ty rest in
@@ -350,7 +350,7 @@ module _ (most : ℕ) (fs : List VmFunction) (c : Context) (structs : All (IsLaw
           }
       by (Some o) None pay is =
           more (1 + (v + w)) (1 + (paid + (v + w))) rest _ (omega arith)
-          (behind_two 792 v w rest _ _ _ (omega arith) (ex is _) (high _) (m.combine_memory_emits most fs c.globals os L c.structs o d (plus x) ty right rest (omega (arith, h))))
+          (behind_two 808 v w rest _ _ _ (omega arith) (ex is _) (high _) (m.combine_memory_emits most fs c.globals os L c.structs o d (plus x) ty right rest (omega (arith, h))))
 
   -- ---- conversions
 
@@ -373,7 +373,7 @@ module _ (most : ℕ) (fs : List VmFunction) (c : Context) (structs : All (IsLaw
 
   infix_spends : (op : BinaryOp) (d : ℕ) (ty : PlainType) (x y : Expr) → ((is : List CodeItem) → Spends (W x) is (xcode d x is)) → ((is : List CodeItem) → Spends (W y) is (xcode (suc d) y is))
       → (rest : List CodeItem) → Has d 3 → Spends (1 + (W x + W y)) rest (xcode d x (xcode (suc d) y (code.binary_code L c.structs op d ty (type_of x) (type_of y) rest)))
-  infix_spends op d ty x y ex ey rest h = behind_two 496 (W x) (W y) rest _ _ _ (omega arith) (ex _) (ey _) (m.binary_emits most fs c.globals os L c.structs op d ty (type_of x) (type_of y) rest h)
+  infix_spends op d ty x y ex ey rest h = behind_two 592 (W x) (W y) rest _ _ _ (omega arith) (ex _) (ey _) (m.binary_emits most fs c.globals os L c.structs op d ty (type_of x) (type_of y) rest h)
 
   commas_paid : (j w : ℕ) (rest is : List CodeItem) → 0 < j → SpendsAll j w rest is → Spends (j - 1 + w) rest is
   commas_paid j w rest is some a = record { fits = a.fits; cost = omega (arith, some, a.cost); some = omega (arith, some, a.each); wide = λ n h. a.wide n (omega (arith, h)) }
@@ -432,7 +432,7 @@ module _ (most : ℕ) (fs : List VmFunction) (c : Context) (structs : All (IsLaw
         let o = unary_parts ty u.Decrement x t in
         changed_spends s.Decrement false d ty x (W x) (positive c x o.1) (λ none is. place_spends d x 0 is o.1 (place_memory c lawful x o.1 (step_place ty x o.0) none) (omega arith) (omega (arith, h))) rest (omega (arith, h))
     expr_spends d (Unary ty u.Not x) rest t h =
-        behind 192 (W x) rest _ _ (omega arith) (expr_spends d x _ ((unary_parts ty u.Not x t).1) (omega (arith, h))) (m.not_emits most fs c.globals os L d ty (type_of x) rest (omega (arith, h)))
+        behind 240 (W x) rest _ _ (omega arith) (expr_spends d x _ ((unary_parts ty u.Not x t).1) (omega (arith, h))) (m.not_emits most fs c.globals os L d ty (type_of x) rest (omega (arith, h)))
     expr_spends d (Unary ty u.Plus x) rest t h = more (W x) (1 + W x) rest _ (omega arith) (expr_spends d x rest ((unary_parts ty u.Plus x t).1) (omega (arith, h)))
     expr_spends d (Unary ty u.Minus x) rest t h =
         behind 24 (W x) rest _ _ (omega arith) (expr_spends d x _ ((unary_parts ty u.Minus x t).1) (omega (arith, h))) (m.unary_emits most fs c.globals os L Negate d ty rest (omega (arith, h)))

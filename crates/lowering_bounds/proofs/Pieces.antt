@@ -17,7 +17,7 @@ use Rattle.suifvm_ir.specs.declared.insn.VmBranchOp.{VmBranchOp}
 use Rattle.suifvm_ir.specs.declared.insn.VmUnaryOp as vu
 use Rattle.suifvm_ir.specs.declared.insn.VmBinaryOp as vq
 use Rattle.suifvm_ir.specs.declared.insn.VmBinaryOp.TheVariants as vb
-use Rattle.suifvm_ir.specs.Cost.{most_binary_calls}
+use Rattle.suifvm_ir.specs.Cost.{most_binary_insns, most_binary_calls}
 use Rattle.suifvm_ir.specs.declared.insn.VmObject.{VmObject}
 use Rattle.suifvm_ir.specs.declared.insn.TypedRegister.{TypedRegister}
 use Rattle.suifvm_ir.specs.declared.insn.VmInsn as vm
@@ -106,22 +106,22 @@ module _ (most : ℕ) (fs : List VmFunction) (gs : List DataObject) (os : List M
   pub copy_emits : (ds : List StructDef) (to from : ℕ) (ty : PlainType) (rest : List CodeItem) → to < most → from < most → IsTrue (code.stride ds ty % alignment_bytes (code.alignment_of (align_of ds ty)) == 0) → Emits (24 + 96 * code.stride ds ty) rest (code.copy_code ds to from ty rest)
   copy_emits ds to from ty rest a b w = plain (24 + 96 * code.stride ds ty) _ rest (omega arith) w (omega (arith, a, b)) refl
 
-  one_call : (op : vq.VmBinaryOp) → most_binary_calls op ≤ 1
-  one_call vb.Add = omega arith
-  one_call vb.Subtract = omega arith
-  one_call vb.Multiply = omega arith
-  one_call vb.Divide = omega arith
-  one_call vb.Remainder = omega arith
-  one_call vb.And = omega arith
-  one_call vb.Or = omega arith
-  one_call vb.ExclusiveOr = omega arith
+  operator_cost : (op : vq.VmBinaryOp) → 24 * most_binary_insns op + 160 * most_binary_calls op ≤ 352
+  operator_cost vb.Add = omega arith
+  operator_cost vb.Subtract = omega arith
+  operator_cost vb.Multiply = omega arith
+  operator_cost vb.Divide = omega arith
+  operator_cost vb.Remainder = omega arith
+  operator_cost vb.And = omega arith
+  operator_cost vb.Or = omega arith
+  operator_cost vb.ExclusiveOr = omega arith
 
   pub operation_emits : (op : RegisterOperation) (ty : VmType) (to left right : ℕ) (rest : List CodeItem) → to < most → left < most → right < most
-      → Emits 256 rest (Plain (code.operation_insn op ty to left right) ∷ rest)
-  operation_emits (Calculates op) ty to left right rest a b c = plain 256 _ rest (omega (arith, one_call op)) refl (omega (arith, a, b, c)) refl
-  operation_emits (Shifts op) ty to left right rest a b c = plain 256 _ rest (omega arith) refl (omega (arith, a, b, c)) refl
-  operation_emits (Compares op) ty to left right rest a b c = plain 256 _ rest (omega arith) refl (omega (arith, a, b, c)) refl
-  operation_emits (ComparesBack op) ty to left right rest a b c = plain 256 _ rest (omega arith) refl (omega (arith, a, b, c)) refl
+      → Emits 352 rest (Plain (code.operation_insn op ty to left right) ∷ rest)
+  operation_emits (Calculates op) ty to left right rest a b c = plain 352 _ rest (omega (arith, operator_cost op)) refl (omega (arith, a, b, c)) refl
+  operation_emits (Shifts op) ty to left right rest a b c = plain 352 _ rest (omega arith) refl (omega (arith, a, b, c)) refl
+  operation_emits (Compares op) ty to left right rest a b c = plain 352 _ rest (omega arith) refl (omega (arith, a, b, c)) refl
+  operation_emits (ComparesBack op) ty to left right rest a b c = plain 352 _ rest (omega arith) refl (omega (arith, a, b, c)) refl
 
   module _ (locals : ℕ) where
     pub value_there : (d : ℕ) (ty : PlainType) → Has locals d 1 → value_register locals d ty < most
@@ -165,14 +165,14 @@ module _ (most : ℕ) (fs : List VmFunction) (gs : List DataObject) (os : List M
             joins 144 96 rest _ _ (plain 144 _ _ (omega arith) refl (omega (arith, bytes_there free k)) refl)
             (plain 96 _ rest (omega arith) refl (omega (arith, bytes_there d h, bytes_there free k)) refl)
 
-    pub divided_emits : (d free size : ℕ) (rest : List CodeItem) → Has locals d 1 → Has locals free 1 → Emits 400 rest (code.divided_code locals d free size rest)
+    pub divided_emits : (d free size : ℕ) (rest : List CodeItem) → Has locals d 1 → Has locals free 1 → Emits 496 rest (code.divided_code locals d free size rest)
     divided_emits d free size rest h k = by (size == 1)
       where
-        by : (one : Bool) → Emits 400 rest (if one then rest else Plain (n.LoadConstant S64 (bytes_register locals free) size) ∷ Plain (n.Binary vb.Divide S64 (bytes_register locals d) (bytes_register locals d) (bytes_register locals free)) ∷ rest)
-        by true = at_most 0 400 rest rest (omega arith) (none rest)
+        by : (one : Bool) → Emits 496 rest (if one then rest else Plain (n.LoadConstant S64 (bytes_register locals free) size) ∷ Plain (n.Binary vb.Divide S64 (bytes_register locals d) (bytes_register locals d) (bytes_register locals free)) ∷ rest)
+        by true = at_most 0 496 rest rest (omega arith) (none rest)
         by false =
-            joins 144 256 rest _ _ (plain 144 _ _ (omega arith) refl (omega (arith, bytes_there free k)) refl)
-            (plain 256 _ rest (omega arith) refl (omega (arith, bytes_there d h, bytes_there free k)) refl)
+            joins 144 352 rest _ _ (plain 144 _ _ (omega arith) refl (omega (arith, bytes_there free k)) refl)
+            (plain 352 _ rest (omega arith) refl (omega (arith, bytes_there d h, bytes_there free k)) refl)
 
     pub scaled_emits : (d free : ℕ) (ty : PlainType) (size : ℕ) (rest : List CodeItem) → Has locals d 1 → Has locals free 1 → Emits 264 rest (code.scaled_code locals d free ty size rest)
     scaled_emits d free ty size rest h k = joins 24 240 rest _ _ (convert_emits d ty (Int 8 true) _ h) (sized_emits d free size rest h k)
@@ -183,26 +183,26 @@ module _ (most : ℕ) (fs : List VmFunction) (gs : List DataObject) (os : List M
     pub unary_emits : (op : vu.VmUnaryOp) (d : ℕ) (ty : PlainType) (rest : List CodeItem) → Has locals d 1 → Emits 24 rest (code.unary_code locals op d ty rest)
     unary_emits op d ty rest h = plain 24 _ rest (omega arith) refl (omega (arith, value_there d ty h)) refl
 
-    pub not_emits : (d : ℕ) (ty operand : PlainType) (rest : List CodeItem) → Has locals d 2 → Emits 192 rest (code.not_code locals d ty operand rest)
+    pub not_emits : (d : ℕ) (ty operand : PlainType) (rest : List CodeItem) → Has locals d 2 → Emits 240 rest (code.not_code locals d ty operand rest)
     not_emits d ty operand rest h =
-        joins 144 48 rest _ _ (constant_emits (suc d) operand 0 _ (omega (arith, h)))
-        (plain 48 _ rest (omega arith) refl (omega (arith, value_there d ty (omega (arith, h)), value_there d operand (omega (arith, h)), value_there (suc d) operand (omega (arith, h)))) refl)
+        joins 144 96 rest _ _ (constant_emits (suc d) operand 0 _ (omega (arith, h)))
+        (plain 96 _ rest (omega arith) refl (omega (arith, value_there d ty (omega (arith, h)), value_there d operand (omega (arith, h)), value_there (suc d) operand (omega (arith, h)))) refl)
 
     pub branch_emits : (op : VmBranchOp) (d : ℕ) (ty : PlainType) (name : ℕ) (rest : List CodeItem) → Has locals d 1 → Emits 1096 rest (code.branch_code locals op d ty name rest)
     branch_emits op d ty name rest h = branch op _ _ name rest (value_there d ty h)
 
     -- ---- operators
 
-    pub integers_emits : (op : BinaryOp) (d : ℕ) (ty left right : PlainType) (rest : List CodeItem) → Has locals d 2 → Emits 256 rest (code.integers_code locals op d ty left right rest)
+    pub integers_emits : (op : BinaryOp) (d : ℕ) (ty left right : PlainType) (rest : List CodeItem) → Has locals d 2 → Emits 352 rest (code.integers_code locals op d ty left right rest)
     integers_emits op d ty left right rest h =
         operation_emits (code.operation_of op (code.is_signed_type left)) (register_type left) _ _ _ rest
         (value_there d ty (omega (arith, h))) (value_there d left (omega (arith, h))) (value_there (suc d) right (omega (arith, h)))
 
     pub combine_in_emits : (op : BinaryOp) (t : IntegerType) (o d : ℕ) (left ty : PlainType) (rest : List CodeItem) → Has locals o 1 → Has locals d 1
-        → Emits 304 rest (code.combine_in locals op t o d left ty rest)
+        → Emits 400 rest (code.combine_in locals op t o d left ty rest)
     combine_in_emits op t o d left ty rest h k =
-        joins 24 280 rest _ _ (convert_emits o left (code.plain_of t) _ h)
-        (joins 256 24 rest _ _ (operation_emits (code.operation_of op (is_signed t)) (register_type (code.plain_of t)) _ _ _ _ (value_there o (code.plain_of t) h) (value_there o (code.plain_of t) h) (value_there d ty k))
+        joins 24 376 rest _ _ (convert_emits o left (code.plain_of t) _ h)
+        (joins 352 24 rest _ _ (operation_emits (code.operation_of op (is_signed t)) (register_type (code.plain_of t)) _ _ _ _ (value_there o (code.plain_of t) h) (value_there o (code.plain_of t) h) (value_there d ty k))
         (convert_emits o (code.plain_of t) left rest h))
 
     pub integer_emits : (d : ℕ) (from to : PlainType) (rest : List CodeItem) → Has locals d 1 → Emits 24 rest (code.integer_code locals d from to rest)
@@ -260,12 +260,12 @@ module _ (most : ℕ) (fs : List VmFunction) (gs : List DataObject) (os : List M
           (add_emits _ _ _ rest (address_there d (omega (arith, h))) (address_there (suc d) (omega (arith, h))) (bytes_there d (omega (arith, h))))
 
       pub combine_emits : (op : BinaryOp) (o d free : ℕ) (left ty : PlainType) (rest : List CodeItem) → Has locals o 1 → Has locals d 1 → Has locals free 1
-          → Emits 384 rest (code.combine_code locals ds op o d free left ty rest)
+          → Emits 400 rest (code.combine_code locals ds op o d free left ty rest)
       combine_emits op o d free left ty rest h k f = by (code.element_of left)
         where
-          by : (target : Option PlainType) → Emits 384 rest (code.combine_by locals ds op o d free left ty target rest)
-          by (Some element) = step_emits op o d free element ty rest h k f
-          by None = at_most 304 384 rest _ (omega arith) (combine_in_emits op (operation_type op (integer_of left) (integer_of ty)) o d left ty rest h k)
+          by : (target : Option PlainType) → Emits 400 rest (code.combine_by locals ds op o d free left ty target rest)
+          by (Some element) = at_most 384 400 rest _ (omega arith) (step_emits op o d free element ty rest h k f)
+          by None = combine_in_emits op (operation_type op (integer_of left) (integer_of ty)) o d left ty rest h k
 
       pub element_emits : (d : ℕ) (left right : PlainType) (rest : List CodeItem) → Has locals d 3 → Emits 384 rest (code.element_code locals ds d left right rest)
       element_emits d left right rest h = by (code.element_of left) (code.element_of right)
@@ -276,14 +276,14 @@ module _ (most : ℕ) (fs : List VmFunction) (gs : List DataObject) (os : List M
           by None None = at_most 0 384 rest rest (omega arith) (none rest)
 
       abbrev compared : (op : BinaryOp) (d : ℕ) (ty : PlainType) (rest : List CodeItem) → Has locals d 2
-          → Emits 496 rest (Plain (code.operation_insn (code.operation_of op false) P64 (value_register locals d ty) (address_register locals d) (address_register locals (suc d))) ∷ rest)
+          → Emits 592 rest (Plain (code.operation_insn (code.operation_of op false) P64 (value_register locals d ty) (address_register locals d) (address_register locals (suc d))) ∷ rest)
       compared op d ty rest h =
-          at_most 256 496 rest _ (omega arith) (operation_emits (code.operation_of op false) P64 _ _ _ rest (value_there d ty (omega (arith, h))) (address_there d (omega (arith, h))) (address_there (suc d) (omega (arith, h))))
+          at_most 352 592 rest _ (omega arith) (operation_emits (code.operation_of op false) P64 _ _ _ rest (value_there d ty (omega (arith, h))) (address_there d (omega (arith, h))) (address_there (suc d) (omega (arith, h))))
 
       pub pointers_emits : (op : BinaryOp) (d : ℕ) (ty element : PlainType) (rest : List CodeItem) → Has locals d 2
-          → Emits 496 rest (code.pointers_code locals ds op d ty element rest)
+          → Emits 592 rest (code.pointers_code locals ds op d ty element rest)
       pointers_emits b.Subtract d ty element rest h =
-          joins 96 400 rest _ _ (plain 96 _ _ (omega arith) refl (omega (arith, bytes_there d (omega (arith, h)), address_there d (omega (arith, h)), address_there (suc d) (omega (arith, h)))) refl)
+          joins 96 496 rest _ _ (plain 96 _ _ (omega arith) refl (omega (arith, bytes_there d (omega (arith, h)), address_there d (omega (arith, h)), address_there (suc d) (omega (arith, h)))) refl)
           (divided_emits d (suc d) (code.stride ds element) rest (omega (arith, h)) (omega (arith, h)))
       pointers_emits b.LogicalOr d ty element rest h = compared b.LogicalOr d ty rest h
       pointers_emits b.LogicalAnd d ty element rest h = compared b.LogicalAnd d ty rest h
@@ -303,45 +303,45 @@ module _ (most : ℕ) (fs : List VmFunction) (gs : List DataObject) (os : List M
       pointers_emits b.Divide d ty element rest h = compared b.Divide d ty rest h
       pointers_emits b.Remainder d ty element rest h = compared b.Remainder d ty rest h
 
-      pub binary_emits : (op : BinaryOp) (d : ℕ) (ty left right : PlainType) (rest : List CodeItem) → Has locals d 3 → Emits 496 rest (code.binary_code locals ds op d ty left right rest)
+      pub binary_emits : (op : BinaryOp) (d : ℕ) (ty left right : PlainType) (rest : List CodeItem) → Has locals d 3 → Emits 592 rest (code.binary_code locals ds op d ty left right rest)
       binary_emits op d ty left right rest h = by (code.element_of left) (code.element_of right)
         where
-          by : (target other : Option PlainType) → Emits 496 rest (code.binary_by locals ds op d ty left right target other rest)
-          by (Some element) (Some other) = at_most 496 496 rest _ (omega arith) (pointers_emits op d ty element rest (omega (arith, h)))
-          by (Some element) None = at_most 384 496 rest _ (omega arith) (step_emits op d (suc d) (suc (suc d)) element right rest (omega (arith, h)) (omega (arith, h)) (omega (arith, h)))
-          by None (Some element) = at_most 360 496 rest _ (omega arith) (step_back_emits d (suc (suc d)) element left rest (omega (arith, h)) (omega (arith, h)))
-          by None None = at_most 256 496 rest _ (omega arith) (integers_emits op d ty left right rest (omega (arith, h)))
+          by : (target other : Option PlainType) → Emits 592 rest (code.binary_by locals ds op d ty left right target other rest)
+          by (Some element) (Some other) = pointers_emits op d ty element rest (omega (arith, h))
+          by (Some element) None = at_most 384 592 rest _ (omega arith) (step_emits op d (suc d) (suc (suc d)) element right rest (omega (arith, h)) (omega (arith, h)) (omega (arith, h)))
+          by None (Some element) = at_most 360 592 rest _ (omega arith) (step_back_emits d (suc (suc d)) element left rest (omega (arith, h)) (omega (arith, h)))
+          by None None = at_most 352 592 rest _ (omega arith) (integers_emits op d ty left right rest (omega (arith, h)))
 
       -- ---- changes of places
 
-      pub stepped_emits : (op : StepOp) (o : ℕ) (ty : PlainType) (rest : List CodeItem) → Has locals o 3 → Emits 528 rest (code.stepped_code locals ds op o ty rest)
+      pub stepped_emits : (op : StepOp) (o : ℕ) (ty : PlainType) (rest : List CodeItem) → Has locals o 3 → Emits 544 rest (code.stepped_code locals ds op o ty rest)
       stepped_emits op o ty rest h =
-          joins 144 384 rest _ _ (constant_emits (suc o) (one_type ty) 1 _ (omega (arith, h)))
+          joins 144 400 rest _ _ (constant_emits (suc o) (one_type ty) 1 _ (omega (arith, h)))
           (combine_emits (step_operator op) o (suc o) (suc (suc o)) ty (one_type ty) rest (omega (arith, h)) (omega (arith, h)) (omega (arith, h)))
 
       pub step_register_emits : (op : StepOp) (postfix : Bool) (d : ℕ) (ty : PlainType) (k : ℕ) (rest : List CodeItem) → Has locals d 5 → k < most
-          → Emits 600 rest (code.step_register_code locals ds op postfix d ty k rest)
+          → Emits 616 rest (code.step_register_code locals ds op postfix d ty k rest)
       step_register_emits op false d ty k rest h small =
-          at_most 576 600 rest _ (omega arith)
-          (joins 24 552 rest _ _ (move_emits ty _ _ _ (value_there d ty (omega (arith, h))) small)
-          (joins 528 24 rest _ _ (stepped_emits op d ty _ (omega (arith, h))) (move_emits ty _ _ rest small (value_there d ty (omega (arith, h))))))
+          at_most 592 616 rest _ (omega arith)
+          (joins 24 568 rest _ _ (move_emits ty _ _ _ (value_there d ty (omega (arith, h))) small)
+          (joins 544 24 rest _ _ (stepped_emits op d ty _ (omega (arith, h))) (move_emits ty _ _ rest small (value_there d ty (omega (arith, h))))))
       step_register_emits op true d ty k rest h small =
-          joins 24 576 rest _ _ (move_emits ty _ _ _ (value_there d ty (omega (arith, h))) small)
-          (joins 24 552 rest _ _ (move_emits ty _ _ _ (value_there (suc d) ty (omega (arith, h))) (value_there d ty (omega (arith, h))))
-          (joins 528 24 rest _ _ (stepped_emits op (suc d) ty _ (omega (arith, h))) (move_emits ty _ _ rest small (value_there (suc d) ty (omega (arith, h))))))
+          joins 24 592 rest _ _ (move_emits ty _ _ _ (value_there d ty (omega (arith, h))) small)
+          (joins 24 568 rest _ _ (move_emits ty _ _ _ (value_there (suc d) ty (omega (arith, h))) (value_there d ty (omega (arith, h))))
+          (joins 544 24 rest _ _ (stepped_emits op (suc d) ty _ (omega (arith, h))) (move_emits ty _ _ rest small (value_there (suc d) ty (omega (arith, h))))))
 
       pub step_memory_emits : (op : StepOp) (postfix : Bool) (d plus : ℕ) (ty : PlainType) (rest : List CodeItem) → Has locals d 5
-          → Emits 960 rest (code.step_memory_code locals ds op postfix d plus ty rest)
+          → Emits 976 rest (code.step_memory_code locals ds op postfix d plus ty rest)
       step_memory_emits op false d plus ty rest h =
-          at_most 936 960 rest _ (omega arith)
-          (joins 192 744 rest _ _ (load_emits ty _ _ plus _ (value_there (suc d) ty (omega (arith, h))) (address_there d (omega (arith, h))))
-          (joins 528 216 rest _ _ (stepped_emits op (suc d) ty _ (omega (arith, h)))
+          at_most 952 976 rest _ (omega arith)
+          (joins 192 760 rest _ _ (load_emits ty _ _ plus _ (value_there (suc d) ty (omega (arith, h))) (address_there d (omega (arith, h))))
+          (joins 544 216 rest _ _ (stepped_emits op (suc d) ty _ (omega (arith, h)))
           (joins 192 24 rest _ _ (store_emits ty _ plus _ _ (address_there d (omega (arith, h))) (value_there (suc d) ty (omega (arith, h))))
           (move_emits ty _ _ rest (value_there d ty (omega (arith, h))) (value_there (suc d) ty (omega (arith, h)))))))
       step_memory_emits op true d plus ty rest h =
-          joins 192 768 rest _ _ (load_emits ty _ _ plus _ (value_there (suc d) ty (omega (arith, h))) (address_there d (omega (arith, h))))
-          (joins 24 744 rest _ _ (move_emits ty _ _ _ (value_there (suc (suc d)) ty (omega (arith, h))) (value_there (suc d) ty (omega (arith, h))))
-          (joins 528 216 rest _ _ (stepped_emits op (suc (suc d)) ty _ (omega (arith, h)))
+          joins 192 784 rest _ _ (load_emits ty _ _ plus _ (value_there (suc d) ty (omega (arith, h))) (address_there d (omega (arith, h))))
+          (joins 24 760 rest _ _ (move_emits ty _ _ _ (value_there (suc (suc d)) ty (omega (arith, h))) (value_there (suc d) ty (omega (arith, h))))
+          (joins 544 216 rest _ _ (stepped_emits op (suc (suc d)) ty _ (omega (arith, h)))
           (joins 192 24 rest _ _ (store_emits ty _ plus _ _ (address_there d (omega (arith, h))) (value_there (suc (suc d)) ty (omega (arith, h))))
           (move_emits ty _ _ rest (value_there d ty (omega (arith, h))) (value_there (suc d) ty (omega (arith, h)))))))
 
@@ -373,9 +373,9 @@ module _ (most : ℕ) (fs : List VmFunction) (gs : List DataObject) (os : List M
       place_moved_emits (Struct number) d plus rest h = moved_emits d plus rest h
 
       pub combine_memory_emits : (op : BinaryOp) (d plus : ℕ) (left right : PlainType) (rest : List CodeItem) → Has locals d 4
-          → Emits 792 rest (code.combine_memory_code locals ds op d plus left right rest)
+          → Emits 808 rest (code.combine_memory_code locals ds op d plus left right rest)
       combine_memory_emits op d plus left right rest h =
-          joins 192 600 rest _ _ (load_emits left _ _ plus _ (value_there (suc (suc d)) left (omega (arith, h))) (address_there d (omega (arith, h))))
-          (joins 384 216 rest _ _ (combine_emits op (suc (suc d)) (suc d) (suc (suc (suc d))) left right _ (omega (arith, h)) (omega (arith, h)) (omega (arith, h)))
+          joins 192 616 rest _ _ (load_emits left _ _ plus _ (value_there (suc (suc d)) left (omega (arith, h))) (address_there d (omega (arith, h))))
+          (joins 400 216 rest _ _ (combine_emits op (suc (suc d)) (suc d) (suc (suc (suc d))) left right _ (omega (arith, h)) (omega (arith, h)) (omega (arith, h)))
           (joins 192 24 rest _ _ (store_emits left _ plus _ _ (address_there d (omega (arith, h))) (value_there (suc (suc d)) left (omega (arith, h))))
           (move_emits left _ _ rest (value_there d left (omega (arith, h))) (value_there (suc (suc d)) left (omega (arith, h))))))

@@ -219,24 +219,24 @@ module _ (most : ℕ) (fs : List VmFunction) (c : Context) (structs : All (IsLaw
 
   -- ---- labels
 
-  label_emits : (ty : PlainType) (label : TLabel) (name : ℕ) (rest : List CodeItem) → Has 0 2 → E (1288 * label_weight label) rest (code.label_code L c.structs c.locals ty label name rest)
+  label_emits : (ty : PlainType) (label : TLabel) (name : ℕ) (rest : List CodeItem) → Has 0 2 → E (1336 * label_weight label) rest (code.label_code L c.structs c.locals ty label name rest)
   label_emits ty Default name rest h = m.none most fs c.globals os rest
   label_emits ty (Case word) name rest h =
-      m.joins most fs c.globals os 144 1144 rest _ _ (m.constant_emits most fs c.globals os L 1 ty word _ (omega (arith, h)))
-      (m.joins most fs c.globals os 48 1096 rest _ _
-      (m.plain most fs c.globals os 48 (n.Compare Equal (register_type ty) (temporary L 1 S32) (value_register L 0 ty) (value_register L 1 ty)) _ (omega arith) refl
+      m.joins most fs c.globals os 144 1192 rest _ _ (m.constant_emits most fs c.globals os L 1 ty word _ (omega (arith, h)))
+      (m.joins most fs c.globals os 96 1096 rest _ _
+      (m.plain most fs c.globals os 96 (n.Compare Equal (register_type ty) (temporary L 1 S32) (value_register L 0 ty) (value_register L 1 ty)) _ (omega arith) refl
       (omega (arith, m.there most fs c.globals os L 1 S32 (omega (arith, h)), m.value_there most fs c.globals os L 0 ty (omega (arith, h)), m.value_there most fs c.globals os L 1 ty (omega (arith, h)))) refl)
       (m.branch_emits most fs c.globals os L IfTrue 1 (Int 4 true) name rest (omega (arith, h))))
 
   abbrev labels_most : Sections → ℕ
   labels_most no_sections = 0
-  labels_most (more_sections label ss sections) = 1288 * label_weight label + labels_most sections
+  labels_most (more_sections label ss sections) = 1336 * label_weight label + labels_most sections
 
   labels_emits : (ty : PlainType) (brk con : ℕ) (sections : Sections) (behind rest : List CodeItem) → Has 0 2
       → E (labels_most sections) rest (code.labels_code L c.structs c.locals ty (code.targets_of L c.structs c.locals brk con sections behind) rest)
   labels_emits ty brk con no_sections behind rest h = m.none most fs c.globals os rest
   labels_emits ty brk con (more_sections label ss sections) behind rest h =
-      m.joins most fs c.globals os (1288 * label_weight label) (labels_most sections) rest _ _ (label_emits ty label _ _ h) (labels_emits ty brk con sections behind rest h)
+      m.joins most fs c.globals os (1336 * label_weight label) (labels_most sections) rest _ _ (label_emits ty label _ _ h) (labels_emits ty brk con sections behind rest h)
 
   abbrev bodies_most : Sections → ℕ
   bodies_most no_sections = 0

@@ -23,7 +23,7 @@ use Rattle.suifvm_ir.specs.declared.insn.VmInsn.{VmInsn}
 use Rattle.suifvm_ir.specs.declared.insn.VmInsn.TheVariants as x
 use Rattle.suifvm_ir.specs.Functions.{count_of}
 use Rattle.suifvm_ir.specs.Programs.{weight_of}
-use Rattle.suifvm_ir.specs.Cost.{most_insns}
+use Rattle.suifvm_ir.specs.Cost.{most_binary_insns, most_insns}
 use Rattle.temp_ir.specs.declared.operation.Operation.TheVariants.{Addq}
 use Rattle.temp_ir.specs.declared.insn.FirstOperand.TheVariants as source
 use Rattle.temp_ir.specs.declared.insn.SecondOperand.TheVariants as operand
@@ -68,7 +68,7 @@ store_short ty p plus a = by_fit (fits w16 plus)
     by_fit true = omega arith
     by_fit false = omega (arith, length-append (far_items p plus) (near_store ty a 0 (pos 0)), far_short p plus)
 
-binary_short : (op : VmBinaryOp) (ty : VmType) (d a b : ℕ) → length (binary_items op ty d a b) ≤ 4
+binary_short : (op : VmBinaryOp) (ty : VmType) (d a b : ℕ) → length (binary_items op ty d a b) ≤ most_binary_insns op
 binary_short Add ty d a b = omega arith
 binary_short Subtract ty d a b = omega arith
 binary_short Multiply ty d a b = omega arith
@@ -138,7 +138,7 @@ insn_short (x.Load ty d p plus) = omega (arith, load_short ty (temp_of d) (temp_
 insn_short (x.Store ty p plus a) = omega (arith, store_short ty (temp_of p) plus (temp_of a))
 insn_short (x.Copy to from size align) = omega (arith, copies_short (temp_of to) (temp_of from) size align)
 insn_short (x.Unary op ty d a) = omega arith
-insn_short (x.Binary op ty d a b) = omega (arith, binary_short op ty (temp_of d) (temp_of a) (temp_of b))
+insn_short (x.Binary op ty d a b) = binary_short op ty (temp_of d) (temp_of a) (temp_of b)
 insn_short (x.Shift op ty d a b) = omega (arith, shift_short op ty (temp_of d) (temp_of a) (temp_of b))
 insn_short (x.Convert from to d a) = omega arith
 insn_short (x.Compare op ty d a b) = omega (arith, compare_short op ty (temp_of d) (temp_of a) (temp_of b))
@@ -149,6 +149,16 @@ insn_short (x.Return value) = omega (arith, return_short value)
 insn_short x.Mark = omega arith
 insn_short x.Nop = omega arith
 
+few_insns : (op : VmBinaryOp) → most_binary_insns op ≤ 8
+few_insns Add = omega arith
+few_insns Subtract = omega arith
+few_insns Multiply = omega arith
+few_insns Divide = omega arith
+few_insns Remainder = omega arith
+few_insns And = omega arith
+few_insns Or = omega arith
+few_insns ExclusiveOr = omega arith
+
 -- the most that an instruction becomes, by what counts for it
 most_short : (y : VmInsn) → most_insns y ≤ 8 + 4 * weight_of y
 most_short (x.LoadConstant ty d word) = omega arith
@@ -157,7 +167,7 @@ most_short (x.Load ty d p plus) = omega arith
 most_short (x.Store ty p plus a) = omega arith
 most_short (x.Copy to from size align) = omega arith
 most_short (x.Unary op ty d a) = omega arith
-most_short (x.Binary op ty d a b) = omega arith
+most_short (x.Binary op ty d a b) = omega (arith, few_insns op)
 most_short (x.Shift op ty d a b) = omega arith
 most_short (x.Convert from to d a) = omega arith
 most_short (x.Compare op ty d a b) = omega arith

@@ -1,6 +1,6 @@
 -- The cost of a function: a bound on the words that its Alpha code has, as a sum of fixed numbers. Each Alpha
 -- instruction counts 24 words, a call or a division 160 more, and an edge 536 words, since splitting it may add a block
--- of one jump and an edge, each end of which may move values.
+-- of one jump and an edge, each end of which may move values. The numbers leave room for what selection may need.
 use Rattle.std.specs.Prelude.{ℕ, ◌+◌, ◌*◌, List, length, sum_by}
 use Rattle.suifvm_ir.specs.declared.insn.VmBinaryOp.{VmBinaryOp}
 use Rattle.suifvm_ir.specs.declared.insn.VmBinaryOp.TheVariants.{Divide, Remainder}
@@ -10,6 +10,13 @@ use Rattle.suifvm_ir.specs.Insns.{targets_of, flows_on_of}
 use Rattle.suifvm_ir.specs.Functions.{edge_count}
 use Rattle.suifvm_ir.specs.Programs.{VmFunction}
 
+-- the most Alpha instructions that an operator becomes: a division is the call of a routine, with what moves its
+-- operands and its result
+abbrev pub most_binary_insns : VmBinaryOp → ℕ
+most_binary_insns Divide = 8
+most_binary_insns Remainder = 8
+most_binary_insns op = 4
+
 -- the most Alpha instructions that an instruction becomes
 abbrev pub most_insns : VmInsn → ℕ
 most_insns (LoadConstant ty destination word) = 6
@@ -18,10 +25,10 @@ most_insns (Load ty destination pointer plus) = 8
 most_insns (Store ty pointer plus value) = 8
 most_insns (Copy to from size align) = 4 * size
 most_insns (Unary op ty destination source) = 1
-most_insns (Binary op ty destination left right) = 4
+most_insns (Binary op ty destination left right) = most_binary_insns op
 most_insns (Shift op ty destination source count) = 3
 most_insns (Convert from to destination source) = 1
-most_insns (Compare op ty destination left right) = 2
+most_insns (Compare op ty destination left right) = 4
 most_insns (Branch op ty source block) = 1
 most_insns (Jump block) = 1
 most_insns (Call destination callee arguments) = 4 + length arguments
