@@ -369,8 +369,8 @@ def page(kinds, kind):
         out += module_part(kinds, items, finders)
     if shown - beside:
         out += ["## What they are asked with", "",
-                *paragraph("""From other modules: what asks them, for which form, the conditions that are named, and what
-                    those go by.""")]
+                *paragraph("""From other modules: what asks them, for which form, the conditions that are named, and
+                    what those go by.""")]
         for items in by_module(kinds, shown - beside):
             out += module_part(kinds, items)
     rest = {other for item in shown for other in kinds.neighbours[item]} - shown - askers
