@@ -24,7 +24,7 @@ from trusted import BLOCK, TOP, Item, Repository, words_of
 FOLDER = TOP / "docs" / "faults"
 CODE = ("c_type_faults", "faults", "Kind")
 KIND = Item("c_type_faults", "code", "faults", "Kind")
-FAULTS = Item("c_type_faults", "specs", "Faults", "sorted")
+ORDER = ("c_type_faults", "Faults")
 ROOT = Item("c_units", "specs", "Units", "faults_of")
 # types of the code by which a definition hands on what was asked, beside `Bool`, numbers and `Option`
 ANSWERS = {"PriorMeaning", "MemberMeaning", "InitialiserItems", "Jumps", "Labels"}
@@ -203,9 +203,9 @@ class Kinds:
 
     def numbers_of_kinds(self):
         """The number of each kind, as `kind_number` has it: the one reader in the module that orders faults."""
-        readers = [item for item in self.readers if (item.crate, item.module) == (FAULTS.crate, FAULTS.module)]
+        readers = [item for item in self.readers if (item.crate, item.module) == ORDER]
         if len(readers) != 1:
-            raise Found(f"{FAULTS.module} does not number the kinds by one definition")
+            raise Found(f"{ORDER[1]} of {ORDER[0]} does not number the kinds by one definition")
         text = "\n".join(self.definitions[readers[0]].text())
         return {name: int(number) for name, number in re.findall(r"\.(\w+) = (\d+)", text)}
 
@@ -400,7 +400,7 @@ def index(kinds):
         number, found = kinds.numbers[kind], len(kinds.finders[kind])
         out.append(f"| {number} | [{kind}]({kind}.md) | {kinds.words[kind]} | {found} |")
     carriers = [item for item in kinds.carriers & kinds.reached if KIND.name in kinds.definitions[item].arguments()
-                and item not in kinds.readers and (item.crate, item.module) != (FAULTS.crate, FAULTS.module)]
+                and item not in kinds.readers and (item.crate, item.module) != ORDER]
     out += ["", *paragraph("""In the tables of the pages `p2` is the second paragraph of a section of C99. They also say
                 what is a rule of this language alone, because the standard leaves it to the compiler or this language
                 leaves a form out."""),
@@ -416,10 +416,10 @@ def index(kinds):
     for items in by_module(kinds, carriers):
         out += module_part(kinds, items)
     out += ["## Order", "", *paragraph("The numbers of the kinds, and the order of faults.")]
-    file = kinds.repository.specs[FAULTS.crate, FAULTS.module]
-    for items in by_module(kinds, [Item(*FAULTS[:3], name) for name in file.nodes]):
+    names = kinds.repository.specs[ORDER].nodes
+    for items in by_module(kinds, [Item(ORDER[0], "specs", ORDER[1], name) for name in names]):
         out += module_part(kinds, items)
-    other = [item for item in kinds.readers if (item.crate, item.module) != (FAULTS.crate, FAULTS.module)]
+    other = [item for item in kinds.readers if (item.crate, item.module) != ORDER]
     out += further("What else reads the kind of a fault: ", kinds, other)
     return "\n".join(out).rstrip() + "\n"
 
