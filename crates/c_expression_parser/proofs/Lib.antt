@@ -1,5 +1,4 @@
 pub mod Loops
 pub mod Deeper
 pub mod Lexemes
-pub mod Layers
 pub mod Indexes

@@ -1,3 +1,2 @@
 pub mod Answers
-pub mod Shapes
 pub mod model

@@ -10,13 +10,9 @@ mod cursor;
 mod expressions;
 mod parts;
 mod scope;
-mod shapes;
-mod specifier_type;
 mod specifiers;
 
 pub use cursor::{ParseStop, Tokens};
 pub use expressions::{declarator, expr, whole};
 pub use scope::TypedefScope;
-pub use shapes::with_shapes;
-pub use specifier_type::SpecifierType;
 pub use specifiers::{named_type, plain, read_words};

@@ -6,8 +6,8 @@ ghost use Rattle.c_expression_parser.specs.Answers.{Answers};
 
 use crate::cursor::{ParseStop, Tokens};
 use crate::scope::TypedefScope;
-use crate::shapes::{may_be_nameless, takes_name};
 use c_grammar::{Declarator, DeclaredName, Naming};
+use c_parser_types::{may_be_nameless, takes_name};
 use c_tree::{Name, Seq};
 use std::alloc::Global;
 

@@ -8,8 +8,8 @@ ghost use Rattle.c_expression_parser.specs.Answers.{Answers};
 
 use crate::cursor::{ParseStop, Tokens};
 use crate::scope::TypedefScope;
-use crate::specifier_type::SpecifierType;
 use c_grammar::{Specifier, SpecifierStart, WordSet, specifier_of};
+use c_parser_types::SpecifierType;
 use std::alloc::Global;
 
 /// What the words so far spell, or else what stands behind them.

@@ -9,11 +9,10 @@ ghost use Rattle.c_parser.specs.model.Answers.{AnswersIn, AnswersUnit};
 ghost use Rattle.c_parser.specs.model.Parts as parts;
 ghost use Rattle.c_grammar.specs.Units.{external_of, is_function};
 
-use c_expression_parser::{
-    ParseStop, SpecifierType, Tokens, TypedefScope, declarator, expr, with_shapes,
-};
+use c_expression_parser::{ParseStop, Tokens, TypedefScope, declarator, expr};
 use c_grammar::{Declarator, DeclaredName, Naming, Opening, Shape, levels, opening_of};
 use c_lexer::Punct;
+use c_parser_types::{SpecifierType, with_shapes};
 use c_statement_parser::{append, declaration, items, specifier};
 use c_tree::{Box, Declaration, External, FunctionEnd, Init, Seq, Storage};
 use std::alloc::{AllocError, Global};

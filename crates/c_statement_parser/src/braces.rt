@@ -5,11 +5,11 @@ ghost use Rattle.c_grammar.specs.ParseSpecifiers as model;
 ghost use Rattle.c_expression_parser.specs.Answers.{Answers};
 
 use c_expression_parser::{
-    ParseStop, SpecifierType, Tokens, TypedefScope, declarator, expr, named_type, read_words,
-    with_shapes,
+    ParseStop, Tokens, TypedefScope, declarator, expr, named_type, read_words,
 };
 use c_grammar::{Declarator, Naming, Specifier, SpecifierStart, levels};
 use c_lexer::Punct;
+use c_parser_types::{SpecifierType, with_shapes};
 use c_tree::{Box, Constant, Declaration, Name, Seq};
 use std::alloc::{AllocError, Global};
 

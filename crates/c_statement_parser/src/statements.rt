@@ -11,9 +11,10 @@ ghost use Rattle.c_grammar.specs.ParseStatements as model;
 ghost use Rattle.c_expression_parser.specs.Answers.{Answers};
 
 use crate::braces::declaration;
-use c_expression_parser::{ParseStop, SpecifierType, Tokens, TypedefScope, expr, plain, whole};
+use c_expression_parser::{ParseStop, Tokens, TypedefScope, expr, plain, whole};
 use c_grammar::{Head, Naming, head_of, levels};
 use c_lexer::{Keyword, Punct};
+use c_parser_types::SpecifierType;
 use c_tree::{Box, Expr, ForFirst, Label, LocalDeclarator, Section, Seq, Stmt};
 use std::alloc::{AllocError, Global};
 

@@ -1,4 +1,3 @@
-mod Lines
 pub mod Rows
 pub mod Counts
 pub mod Heights

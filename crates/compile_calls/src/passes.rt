@@ -5,7 +5,7 @@ ghost use Rattle.compile_calls.specs.Texts.{text_of_pass};
 
 use crate::allocations::allocations_text;
 use alpha_text::print::print_asm;
-use c_tree::tree_text;
+use c_tree_text::tree_text;
 use cfg_text::graph_text;
 use compile_options::PassName;
 use compiler::Built;

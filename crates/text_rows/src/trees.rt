@@ -3,7 +3,7 @@
 use anyhow::{Context, Result, ensure};
 use c_lexer::TEXT_LIMIT;
 use c_parser::{ParseFault, nest, parse};
-use c_tree::tree_text;
+use c_tree_text::tree_text;
 use row_sheets::escape::unescape;
 use std::alloc::{AllocError, Global};
 
